@@ -1,0 +1,9 @@
+pub mod Worked
+pub mod Calls
+pub mod Sound
+pub mod Listing
+pub mod Steps
+pub mod Order
+pub mod Automata
+pub mod Learns
+pub mod History

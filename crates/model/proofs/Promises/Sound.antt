@@ -1,0 +1,24 @@
+-- Fresh runs stay sound, and any call leaves sound tables nearly sound: what a taken call leaves is read back from the words and lists that it wrote.
+-- Along a fresh run goes the invariant of Laws.Fresh, which is sound in each of its three phases. Assumes nothing.
+use mathlib.Core.Path.{_≡_}
+use mathlib.Core.List.{List, [], _∷_}
+use mathlib.Core.Bool.{true, _&&_}
+use Prim.Native.Nat.{ℕ}
+use Rattle.model.specs.Calls.{Call}
+use Rattle.model.specs.Run.{Lent, meant, afterCall, after}
+use Rattle.model.specs.Promise.{isLentSound, StaysSound, StaysNearlySound}
+use Rattle.model.proofs.Laws.Tests.{true-both}
+use Rattle.model.proofs.Laws.Sounds.{facts-sound}
+use Rattle.model.proofs.Laws.Along.{along-nearly}
+use Rattle.model.proofs.Laws.RunStep.{FreshLent, fresh-sounds, fresh-start, run-after}
+
+pub stays-nearly-sound : StaysNearlySound
+stays-nearly-sound l k e = along-nearly l e k
+
+pub fresh-lent-sound : (l : Lent) (k n : ℕ) → FreshLent l k n → isLentSound l ≡ true
+fresh-lent-sound l k n f = true-both _ _ (true-both _ _ (f .size-fits) (f .lists-fit)) (facts-sound (meant l) (fresh-sounds (meant l) k n (f .tidy) (f .fresh)))
+
+pub stays-sound : StaysSound
+stays-sound ws ns old ks e =
+    let r = run-after (fresh-start ws ns old e) ks in
+    fresh-lent-sound _ (r .taken-now) (r .last-size) (r .fresh)

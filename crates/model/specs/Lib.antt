@@ -1,0 +1,16 @@
+pub mod Limits
+pub mod Base
+pub mod Store
+pub mod Terms
+pub mod Automata
+pub mod Table
+pub mod Sound
+pub mod Listing
+pub mod Steps
+pub mod Facts
+pub mod TableFacts
+pub mod Calls
+pub mod Entry
+pub mod Run
+pub mod Promise
+pub mod Worked

@@ -1,0 +1,43 @@
+// What a host lends and what a call returns. No function stands here: specs/ says what the calls do, proofs/ what is proved of it.
+
+// A row of the record table, a state of the proposal, a member of C: three sequences of numbers that are never mixed (§2.2).
+pub struct Row(pub u16);
+
+pub struct State(pub u16);
+
+pub struct Context(pub u16);
+
+// The run's own lists (§2.2). A count says how much of the array after it is meant; in `hand` and `asked` 0 is none; `accepted` is 0 or 1.
+#[repr(C)]
+pub struct Lists {
+    pub letters: u8,
+    pub counts: [u8; 64],
+    pub used: u16,
+    pub states: u8,
+    pub s: [u16; 32],
+    pub rules: u16,
+    pub t: [u16; 256],
+    pub contexts: u16,
+    pub c: [u16; 289],
+    pub hand: u16,
+    pub asked: u16,
+    pub accepted: u8,
+}
+
+// What looking tells (§3.3): phase 0 proposing, 1 asking, 2 accepted. A refusal has its number and zeros.
+#[repr(C)]
+pub struct Seen {
+    pub number: u8,
+    pub phase: u8,
+    pub row: u16,
+    pub states: u8,
+    pub rules: u16,
+    pub contexts: u16,
+}
+
+// What emitting and loading return (§3.7, §3.8): bytes written, or rules read.
+#[repr(C)]
+pub struct Emitted {
+    pub number: u8,
+    pub size: u32,
+}

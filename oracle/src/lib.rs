@@ -1,0 +1,26 @@
+//! Learning partial deterministic bottom-up tree automata from offered records and
+//! answered questions, over tables that the host lends to each call.
+//!
+//! `docs/SPECIFICATION.md` says what the calls do; this crate is a second, independent
+//! program for it, to compare with and to measure against.
+
+pub mod calls;
+mod hand;
+mod hypothesis;
+mod index;
+pub mod lent;
+pub mod limits;
+pub mod list;
+mod observe;
+mod offer;
+mod roles;
+mod run;
+pub mod script;
+mod sound;
+mod steps;
+mod table;
+pub mod testing;
+
+pub use calls::{accept, answer, emit, look, offer, start};
+pub use lent::{Emitted, Lists, Refusal, Row, Seen, ACCEPTED, ASKING, PROPOSING};
+pub use list::{automaton, load, Automaton, Rule};

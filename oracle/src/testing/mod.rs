@@ -1,0 +1,14 @@
+//! What the tests, the fuzz program and the benchmarks share: teachers, a deliberately
+//! naive second learner, tables from elsewhere, full-size tables.
+
+pub mod big;
+pub mod cases;
+pub mod checked;
+pub mod compare;
+pub mod damage;
+pub mod elsewhere;
+pub mod naive;
+pub mod random;
+pub mod refusals;
+pub mod target;
+pub mod terms;

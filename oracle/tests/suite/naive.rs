@@ -1,0 +1,36 @@
+//! The fast learner against the naive one on small tables of every sort.
+
+use oracle::testing::cases::{damaged_case, elsewhere_case, fresh_case, rubbish_case, Met};
+use oracle::testing::random::Random;
+
+fn cases(seed: u64, count: u64, case: fn(&mut Random, &mut Met)) -> Met {
+    let mut met = Met::default();
+    (0..count).for_each(|number| case(&mut Random::case(seed, number), &mut met));
+    println!("{met:?}");
+    met
+}
+
+#[test]
+fn fresh_runs() {
+    let met = cases(21, 6_000, fresh_case);
+    assert!(met.unsound == 0 && met.calls > 40_000 && met.shortages > 500);
+}
+
+#[test]
+fn tables_from_elsewhere() {
+    let met = cases(22, 20_000, elsewhere_case);
+    assert!(met.unsound > 500 && met.proposing > 2_000 && met.asking > 5_000);
+    assert!(met.in_hand > 3_000 && met.moved > 4_000 && met.accepted > 100);
+    assert!(met.overfull > 100 && met.shortages > 500);
+}
+
+#[test]
+fn damaged_tables() {
+    let met = cases(23, 2_500, damaged_case);
+    assert!(met.unsound > 2_000 && met.proposing > 1_000);
+}
+
+#[test]
+fn rubbish() {
+    cases(24, 20_000, rubbish_case);
+}
