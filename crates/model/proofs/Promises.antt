@@ -7,3 +7,4 @@ pub mod Order
 pub mod Automata
 pub mod Learns
 pub mod History
+pub mod All

@@ -14,3 +14,4 @@ pub mod Entry
 pub mod Run
 pub mod Promise
 pub mod Worked
+pub mod Promised

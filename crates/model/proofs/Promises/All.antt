@@ -1,0 +1,34 @@
+-- Every promise kept, each by the term of its own file. Assumes nothing.
+use Rattle.model.specs.Promised.{Promised}
+use Rattle.model.proofs.Promises.Calls.{refused-untouched, unsound-refused, counts-told, taken-alone}
+use Rattle.model.proofs.Promises.Sound.{stays-sound, stays-nearly-sound}
+use Rattle.model.proofs.Promises.Steps.{search-ends, taken-when-due}
+use Rattle.model.proofs.Promises.Order.{ordered}
+use Rattle.model.proofs.Promises.History.{asked-once, answers-taken, vouched}
+use Rattle.model.proofs.Promises.Automata.{one-automaton}
+use Rattle.model.proofs.Promises.Listing.{list-back}
+use Rattle.model.proofs.Promises.Learns.{grows-each, learns-each}
+use Rattle.model.proofs.Promises.Worked.{runs, premises-hold}
+
+pub promised : Promised
+promised =
+    record {
+      refused-untouched = refused-untouched;
+      unsound-refused = unsound-refused;
+      stays-sound = stays-sound;
+      stays-nearly-sound = stays-nearly-sound;
+      search-ends = search-ends;
+      taken-when-due = taken-when-due;
+      counts-told = counts-told;
+      ordered = ordered;
+      asked-once = asked-once;
+      answers-taken = answers-taken;
+      one-automaton = one-automaton;
+      list-back = list-back;
+      vouched = vouched;
+      grows-each = grows-each;
+      learns-each = learns-each;
+      taken-alone = taken-alone;
+      runs = runs;
+      premises-hold = premises-hold;
+    }

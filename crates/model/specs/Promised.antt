@@ -1,0 +1,27 @@
+-- Every promise at once, in the order of the demands (§7.3): one record, of which proofs/Promises/All.antt has the one value. Assumes nothing.
+use Rattle.model.specs.Promise.{RefusedUntouched, UnsoundRefused, StaysSound, StaysNearlySound, SearchEnds, TakenWhenDue, CountsTold, Ordered, AskedOnce, AnswersTaken, OneAutomaton, ListBack, Vouched, GrowsEach, LearnsEach, TakenAlone}
+use Rattle.model.specs.Worked.{Runs, PremisesHold}
+
+pub record Promised : Type 0 where
+  -- what a call leaves
+  pub refused-untouched : RefusedUntouched
+  pub unsound-refused : UnsoundRefused
+  pub stays-sound : StaysSound
+  pub stays-nearly-sound : StaysNearlySound
+  pub search-ends : SearchEnds
+  pub taken-when-due : TakenWhenDue
+  pub counts-told : CountsTold
+  -- the partial learner
+  pub ordered : Ordered
+  pub asked-once : AskedOnce
+  pub answers-taken : AnswersTaken
+  pub one-automaton : OneAutomaton
+  pub list-back : ListBack
+  pub vouched : Vouched
+  -- whole runs
+  pub grows-each : GrowsEach
+  pub learns-each : LearnsEach
+  pub taken-alone : TakenAlone
+  -- the worked runs
+  pub runs : Runs
+  pub premises-hold : PremisesHold
