@@ -1,47 +1,60 @@
+-- The laws, in reading order: a file leans on those above it.
+
+-- tests and lists
 pub mod Tests
-pub mod Fold
-pub mod Frames
+pub mod Lists
+pub mod Stack
 pub mod Pigeonhole
+-- the store: the one fold, rows found and added, frames filled, ways down
+pub mod Fold
 pub mod Rows
+pub mod Frames
 pub mod Fill
 pub mod Filled
 pub mod Down
+-- records as trees and as lists of symbols, and an automaton's one verdict on them
+pub mod Trees
+pub mod Listed
+pub mod Verdict
+-- the emitted list: blocks, rule bodies, written and read
+pub mod Blocks
+pub mod RuleBodies
+pub mod LeftSides
+pub mod Listing
+pub mod ListRead
+-- the table: the proposal, any automaton that agrees, the search in hand, settling and growing
 pub mod Proposal
+pub mod Proposed
 pub mod Agree
+pub mod Injections
 pub mod Search
 pub mod Held
 pub mod Grow
-pub mod Listed
 pub mod Turn
+pub mod Short
+pub mod Flags
 pub mod Settle
 pub mod Unchanged
+pub mod Order
+-- steps: a record in hand, an offer, an answer, and the invariant of a run from start
 pub mod Advance
 pub mod Offer
 pub mod Answer
-pub mod Fresh
-pub mod AgreeKept
-pub mod Trees
-pub mod Verdict
-pub mod Blocks
-pub mod LeftSides
-pub mod RuleBodies
-pub mod Listing
-pub mod ListRead
-pub mod Short
-pub mod Lent
-pub mod Taken
-pub mod Order
 pub mod Phase
 pub mod Step
-pub mod ReflectRows
+pub mod Faults
+pub mod Fresh
+-- soundness, tested and as facts
 pub mod ReflectLists
+pub mod ReflectRows
 pub mod ReflectTable
 pub mod Sounds
+-- lent words and lists: encoded and read back
+pub mod Lent
+pub mod Taken
 pub mod Took
 pub mod Along
+-- runs: call after call
 pub mod RunStep
-pub mod Proposed
-pub mod Faults
 pub mod AgreeRun
-pub mod Injections
 pub mod History

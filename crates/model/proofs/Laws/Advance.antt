@@ -1,34 +1,36 @@
--- A record in hand is asked about, or put down with something gained.
+-- A record in hand is asked about, or put down with something gained: a transition more, or a context that separates one from its representative.
+-- The search ends in one of three ways; each makes the rows of one filled context, and rows that are added change no answer.
 use mathlib.Core.Path.{_≡_, refl, sym, ap, _∙_}
 use mathlib.Core.Logic.{_≢_, _⊎_, inl, inr}
-use mathlib.Core.Bool.{Bool, true, false, _&&_, _||_, not, cond}
+use mathlib.Core.Bool.{Bool, true, false, not, cond}
 use mathlib.Core.List.{List, [], _∷_, _++_}
-use mathlib.Core.Option.{Option, none, some}
-use Prim.Native.Nat.{ℕ, _+_, _*_, _-_, _≤_, _<_}
+use mathlib.Core.Option.{Option}
+use Prim.Native.Nat.{ℕ, _+_, _-_, _≤_}
 use native.Mathlib.Omega.{arith}
 use borrow.Author.Tests.{leb-true, leb-false}
 use lib.Dec.{leb, eqb}
 use lib.ListN.{List·getD-append, length, getD, length-append}
-use Rattle.model.proofs.Laws.Rows.{fold-ext}
-use Rattle.model.proofs.Laws.Fill.{fill-is}
-use Rattle.model.proofs.Laws.Held.{Blank, answer-ext, record-ext, in-left, in-last}
-use Rattle.model.proofs.Laws.Search.{in-hand-ends, member-in, leads-within}
-use Rattle.model.proofs.Laws.Turn.{With, had, put, put-adds, put-parts, answers-same, with-length}
-use Rattle.model.proofs.Laws.Unchanged.{full-of, rules-same, stored-whole}
-use Rattle.model.proofs.Laws.Settle.{Gains, SettledOk, settled-ok, blank-is, past, blanked-length}
 use Rattle.model.specs.Limits.{mostRules}
-use Rattle.model.specs.Base.{Distinct, In, among, here, later, same}
-use Rattle.model.proofs.Laws.Proposal.{finals-same}
+use Rattle.model.specs.Base.{Distinct, In, among, same}
 use Rattle.model.specs.Store.{filledRow, Spot, Built, Extends, Frame, Store, built, fill, full, used}
-use Rattle.model.specs.Automata.{Rule, isFinal, ledBy, rowState, statesOf}
+use Rattle.model.specs.Automata.{Rule, isFinal, rowState}
 use Rattle.model.specs.Table.{Tables, answersOf, rulesOf, size, tables}
 use Rattle.model.specs.Steps.{withContext, Shortage, ofTransitions, Ended, Search, asks, atDifference, atNewTransition, atUnknown, blanked, opened, putBy, search, searched, short}
 use Rattle.model.specs.Facts.{Leads, Fits, Good, IsRecord}
 use Rattle.model.specs.TableFacts.{SpotAt, Few, Tidy, Core, HandFits, Held, SearchEnd, Whole, ends-different, ends-new, ends-unknown, proposedState, proposedVerdict}
+use Rattle.model.proofs.Laws.Lists.{some-in, in-last, member-in, in-not, distinct-snoc}
+use Rattle.model.proofs.Laws.Rows.{record-ext}
+use Rattle.model.proofs.Laws.Frames.{leads-within}
+use Rattle.model.proofs.Laws.Fill.{fill-is}
+use Rattle.model.proofs.Laws.Verdict.{state-ext}
+use Rattle.model.proofs.Laws.Proposal.{finals-same}
+use Rattle.model.proofs.Laws.Search.{in-hand-ends}
+use Rattle.model.proofs.Laws.Held.{Blank, answer-ext}
+use Rattle.model.proofs.Laws.Turn.{With, had, put, put-adds, put-parts, answers-same, with-length}
 use Rattle.model.proofs.Laws.Short.{fill-full}
-use Rattle.model.proofs.Laws.Settle.{Keeps, keeps-blanked, blank-keeps, ShortOk, short-rows, AskedEnd, opened-end}
-use Rattle.model.proofs.Laws.Held.{distinct-snoc}
-use Rattle.model.proofs.Laws.Search.{in-not}
+use Rattle.model.proofs.Laws.Flags.{core-flags, tidy-flags}
+use Rattle.model.proofs.Laws.Settle.{Gains, SettledOk, settled-ok, blank-is, past, blanked-length, Keeps, keeps-blanked, blank-keeps, ShortOk, short-rows, AskedEnd, opened-end}
+use Rattle.model.proofs.Laws.Unchanged.{full-of, rules-same, stored-whole}
 
 -- T7 is kept where rows were added
 pub hand-ext : (x y : Store) → Good x → Good y → Extends x y → (w w' s t cs : List ℕ) → ((i : ℕ) → getD w' i 0 ≡ getD w i 0) → Blank x w w' → Held x w s t cs → (h : ℕ) → HandFits x w s t cs h → HandFits y w' s t cs h
@@ -39,9 +41,9 @@ hand-ext x y g g' e w w' s t cs p b hd h f =
     rules-same x y e (answersOf x w cs) (answersOf y w' cs) s (λ k a. same k (hd .row k (hd .among k a))) t (λ i a. (hd .row i a .within, same i (hd .row i a))) in
     let st : proposedState y w' s t cs h ≡ proposedState x w s t cs h =
     ap (λ (ds : List Rule). rowState ds y h) rs ∙
-    sym (fold-ext (λ (j a : ℕ) (qs : List (Option ℕ)). ledBy (rulesOf x (answersOf x w cs) s t) a (statesOf qs)) none x y g e h (f .record-row .within)) in
+    sym (state-ext (rulesOf x (answersOf x w cs) s t) x y g e h (f .record-row .within)) in
     record {
-      record-row = record-ext x y g g' e w w' b h (f .record-row);
+      record-row = record-ext x y g e h (f .record-row);
       known = λ z. f .known (sym (p h) ∙ z);
       small = rw (p h) (f .small);
       against-it = ap (proposedVerdict y w' s t cs) st ∙ verdict (proposedState x w s t cs h) ∙ f .against-it ∙ ap (λ (v : ℕ). not (eqb v 2)) (sym (p h));
@@ -75,10 +77,6 @@ pub data HandOk (x : Tables) : Ended → Type 0 where
   hand-rules : length (x .t) ≡ mostRules → HandOk x (short ofTransitions)
   hand-asks : {y : Tables} → AskedEnd x y → Whole y → HandFits (y .store) (y .answers) (y .s) (y .t) (y .c) (y .hand) → 1 ≤ length (x .t) → HandOk x (asks y)
   hand-down : {z : Tables} {e : Ended} → PutDown x z → SettledOk z e → HandOk x e
-
-some-in : {i : ℕ} {ks : List ℕ} → In i ks → 1 ≤ length ks
-some-in here = omega arith
-some-in (later h) = omega arith
 
 with-distinct : {c : ℕ} {cs cs' : List ℕ} → With c cs cs' → Distinct cs → Distinct cs'
 with-distinct (had a) d = d
@@ -121,7 +119,7 @@ module _ (x : Tables) (f : Whole x) (td : Tidy x) (fw : Few x) where
     down-tidy l m =
         let ex = fill-is fs st (k .good) q 0 (k .good .start) c y e .ext in
         let fi = with-first (chosen c (x .c)) (td .some-c) in
-        let wl = with-length (chosen c (x .c)) in
+        let longer = with-length (chosen c (x .c)) in
         record {
           alphabet = rw (ex .counts) (td .alphabet);
           blank = blank-keeps x down k down-keeps (td .blank);
@@ -149,7 +147,7 @@ module _ (x : Tables) (f : Whole x) (td : Tidy x) (fw : Few x) where
 
   new-transition : (h : ℕ) (p : Spot) → HandFits st w (x .s) (x .t) (x .c) h → SpotAt st w (x .s) (x .t) (x .c) h p → (In (p .row) (x .t) → ⊥) → getD w h 0 ≡ 2 →
       HandOk x (searched x (atNewTransition h p))
-  new-transition h p ft o n e = go (leb mostRules (length (x .t))) refl (fill st (p .around) 0) refl
+  new-transition h p fit o n e = go (leb mostRules (length (x .t))) refl (fill st (p .around) 0) refl
     where
       none-of : (ks : List ℕ) → length ks ≡ 0 → (v : ℕ) → In v ks → ⊥
       none-of ks z v a = let u = some-in a in omega arith
@@ -161,16 +159,16 @@ module _ (x : Tables) (f : Whole x) (td : Tidy x) (fw : Few x) where
       go false u (built c y) q =
           let t' = x .t ++ (p .row ∷ []) in
           let b = blank-is st y w (k .counted) (k .first) in
-          let hd = put-adds st w (x .s) (x .t) (x .c) (k .good) (k .held) h p o ft c y q (blanked st y w) b (withContext c (x .c)) (chosen c (x .c)) n e in
-          let cr = down-core (x .t ++ (p .row ∷ [])) y c (p .around) q (o .fits) hd in
+          let hd = put-adds st w (x .s) (x .t) (x .c) (k .good) (k .held) h p o fit c y q (blanked st y w) b (withContext c (x .c)) (chosen c (x .c)) n e in
+          let its-core = down-core (x .t ++ (p .row ∷ [])) y c (p .around) q (o .fits) hd in
           let l = length-append (x .t) (p .row ∷ []) in
-          let fg = few-grown in
+          let few-contexts = few-grown in
           let lt = leb-false mostRules (length (x .t)) u in
-          let ti = down-tidy (x .t ++ (p .row ∷ [])) y c (p .around) q (o .fits) (omega arith) (omega arith) in
+          let its-tidy = down-tidy (x .t ++ (p .row ∷ [])) y c (p .around) q (o .fits) (omega arith) (omega arith) in
           hand-down
           (record {
-            core = cr;
-            tidy = ti;
+            core = its-core;
+            tidy = its-tidy;
             keeps = down-keeps (x .t ++ (p .row ∷ [])) y c (p .around) q (o .fits);
             same-s = refl;
             empty = refl;
@@ -178,34 +176,19 @@ module _ (x : Tables) (f : Whole x) (td : Tidy x) (fw : Few x) where
             gains = λ b u. (omega arith, inl (omega arith));
             gains-first = λ z. (omega arith, inr (p .row, in-last (x .t) (p .row), λ v a. absurd (none-of (x .s) (omega arith) v a)));
           })
-          (settled-ok _ cr ti)
+          (settled-ok _ its-core its-tidy)
 
   unknown-answer : (h : ℕ) (p : Spot) (rep : ℕ) → HandFits st w (x .s) (x .t) (x .c) h → SpotAt st w (x .s) (x .t) (x .c) h p → In (p .row) (x .t) → In rep (x .s) →
       getD w (filledRow st (p .around) rep) 0 ≡ 0 → HandOk x (searched x (atUnknown h p rep))
-  unknown-answer h p rep ft o m n z = go (fill st (p .around) rep) refl
+  unknown-answer h p rep fit o m n z = go (fill st (p .around) rep) refl
     where
-      x0 : Tables
-      x0 = tables st w (x .s) (x .t) (x .c) h 0 false
-
       go : (r : Built) → fill st (p .around) rep ≡ r → HandOk x (opened (tables st w (x .s) (x .t) (x .c) h 0 false) r)
       go full q = hand-short (short-rows (fill-full (p .around) st (k .good) (o .fits) rep (k .held .row rep (k .held .among rep n) .within) q))
       go (built j y) q =
-          let k0 : Core (tables st w (x .s) (x .t) (x .c) h 0 false) = record { good = k .good; counted = k .counted; first = k .first; bound = k .bound; held = k .held } in
-          let td0 : Tidy (tables st w (x .s) (x .t) (x .c) h 0 false) =
-          record {
-            alphabet = td .alphabet;
-            blank = td .blank;
-            few-t = td .few-t;
-            few-s = td .few-s;
-            some-c = td .some-c;
-            hole-first = td .hole-first;
-            one-c = td .one-c;
-            few-c = td .few-c;
-          } in
-          let rr = k .held .row rep (k .held .among rep n) in
-          let a = opened-end (tables st w (x .s) (x .t) (x .c) h 0 false) k0 (p .around) (o .fits) rep rr z j y q td0 in
-          let mm = fill-is (p .around) st (k .good) (o .fits) rep (rr .within) j y q in
-          let wh = stored-whole x f y (mm .good) (mm .ext) h in
+          let rep-record = k .held .row rep (k .held .among rep n) in
+          let a = opened-end (tables st w (x .s) (x .t) (x .c) h 0 false) (core-flags x k h 0 false) (p .around) (o .fits) rep rep-record z j y q (tidy-flags x td h 0 false) in
+          let made = fill-is (p .around) st (k .good) (o .fits) rep (rep-record .within) j y q in
+          let whole-now = stored-whole x f y (made .good) (made .ext) h in
           hand-asks
           (record {
             core = a .core;
@@ -217,29 +200,29 @@ module _ (x : Tables) (f : Whole x) (td : Tidy x) (fw : Few x) where
             same-c = refl;
             running = refl;
           })
-          (record { core = a .core; known = wh .known; shaped = wh .shaped; hole-in = wh .hole-in })
-          (hand-ext st y (k .good) (mm .good) (mm .ext) w (blanked st y w) (x .s) (x .t) (x .c) (past w (used y - used st)) (blank-is st y w (k .counted) (k .first)) (k .held) h ft)
+          (record { core = a .core; known = whole-now .known; shaped = whole-now .shaped; hole-in = whole-now .hole-in })
+          (hand-ext st y (k .good) (made .good) (made .ext) w (blanked st y w) (x .s) (x .t) (x .c) (past w (used y - used st)) (blank-is st y w (k .counted) (k .first)) (k .held) h fit)
           (some-in m)
 
   different-answer : (h : ℕ) (p : Spot) (rep j : ℕ) → HandFits st w (x .s) (x .t) (x .c) h → SpotAt st w (x .s) (x .t) (x .c) h p → In (p .row) (x .t) → In rep (x .s) →
       answersOf st w (x .c) (p .row) ≡ answersOf st w (x .c) rep → Leads st (p .around) rep j → getD w j 0 ≢ 0 → getD w j 0 ≢ getD w h 0 → HandOk x (searched x (atDifference h p rep j))
-  different-answer h p rep j ft o m n e l z d = go (fill st (p .around) 0) refl
+  different-answer h p rep j fit o m n e l z d = go (fill st (p .around) 0) refl
     where
       go : (r : Built) → fill st (p .around) 0 ≡ r → HandOk x (putBy x r)
       go full q = hand-short (short-rows (fill-full (p .around) st (k .good) (o .fits) 0 (k .good .start) q))
       go (built c y) q =
           let b = blank-is st y w (k .counted) (k .first) in
-          let rr = k .held .row rep (k .held .among rep n) in
-          let ju = leads-within st w (x .s) (x .t) (x .c) (full-of x f) (p .around) rep j (rr .within) l in
-          let r = put-parts st w (x .s) (x .t) (x .c) (k .good) (k .held) h p o ft c y q (blanked st y w) b (withContext c (x .c)) (chosen c (x .c)) m rep j n e l ju z d in
-          let cr = down-core (x .t) y c (p .around) q (o .fits) (r .0) in
-          let s1 = some-in m in
-          let fs1 = few-size (omega arith) in
-          let ti = down-tidy (x .t) y c (p .around) q (o .fits) (td .few-t) fs1 in
+          let rep-record = k .held .row rep (k .held .among rep n) in
+          let j-within = leads-within st (p .around) rep j (rep-record .within) l in
+          let r = put-parts st w (x .s) (x .t) (x .c) (k .good) (k .held) h p o fit c y q (blanked st y w) b (withContext c (x .c)) (chosen c (x .c)) m rep j n e l j-within z d in
+          let its-core = down-core (x .t) y c (p .around) q (o .fits) (r .0) in
+          let some-rule = some-in m in
+          let few = few-size (omega arith) in
+          let its-tidy = down-tidy (x .t) y c (p .around) q (o .fits) (td .few-t) few in
           hand-down
           (record {
-            core = cr;
-            tidy = ti;
+            core = its-core;
+            tidy = its-tidy;
             keeps = down-keeps (x .t) y c (p .around) q (o .fits);
             same-s = refl;
             empty = refl;
@@ -247,13 +230,13 @@ module _ (x : Tables) (f : Whole x) (td : Tidy x) (fw : Few x) where
             gains = λ b u. (omega arith, inr (r .1));
             gains-first = λ v. absurd (omega arith);
           })
-          (settled-ok _ cr ti)
+          (settled-ok _ its-core its-tidy)
 
   by-hand : (r : Search) → SearchEnd st w (x .s) (x .t) (x .c) r → HandOk x (searched x r)
-  by-hand (atNewTransition h p) (ends-new ft o n e) = new-transition h p ft o n e
-  by-hand (atUnknown h p rep) (ends-unknown ft o m n e z) = unknown-answer h p rep ft o m n z
-  by-hand (atDifference h p rep j) (ends-different ft o m n e l z d) = different-answer h p rep j ft o m n e l z d
+  by-hand (atNewTransition h p) (ends-new fit o n e) = new-transition h p fit o n e
+  by-hand (atUnknown h p rep) (ends-unknown fit o m n e z) = unknown-answer h p rep fit o m n z
+  by-hand (atDifference h p rep j) (ends-different fit o m n e l z d) = different-answer h p rep j fit o m n e l z d
 
   -- on every full table with a record in hand that the proposal gets wrong
   pub hand-ok : (h : ℕ) → HandFits st w (x .s) (x .t) (x .c) h → HandOk x (searched x (search st w (x .s) (x .t) (x .c) h))
-  hand-ok h ft = by-hand (search st w (x .s) (x .t) (x .c) h) (in-hand-ends st w (x .s) (x .t) (x .c) (full-of x f) h ft)
+  hand-ok h fit = by-hand (search st w (x .s) (x .t) (x .c) h) (in-hand-ends st w (x .s) (x .t) (x .c) (full-of x f) h fit)

@@ -1,37 +1,36 @@
 -- An automaton that agrees with all that taken calls said agrees with every stored answer: a step keeps rows and answers, and a new answer is one that was said.
 -- So at every moment of a fresh run the laws of Laws.Agree hold of it.
 use mathlib.Core.Path.{_≡_, refl, sym, ap, _∙_, subst}
-use mathlib.Core.Logic.{_≢_, _⊎_, inl, inr}
-use mathlib.Core.Bool.{Bool, true, false, _||_, cond, true≢false}
-use mathlib.Core.List.{List, [], _∷_, _++_}
-use mathlib.Core.Option.{Option, none}
+use mathlib.Core.Logic.{_≢_}
+use mathlib.Core.Bool.{Bool, true, false, cond}
+use mathlib.Core.List.{List, [], _∷_}
 use Prim.Native.Nat.{ℕ, zero, suc, _+_, _≤_, _<_}
 use native.Mathlib.Omega.{arith}
 use native.Mathlib.Decide.{ℕ-discrete}
-use lib.Dec.{ltb, eqb}
-use borrow.Author.Tests.{ltb-true, ltb-false, eqb-true, eqb-false}
-use lib.ListN.{length, getD, List·getD-eq-default}
-use Rattle.model.specs.Base.{Each, each-nil, each-cons, anyTrue}
-use Rattle.model.specs.Store.{Store, used, hasHole, Extends}
+use lib.Dec.{eqb}
+use borrow.Author.Tests.{eqb-true}
+use lib.ListN.{getD}
+use Rattle.model.specs.Base.{Each, each-cons}
+use Rattle.model.specs.Store.{Store, hasHole, Extends}
 use Rattle.model.specs.Terms.{Tree, treeAt, treeOf}
-use Rattle.model.specs.Automata.{Rule, Automaton, leads, isFinal, rowState, stateOf, accepts}
-use Rattle.model.specs.Table.{Tables, tables, answerAt}
-use Rattle.model.specs.Facts.{Good, IsRecord}
-use Rattle.model.specs.TableFacts.{Core, Tidy, Agree}
-use Rattle.model.specs.Calls.{Call, offers, answers, accept, looks, emits, started}
-use Rattle.model.specs.Entry.{rowsLent, startNumber}
+use Rattle.model.specs.Automata.{Automaton, isFinal, rowState, accepts}
+use Rattle.model.specs.Table.{Tables, answerAt}
+use Rattle.model.specs.TableFacts.{Core, Agree}
+use Rattle.model.specs.Calls.{Call, offers, answers, accept, looks, emits}
+use Rattle.model.specs.Entry.{startNumber}
 use Rattle.model.specs.Run.{Lent, meant, afterCall, after, startedRun, isTaken, Said, said, saidBy, saidIn, agreesWith}
 use Rattle.model.specs.declared.Lists.{Lists}
-use Rattle.model.proofs.Laws.Rows.{fold-ext}
+use Rattle.model.proofs.Laws.Lists.{each-left, each-right}
+use Rattle.model.proofs.Laws.Rows.{hole-ext}
 use Rattle.model.proofs.Laws.Fill.{ext-trans}
-use Rattle.model.proofs.Laws.Verdict.{state-as-tree}
+use Rattle.model.proofs.Laws.Verdict.{state-as-tree, state-ext}
+use Rattle.model.proofs.Laws.Settle.{Keeps, answered-used}
+use Rattle.model.proofs.Laws.Step.{Marked, mark-small}
 use Rattle.model.proofs.Laws.Lent.{start-back}
-use Rattle.model.proofs.Laws.Settle.{Keeps}
-use Rattle.model.proofs.Laws.Step.{Marked, Left, mark-small}
 use Rattle.model.proofs.Laws.Took.{Took, took-offer, took-answer, took-accept, took-look, took-emit}
-use Rattle.model.proofs.Laws.Along.{Along, along}
-use Rattle.model.proofs.Laws.RunStep.{FreshLent, fresh-sounds, RunStep, still, opens, shows, run-step}
+use Rattle.model.proofs.Laws.Along.{along}
 use Rattle.model.proofs.Laws.Fresh.{core-of}
+use Rattle.model.proofs.Laws.RunStep.{FreshLent, fresh-sounds, RunStep, still, opens, shows, run-step}
 use Rattle.model.proofs.Promises.Calls.{refused-untouched}
 
 -- what a taken call says, of the tables alone
@@ -49,33 +48,17 @@ said-told l accept e g = g
 said-told l looks e g = g
 said-told l (emits r) e g = g
 
-each-left : {P : Said → Type 0} (xs ys : List Said) → Each P (xs ++ ys) → Each P xs
-each-left [] ys g = each-nil
-each-left (x ∷ xs) ys (each-cons p g) = each-cons p (each-left xs ys g)
-
-each-right : {P : Said → Type 0} (xs ys : List Said) → Each P (xs ++ ys) → Each P ys
-each-right [] ys g = g
-each-right (x ∷ xs) ys (each-cons p g) = each-right xs ys g
-
 module _ (d : Automaton) where
   abbrev AgreeOn : Tables → Type 0
   AgreeOn x = Agree (d .rules) (d .finals) (x .store) (x .answers)
-
-  -- a row with an answer is a used one
-  answered-used : (x : Tables) → Core x → (i : ℕ) → answerAt (x .answers) i ≢ 0 → i < used (x .store)
-  answered-used x k i n = go (ltb i (used (x .store))) refl
-    where
-      go : (b : Bool) → ltb i (used (x .store)) ≡ b → i < used (x .store)
-      go true p = ltb-true i (used (x .store)) p
-      go false p = let u = ltb-false i (used (x .store)) p in let l = k .counted in absurd (n (List·getD-eq-default (x .answers) 0 (omega arith)))
 
   -- rows kept under more rows: what was said of an answered row stays said
   says-ext : (x : Tables) → Core x → AgreeOn x → (y : Store) → Extends (x .store) y → (i : ℕ) → 0 < i → hasHole y i ≡ false → answerAt (x .answers) i ≢ 0 →
       isFinal (d .finals) (rowState (d .rules) y i) ≡ eqb (answerAt (x .answers) i) 2
   says-ext x k a y e i z h n =
       let u = answered-used x k i n in
-      let hx = fold-ext (λ (j b : ℕ) (bs : List Bool). eqb j 0 || anyTrue bs) false (x .store) y (k .good) e i u in
-      let sx = fold-ext (λ (j b : ℕ) (qs : List (Option ℕ)). leads (d .rules) b qs) none (x .store) y (k .good) e i u in
+      let hx = hole-ext (x .store) y (k .good) e i u in
+      let sx = state-ext (d .rules) (x .store) y (k .good) e i u in
       ap (isFinal (d .finals)) (sym sx) ∙ a .says i z u (hx ∙ h) n
 
   agree-step : (x z y : Tables) → Core x → (i v : ℕ) → Marked x z i v → Keeps z y → v ≤ 2 → isFinal (d .finals) (rowState (d .rules) (z .store) i) ≡ eqb v 2 → AgreeOn x → AgreeOn y
@@ -92,7 +75,7 @@ module _ (d : Automaton) where
 
       says : (j : ℕ) → 0 < j → hasHole (y .store) j ≡ false → answerAt (y .answers) j ≢ 0 → Dec (j ≡ i) → isFinal (d .finals) (rowState (d .rules) (y .store) j) ≡ eqb (answerAt (y .answers) j) 2
       says j s h n (yes p) =
-          let sx = fold-ext (λ (j b : ℕ) (qs : List (Option ℕ)). leads (d .rules) b qs) none (z .store) (y .store) (m .good) (e .ext) i (m .is-record .within) in
+          let sx = state-ext (d .rules) (z .store) (y .store) (m .good) (e .ext) i (m .is-record .within) in
           ap (λ (c : ℕ). isFinal (d .finals) (rowState (d .rules) (y .store) c)) p ∙ ap (isFinal (d .finals)) (sym sx) ∙ f ∙
           ap (λ (c : ℕ). eqb c 2) (sym (e .answers j ∙ ap (answerAt (z .answers)) p ∙ m .here))
       says j s h n (no p) =

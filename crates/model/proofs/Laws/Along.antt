@@ -1,24 +1,23 @@
 -- One call on sound lent tables: refused, and nothing changed; or taken, and the lent tables mean what the step leaves.
 -- Words and lists are encoded and read back; their sizes fit again because the tables are nearly sound.
 use mathlib.Core.Path.{_≡_, refl, sym, ap, _∙_, subst}
-use mathlib.Core.Logic.{_≢_, _⊎_, inl, inr}
-use mathlib.Core.Bool.{Bool, true, false, _&&_, true≢false}
-use mathlib.Core.List.{List, [], _∷_}
-use Prim.Native.Nat.{ℕ, _+_, _≤_, _<_}
+use mathlib.Core.Logic.{_⊎_}
+use mathlib.Core.Bool.{Bool, true, false, _&&_}
+use Prim.Native.Nat.{_+_}
 use native.Mathlib.Omega.{arith}
 use lib.ListN.{length}
 use Rattle.model.specs.Store.{used}
 use Rattle.model.specs.Table.{Tables, size}
 use Rattle.model.specs.Sound.{isSound, isNearlySound, contextsFew}
 use Rattle.model.specs.Calls.{Call, leaves, faultOf, doneBy}
-use Rattle.model.specs.Entry.{sizeFits, listsFit, rowsLent, wordsOf, listsOf, callBy, startNumber}
-use Rattle.model.specs.Run.{Lent, meant, afterCall, after, startedRun, isTaken}
+use Rattle.model.specs.Entry.{sizeFits, listsFit, listsOf}
+use Rattle.model.specs.Run.{Lent, meant, afterCall, isTaken}
 use Rattle.model.specs.Promise.{isLentSound, NearlySound}
 use Rattle.model.proofs.Laws.Tests.{both-true, true-both}
 use Rattle.model.proofs.Laws.Phase.{Nearly, Sounds}
 use Rattle.model.proofs.Laws.Sounds.{sound-facts, nearly-sound, few-or-one-more}
 use Rattle.model.proofs.Laws.Lent.{good-four, sizeFits-back, rows-within, listsOf-within, listsFit-true}
-use Rattle.model.proofs.Laws.Taken.{Taken, is-taken, CallTaken, leaves-after, meant-after}
+use Rattle.model.proofs.Laws.Taken.{is-taken, leaves-after, meant-after}
 use Rattle.model.proofs.Laws.Took.{Took, took, took-nearly}
 use Rattle.model.proofs.Promises.Calls.{refused-untouched}
 

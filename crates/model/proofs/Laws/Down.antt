@@ -1,20 +1,21 @@
--- Down to a spot: the frames lead back up, and the spot is innermost.
+-- Down to a spot: its frames lead back up, fit, and the spot is innermost; and a context is its frames, to and fro.
+-- Each step goes to the first child with the property, an earlier row; a context has one hole, so its frames are the only ones that lead to it.
 use mathlib.Core.Path.{_≡_, refl, sym, ap, _∙_, subst}
-use mathlib.Core.Logic.{_≢_, _⊎_}
-use mathlib.Core.Bool.{Bool, true, false, _&&_, _||_, true≢false, cond}
+use mathlib.Core.Bool.{Bool, true, false, _||_, true≢false, cond}
 use mathlib.Core.List.{List, [], _∷_, _++_, map}
-use Prim.Native.Nat.{ℕ, zero, suc, _+_, _*_, _-_, _≤_, _<_}
+use Prim.Native.Nat.{ℕ, zero, suc, _+_, _≤_, _<_}
 use native.Mathlib.Omega.{arith}
 use lib.Dec.{eqb}
 use borrow.Author.Tests.{eqb-true}
 use lib.ListN.{length, length-append}
-use Rattle.model.proofs.Laws.Fold.{fold-eq}
-use Rattle.model.proofs.Laws.Rows.{earlier, wider}
-use Rattle.model.proofs.Laws.Fill.{ones-filled, link-hole}
-use Rattle.model.proofs.Laws.Filled.{link-some}
-use Rattle.model.specs.Base.{Below, anyTrue, countTrue, none-below, one-below}
+use Rattle.model.specs.Base.{Below, anyTrue, countTrue}
 use Rattle.model.specs.Store.{downBy, Frame, Split, Spot, Store, down, downFrom, foldFrom, frame, framesOf, hasHole, holesIn, kidsAt, nowhere, push, splitAt, symbolAt, there, under, used}
 use Rattle.model.specs.Facts.{Fits, FrameFits, Good, GoodRow, Leads, Link, None, fits-cons, fits-nil, none-cons, none-nil}
+use Rattle.model.proofs.Laws.Tests.{neither, no-bit, clear-any}
+use Rattle.model.proofs.Laws.Lists.{wider, below-split}
+use Rattle.model.proofs.Laws.Fold.{earlier, hole-eq}
+use Rattle.model.proofs.Laws.Fill.{ones-filled, link-hole}
+use Rattle.model.proofs.Laws.Filled.{link-some}
 
 -- what a split says of the list
 pub data Splits (p : ℕ → Bool) : List ℕ → Split → Type 0 where
@@ -35,10 +36,6 @@ pub split-at : (p : ℕ → Bool) {bs : List ℕ} (k : ℕ) (cs : List ℕ) → 
 unfolding splitAt
 split-at p k cs none-nil e = rw e
 split-at p k cs (none-cons {k = b} {ks = bs} n ns) e = rw (n, split-at p k cs ns e)
-
-pub below-split : (n : ℕ) (bs : List ℕ) (k : ℕ) (cs : List ℕ) → Below n (bs ++ (k ∷ cs)) → Below n bs × (k < n) × Below n cs
-below-split n [] k cs (one-below l b) = (none-below, l, b)
-below-split n (c ∷ bs) k cs (one-below l b) = let r = below-split n bs k cs b in (one-below l (r .0), r .1, r .2)
 
 -- what going down gives
 pub record Found (p : ℕ → Bool) (x : Store) (i : ℕ) (s : Spot) : Type 0 where
@@ -93,6 +90,29 @@ clear-none x (k ∷ ks) e = go (clear-none x ks) (hasHole x k) refl e
     go ih true r s = absurd (omega arith)
     go ih false r s = none-cons r (ih (omega arith))
 
+-- row 0 has a hole, so a row without one is another
+pub hole-has : (x : Store) → hasHole x 0 ≡ true
+unfolding foldFrom
+hole-has x = refl
+
+pub clear-some : (x : Store) (i : ℕ) → hasHole x i ≡ false → 0 < i
+clear-some x zero e = absurd (true≢false (sym (hole-has x) ∙ e))
+clear-some x (suc i) e = omega arith
+
+-- the frame around a child fits where its siblings have no hole
+split-frame : (x : Store) → Good x → (i : ℕ) → 0 < i → i < used x → (bs : List ℕ) (k : ℕ) (cs : List ℕ) → kidsAt x i ≡ bs ++ (k ∷ cs) → holesIn x bs ≡ 0 → holesIn x cs ≡ 0 →
+    FrameFits x (frame (symbolAt x i) bs cs)
+split-frame x g i z u bs k cs e p q =
+    let r = g .row i z u in
+    let b = below-split i bs k cs (rw e at (r .below)) in
+    record {
+      known = r .known;
+      arity = sym (length-append bs (k ∷ cs)) ∙ ap length (sym e) ∙ r .arity;
+      left = wider {n = i} (omega arith) (b .0);
+      right = wider {n = i} (omega arith) (b .2);
+      clear = (p, q);
+    }
+
 -- a context's frames fit, and lead from the hole to it
 fits-context : (x : Store) → Good x → (n i : ℕ) → i < used x → i < n → hasHole x i ≡ true → Fits x (downFrom (hasHole x) n x i .around)
 unfolding downFrom
@@ -113,19 +133,10 @@ fits-context x g (suc n) (suc i) u l h =
     go ih ks e nowhere (no-one q) = fits-nil
     go ih ks e (there bs k cs) (at-one q t) =
         let b = below-split (suc i) bs k cs (rw e at (r .below)) in
-        let f : Frame = frame (symbolAt x (suc i)) bs cs in
-        let o : holesIn x (bs ++ (k ∷ cs)) ≡ holesIn x bs + (1 + holesIn x cs) = ones-filled x f k ∙ rw t in
+        let o : holesIn x (bs ++ (k ∷ cs)) ≡ holesIn x bs + (1 + holesIn x cs) = ones-filled x (frame (symbolAt x (suc i)) bs cs) k ∙ rw t in
         let a = none-clear x q in
         let m : holesIn x (bs ++ (k ∷ cs)) ≤ 1 = rw (← e) (r .holes) in
-        let y : FrameFits x f =
-        record {
-          known = r .known;
-          arity = sym (length-append bs (k ∷ cs)) ∙ ap length (sym e) ∙ r .arity;
-          left = wider {n = suc i} (omega arith) (b .0);
-          right = wider {n = suc i} (omega arith) (b .2);
-          clear = (a, omega arith);
-        } in
-        fits-cons y (ih k (b .1) t)
+        fits-cons (split-frame x g (suc i) (omega arith) u bs k cs e a (omega arith)) (ih k (b .1) t)
 
 pub context-fits : (x : Store) → Good x → (c : ℕ) → c < used x → hasHole x c ≡ true → Fits x (framesOf x c)
 context-fits x g c u h = fits-context x g (suc c) c u (omega arith) h
@@ -142,7 +153,7 @@ context-leads x g c u h = go (down (hasHole x) x c) (down-is (hasHole x) x g (su
     go : (s : Spot) → Found (hasHole x) x c s → Leads x (s .around) 0 c
     go s f =
         let t = f .has h in
-        let e = fold-eq (λ (j a : ℕ) (bs : List Bool). eqb j 0 || anyTrue bs) false x (earlier x g) (s .row) (f .within) in
+        let e = hole-eq x (earlier x g) (s .row) (f .within) in
         let n = any-none x (f .inner) in
         let z : s .row ≡ 0 = zero-by (eqb (s .row) 0) refl (sym t ∙ e ∙ ap (λ (b : Bool). eqb (s .row) 0 || b) n) in
         subst (λ (i : ℕ). Leads x (s .around) i c) z (f .leads)
@@ -151,15 +162,29 @@ context-leads x g c u h = go (down (hasHole x) x c) (down-is (hasHole x) x g (su
         zero-by true q w = eqb-true (s .row) 0 q
         zero-by false q w = absurd (true≢false w)
 
+-- A RECORD'S frames fit, down to whatever row
+clear-kids : (x : Store) → Good x → (i : ℕ) → i < used x → hasHole x i ≡ false → holesIn x (kidsAt x i) ≡ 0
+clear-kids x g i u h = clear-any (map (hasHole x) (kidsAt x i)) (neither (eqb i 0) (anyTrue (map (hasHole x) (kidsAt x i))) (sym (hole-eq x (earlier x g) i u) ∙ h) .1)
+
+pub fits-record : (p : ℕ → Bool) (x : Store) → Good x → (n i : ℕ) → i < used x → i < n → hasHole x i ≡ false → Fits x (downFrom p n x i .around)
+unfolding downFrom
+fits-record p x g zero i u l h = absurd (omega arith)
+fits-record p x g (suc n) i u l h = go (λ k b t. fits-record p x g n k (omega arith) (omega arith) t) (kidsAt x i) refl (splitAt p (kidsAt x i)) (split-is p (kidsAt x i))
+  where
+    go : ((k : ℕ) → k < i → hasHole x k ≡ false → Fits x (downFrom p n x k .around)) → (ks : List ℕ) → kidsAt x i ≡ ks → (s : Split) → Splits p ks s →
+        Fits x (downBy (downFrom p n x) i (symbolAt x i) s .around)
+    go ih ks e nowhere (no-one q) = fits-nil
+    go ih ks e (there bs k cs) (at-one q t) =
+        let b = below-split i bs k cs (rw e at (earlier x g i u)) in
+        let o = ones-filled x (frame (symbolAt x i) bs cs) k in
+        let m : holesIn x (bs ++ (k ∷ cs)) ≡ 0 = ap (holesIn x) (sym e) ∙ clear-kids x g i u h in
+        fits-cons (split-frame x g i (clear-some x i h) u bs k cs e (omega arith) (omega arith)) (ih k (b .1) (no-bit (hasHole x k) (omega arith)))
+
 -- ROUND TRIP: frames that lead from the hole to a row are that row's frames
 pub lead-hole : (x : Store) → Good x → (fs : List Frame) → Fits x fs → (i j : ℕ) → Leads x fs i j → hasHole x j ≡ hasHole x i
 unfolding Leads
 lead-hole x g [] q i j l = ap (hasHole x) (sym l)
 lead-hole x g (f ∷ fs) (fits-cons q qs) i j l = link-hole x g f q (l .0) j (link-some x g f q (l .0) j (l .2)) (l .2) ∙ lead-hole x g fs qs i (l .0) (l .1)
-
-pub hole-has : (x : Store) → hasHole x 0 ≡ true
-unfolding foldFrom
-hole-has x = refl
 
 pub round-trip : (x : Store) → Good x → (fs : List Frame) → Fits x fs → (c : ℕ) → c < used x → Leads x fs 0 c → framesOf x c ≡ fs
 unfolding Leads downFrom

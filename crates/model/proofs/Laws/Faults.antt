@@ -9,8 +9,8 @@ use lib.ListN.{length, getD}
 use Rattle.model.specs.Limits.{mostListed}
 use Rattle.model.specs.Terms.{orElse, unless, symbolsFault, recordFault, knownRow}
 use Rattle.model.specs.Table.{Tables, answerAt, automatonOf}
-use Rattle.model.specs.Listing.{emitted}
 use Rattle.model.specs.Calls.{Call, offers, answers, accept, looks, emits, isAsking, isProposing, markFits, contradicts, verdictIs, faultOf}
+use Rattle.model.specs.Listing.{emitted}
 
 cond-small : (b : Bool) (n m l : ℕ) → n ≤ l → m ≤ l → cond b n m ≤ l
 cond-small true n m l p q = p

@@ -2,93 +2,43 @@
 -- The mark is stored at one row, the rest of the step keeps rows and answers, and a tree has one row; a refused call changes nothing.
 use mathlib.Core.Path.{_≡_, refl, sym, ap, _∙_, subst}
 use mathlib.Core.Logic.{_≢_, _⊎_, inl, inr}
-use mathlib.Core.Bool.{Bool, true, false, _||_, not, cond}
+use mathlib.Core.Bool.{Bool, true, false, not, cond}
 use mathlib.Core.List.{List, [], _∷_, _++_, append-assoc, append-nil}
 use Prim.Native.Nat.{ℕ, suc, _+_, _<_}
 use native.Mathlib.Omega.{arith}
 use native.Mathlib.Decide.{ℕ-discrete}
-use lib.Dec.{ltb, eqb}
-use borrow.Author.Tests.{ltb-true, ltb-false, eq-eqb}
-use lib.ListN.{length, List·getD-eq-default}
-use Rattle.model.specs.Base.{anyTrue, In, here, later}
-use Rattle.model.specs.Store.{Store, used, fold, isRecord, framesOf, filledRow, Extends}
+use borrow.Author.Tests.{eq-eqb}
+use Rattle.model.specs.Base.{In, here}
+use Rattle.model.specs.Store.{Store, used, isRecord, framesOf, filledRow, Extends}
 use Rattle.model.specs.Terms.{Tree, Within, treeWith, holeTree, treeAt, treeOf}
 use Rattle.model.specs.Table.{Tables, answerAt}
-use Rattle.model.specs.Facts.{Good, IsRecord}
+use Rattle.model.specs.Facts.{Good}
 use Rattle.model.specs.TableFacts.{Core, Open}
 use Rattle.model.specs.Calls.{Call, offers, answers, accept, looks, emits, isAsking}
 use Rattle.model.specs.Run.{Lent, meant, afterCall, after, isTaken, Said, said, saidBy, saidIn, offeredBy, questionOf, askedBy, heardIn}
 use Rattle.model.specs.Promise.{Holds}
+use Rattle.model.proofs.Laws.Lists.{no-in, in-one, in-left, in-right, in-either}
 use Rattle.model.proofs.Laws.Fold.{fold-same, earlier}
-use Rattle.model.proofs.Laws.Rows.{kids-ext}
+use Rattle.model.proofs.Laws.Rows.{kids-ext, record-ext}
 use Rattle.model.proofs.Laws.Fill.{ext-refl, ext-trans}
 use Rattle.model.proofs.Laws.Filled.{filled-leads}
 use Rattle.model.proofs.Laws.Down.{context-fits}
 use Rattle.model.proofs.Laws.Trees.{one-row, within-leads}
-use Rattle.model.proofs.Laws.ReflectLists.{record-of, record-back}
+use Rattle.model.proofs.Laws.Settle.{Keeps, answered-used}
 use Rattle.model.proofs.Laws.Phase.{Phase, idle, holding, filling, Nearly, Sounds}
-use Rattle.model.proofs.Laws.Settle.{Keeps}
 use Rattle.model.proofs.Laws.Step.{Marked, Left}
+use Rattle.model.proofs.Laws.ReflectLists.{record-of, record-back}
 use Rattle.model.proofs.Laws.Took.{Took, took-offer, took-answer, took-accept, took-look, took-emit}
 use Rattle.model.proofs.Laws.Along.{along}
 use Rattle.model.proofs.Laws.RunStep.{FreshLent, fresh-sounds, RunStep, still, opens, shows, run-step}
 use Rattle.model.proofs.Promises.Calls.{refused-untouched}
 
--- LISTS that are put together
-in-some : {A : Type 0} {k : A} {ks : List A} → In k ks → 0 < length ks
-in-some here = omega arith
-in-some (later m) = omega arith
-
-pub in-none : {A : Type 0} {k : A} → In k [] → ⊥
-in-none m = let l = in-some m in omega arith
-
-in-one : {A : Type 0} {k j : A} → In k (j ∷ []) → k ≡ j
-in-one here = refl
-in-one (later m) = absurd (in-none m)
-
-in-front : {A : Type 0} {k : A} {ks : List A} (ls : List A) → In k ks → In k (ks ++ ls)
-in-front ls here = here
-in-front ls (later m) = later (in-front ls m)
-
-in-behind : {A : Type 0} {k : A} (ks : List A) {ls : List A} → In k ls → In k (ks ++ ls)
-in-behind [] m = m
-in-behind (j ∷ ks) m = later (in-behind ks m)
-
-pub in-either : {A : Type 0} {k : A} (ks : List A) {ls : List A} → In k (ks ++ ls) → In k ks ⊎ In k ls
-in-either [] m = inr m
-in-either (j ∷ ks) here = inl here
-in-either {k = k} (j ∷ ks) {ls = ls} (later m) = go (in-either ks m)
-  where
-    go : In k ks ⊎ In k ls → In k (j ∷ ks) ⊎ In k ls
-    go (inl n) = inl (later n)
-    go (inr n) = inr n
-
--- ROWS KEPT in a good store: what stood before has its tree, and records stay records
+-- ROWS KEPT in a good store: what stood before has its tree
 module _ (x y : Store) (g : Good y) (e : Extends x y) where
-  fold-kept : {A : Type 0} (h : ℕ → ℕ → List A → A) (z : A) (i : ℕ) → i < used x → fold h z x i ≡ fold h z y i
-  fold-kept h z i u =
-      let m = e .more in
-      fold-same h z x y (λ j v. rw (kids-ext x y e j v) (earlier y g j (omega arith))) (sym (e .counts)) (e .kept) (suc i) i u
-
   tree-kept : (i : ℕ) → i < used x → treeAt x i ≡ treeAt y i
-  tree-kept i u = fold-kept (λ (j a : ℕ) (ts : List Tree). treeWith a ts) holeTree i u
-
-  record-kept : (i : ℕ) → IsRecord x i → IsRecord y i
-  record-kept i r =
+  tree-kept i u =
       let m = e .more in
-      let u = r .within in
-      record { some = r .some; within = omega arith; clear = sym (fold-kept (λ (j a : ℕ) (bs : List Bool). eqb j 0 || anyTrue bs) false i u) ∙ r .clear }
-
--- rows past the end have no answer
-answered-used : (x : Tables) → Core x → (i : ℕ) → answerAt (x .answers) i ≢ 0 → i < used (x .store)
-answered-used x k i n = go (ltb i (used (x .store))) refl
-  where
-    go : (b : Bool) → ltb i (used (x .store)) ≡ b → i < used (x .store)
-    go true p = ltb-true i (used (x .store)) p
-    go false p =
-        let l = ltb-false i (used (x .store)) p in
-        let c = k .counted in
-        absurd (n (List·getD-eq-default (x .answers) 0 {n = i} (omega arith)))
+      fold-same (λ (j a : ℕ) (ts : List Tree). treeWith a ts) holeTree x y (λ j v. rw (kids-ext x y e j v) (earlier y g j (omega arith))) (sym (e .counts)) (e .kept) (suc i) i u
 
 -- a row that has the answer said of its record
 abbrev pub Keeping : Tables → Said → Type 0
@@ -103,7 +53,7 @@ pub record Adds (x y : Tables) (es : List Said) : Type 0 where
       (answerAt (x .answers) i ≢ 0) ⊎ ((e : Said) × In e es × (treeAt (y .store) i ≡ e .about) × (answerAt (y .answers) i ≡ e .mark + 1))
 
 adds-none : (x y : Tables) → Keeps x y → Adds x y []
-adds-none x y k = record { ext = k .ext; kept = λ i n. k .answers i; stored = λ e m. absurd (in-none m); new = λ i n. inl (λ z. n (k .answers i ∙ z)) }
+adds-none x y k = record { ext = k .ext; kept = λ i n. k .answers i; stored = λ e m. absurd (no-in m); new = λ i n. inl (λ z. n (k .answers i ∙ z)) }
 
 module _ (x z y : Tables) (i m : ℕ) (k : Marked x z i (m + 1)) (l : Left z y) where
   here-now : answerAt (y .answers) i ≡ m + 1
@@ -125,7 +75,7 @@ module _ (x z y : Tables) (i m : ℕ) (k : Marked x z i (m + 1)) (l : Left z y) 
       same-tree = sym (tree-kept (z .store) (y .store) g (l .keeps .ext) i (k .is-record .within)) ∙ e
 
       now : Keeping y (said t m)
-      now = (i, record-back (y .store) i (record-kept (z .store) (y .store) g (l .keeps .ext) i (k .is-record)), same-tree, here-now)
+      now = (i, record-back (y .store) i (record-ext (z .store) (y .store) (k .good) (l .keeps .ext) i (k .is-record)), same-tree, here-now)
 
       was : answerAt (x .answers) i ≢ 0 → (answerAt (x .answers) i ≡ 0) ⊎ (answerAt (x .answers) i ≡ m + 1) → answerAt (y .answers) i ≡ answerAt (x .answers) i
       was n (inl p) = absurd (n p)
@@ -151,7 +101,7 @@ holds-more x y k c es ds a h = record { stored = λ e m. kept e (in-either es m)
         let r = record-of (x .store) (s .0) (s .1) in
         let p = s .3 in (
           s .0,
-          record-back (y .store) (s .0) (record-kept (x .store) (y .store) (c .good) (a .ext) (s .0) r),
+          record-back (y .store) (s .0) (record-ext (x .store) (y .store) (k .good) (a .ext) (s .0) r),
           sym (tree-kept (x .store) (y .store) (c .good) (a .ext) (s .0) (r .within)) ∙ s .2,
           a .kept (s .0) (λ z. omega arith) ∙ p,
         )
@@ -159,15 +109,15 @@ holds-more x y k c es ds a h = record { stored = λ e m. kept e (in-either es m)
     told : (i : ℕ) → answerAt (y .answers) i ≢ 0 →
         (answerAt (x .answers) i ≢ 0) ⊎ ((e : Said) × In e ds × (treeAt (y .store) i ≡ e .about) × (answerAt (y .answers) i ≡ e .mark + 1)) →
         (e : Said) × In e (es ++ ds) × (treeAt (y .store) i ≡ e .about) × (answerAt (y .answers) i ≡ e .mark + 1)
-    told i n (inr d) = (d .0, in-behind es (d .1), d .2, d .3)
+    told i n (inr d) = (d .0, in-right es (d .1), d .2, d .3)
     told i n (inl o) =
         let u = answered-used x k i o in
         let s = h .said-so i u o in
-        (s .0, in-front ds (s .1), sym (tree-kept (x .store) (y .store) (c .good) (a .ext) i u) ∙ s .2, a .kept i o ∙ s .3)
+        (s .0, in-left ds (s .1), sym (tree-kept (x .store) (y .store) (c .good) (a .ext) i u) ∙ s .2, a .kept i o ∙ s .3)
 
 -- nothing is said of tables without an answer
 pub holds-none : (x : Tables) → Core x → ((i : ℕ) → answerAt (x .answers) i ≡ 0) → Holds x []
-holds-none x k n = record { stored = λ e m. absurd (in-none m); said-so = λ i u o. absurd (o (n i)); one-row = one-row (x .store) (k .good) }
+holds-none x k n = record { stored = λ e m. absurd (no-in m); said-so = λ i u o. absurd (o (n i)); one-row = one-row (x .store) (k .good) }
 
 -- HEARD OF: a record whose answer is known, or that is asked for
 pub record HeardOf (x : Tables) (t : Tree) : Type 0 where
@@ -264,10 +214,10 @@ question-open y n t m = go (n .phase)
   where
     asks-it : (b : Bool) → In t (cond b (treeAt (y .store) (y .asked) ∷ []) []) → treeAt (y .store) (y .asked) ≡ t
     asks-it true m = sym (in-one m)
-    asks-it false m = absurd (in-none m)
+    asks-it false m = absurd (no-in m)
 
     idle-asks : y .asked ≡ 0 → ⊥
-    idle-asks e = in-none (subst (λ (b : Bool). In t (cond (not b) (treeAt (y .store) (y .asked) ∷ []) [])) (eq-eqb (y .asked) 0 e) m)
+    idle-asks e = no-in (subst (λ (b : Bool). In t (cond (not b) (treeAt (y .store) (y .asked) ∷ []) [])) (eq-eqb (y .asked) 0 e) m)
 
     go : Phase y → (treeAt (y .store) (y .asked) ≡ t) × Open y
     go (idle e h w) = absurd (idle-asks e)
@@ -289,7 +239,7 @@ spoken-mark x z y i m t k e l a os f =
     closed n d = let p = here-now x z y i m k l in let q = ap (answerAt (y .answers)) (a n) in omega arith
 
 spoken-none : (x y : Tables) → Keeps x y → y .asked ≡ x .asked → Spoken x y [] [] []
-spoken-none x y k a = record { adds = adds-none x y k; stays = λ n. inr a; offered = λ t m. absurd (in-none m); asked = λ t m. absurd (in-none m) }
+spoken-none x y k a = record { adds = adds-none x y k; stays = λ n. inr a; offered = λ t m. absurd (no-in m); asked = λ t m. absurd (no-in m) }
 
 keeps-refl : (x : Tables) → Keeps x x
 keeps-refl x = record { ext = ext-refl (x .store); answers = λ i. refl }
@@ -312,7 +262,7 @@ module _ (l : Lent) where
       (λ (b : Bool). Spoken (meant l) (meant (afterCall l (answers m))) (cond b (said (treeAt (meant l .store) (meant l .asked)) m ∷ []) []) [] (cond b (questionOf (meant (afterCall l (answers m)))) []))
       (sym e)
       (subst (λ (v : Tables). Spoken (meant l) v (said (treeAt (meant l .store) (meant l .asked)) m ∷ []) [] (questionOf v)) (sym w)
-      (spoken-mark (meant l) z y (meant l .asked) m (treeAt (meant l .store) (meant l .asked)) k (ap (λ (s : Store). treeAt s (meant l .asked)) t) f (λ n. refl) [] (λ u j. absurd (in-none j))))
+      (spoken-mark (meant l) z y (meant l .asked) m (treeAt (meant l .store) (meant l .asked)) k (ap (λ (s : Store). treeAt s (meant l .asked)) t) f (λ n. refl) [] (λ u j. absurd (no-in j))))
   took-spoken accept y e w (took-accept a r) =
       subst (λ (v : Tables). Spoken (meant l) v [] [] []) (sym w) (spoken-none (meant l) y (record { ext = ext-refl (meant l .store); answers = λ i. refl }) refl)
   took-spoken looks y e w took-look = subst (λ (v : Tables). Spoken (meant l) v [] [] []) (sym w) (spoken-none (meant l) y (keeps-refl (meant l)) refl)

@@ -1,88 +1,25 @@
--- A record stored from its symbols: its row has the values that the symbols have, and is new unless it was known.
+-- A record stored from its symbols: its row has the value that the symbols have in every algebra, and it was known or is new.
+-- By induction on the symbols, with a stack of rows beside the stack of values; a row above a new row is new.
 use mathlib.Core.Path.{_≡_, refl, sym, ap, _∙_, subst}
-use mathlib.Core.Logic.{_≢_, _⊎_, inl, inr}
-use mathlib.Core.Bool.{Bool, true, false, _&&_, _||_, cond}
-use mathlib.Core.List.{List, [], _∷_, _++_, map}
-use Prim.Native.Nat.{ℕ, zero, suc, _+_, _*_, _-_, _≤_, _<_}
+use mathlib.Core.Logic.{_⊎_, inl, inr}
+use mathlib.Core.Bool.{Bool, true, false, _||_, cond}
+use mathlib.Core.List.{List, [], _∷_, map}
+use Prim.Native.Nat.{ℕ, suc, _+_, _-_, _≤_, _<_}
 use native.Mathlib.Omega.{arith}
 use lib.Dec.{ltb, eqb}
 use borrow.Author.Tests.{ne-eqb}
 use lib.ListN.{length, take, drop, length-drop}
 use lib.Seq.{length-take-le}
-use Rattle.model.proofs.Laws.Fold.{fold-eq}
-use Rattle.model.proofs.Laws.Rows.{earlier, fold-ext, each-below}
-use Rattle.model.proofs.Laws.Fill.{row-is, ext-refl, ext-trans}
-use Rattle.model.proofs.Laws.Proposal.{in-cases}
-use Rattle.model.specs.Base.{Below, Each, In, anyTrue, backwards, countTrue, each-cons, each-nil, here, later, none-below, one-below, top}
+use Rattle.model.specs.Base.{Below, Each, In, anyTrue, countTrue, each-cons, each-nil, here, later, none-below, one-below, top}
 use Rattle.model.specs.Store.{fold, thenBuild, Built, Extends, Store, added, built, countOf, findRow, full, hasHole, holesIn, kidsAt, rowFor, used}
 use Rattle.model.specs.Terms.{evalFrom, knownFrom, storeFrom}
 use Rattle.model.specs.Facts.{Good, IsRecord, Parses, RowAsked, RowBuilt, parsed, parses}
-
--- STACKS
-each-backwards : {A B : Type 0} (f : A → B) (xs ys : List A) → map f (backwards xs ys) ≡ backwards (map f xs) (map f ys)
-unfolding backwards
-each-backwards f [] ys = refl
-each-backwards f (x ∷ xs) ys = each-backwards f xs (x ∷ ys)
-
-each-take : {A B : Type 0} (f : A → B) (n : ℕ) (xs : List A) → map f (take n xs) ≡ take n (map f xs)
-each-take f zero xs = refl
-each-take f (suc n) [] = refl
-each-take f (suc n) (x ∷ xs) = ap (λ l. f x ∷ l) (each-take f n xs)
-
-each-drop : {A B : Type 0} (f : A → B) (n : ℕ) (xs : List A) → map f (drop n xs) ≡ drop n (map f xs)
-each-drop f zero xs = refl
-each-drop f (suc n) [] = refl
-each-drop f (suc n) (x ∷ xs) = each-drop f n xs
-
-each-top : {A B : Type 0} (f : A → B) (n : ℕ) (xs : List A) → map f (top n xs) ≡ top n (map f xs)
-each-top f n xs = each-backwards f (take n xs) [] ∙ ap (λ l. backwards l []) (each-take f n xs)
-
-length-backwards : {A : Type 0} (xs ys : List A) → length (backwards xs ys) ≡ length xs + length ys
-unfolding backwards
-length-backwards [] ys = omega arith
-length-backwards (x ∷ xs) ys = let r = length-backwards xs (x ∷ ys) in omega arith
-
-all-backwards : {P : ℕ → Type 0} (xs ys : List ℕ) → Each P xs → Each P ys → Each P (backwards xs ys)
-unfolding backwards
-all-backwards [] ys each-nil b = b
-all-backwards (x ∷ xs) ys (each-cons p ps) b = all-backwards xs (x ∷ ys) ps (each-cons p b)
-
-all-take : {P : ℕ → Type 0} (n : ℕ) (xs : List ℕ) → Each P xs → Each P (take n xs)
-all-take zero xs a = each-nil
-all-take (suc n) [] a = each-nil
-all-take (suc n) (x ∷ xs) (each-cons p ps) = each-cons p (all-take n xs ps)
-
-pub all-drop : {P : ℕ → Type 0} (n : ℕ) (xs : List ℕ) → Each P xs → Each P (drop n xs)
-all-drop zero xs a = a
-all-drop (suc n) [] a = each-nil
-all-drop (suc n) (x ∷ xs) (each-cons p ps) = all-drop n xs ps
-
-in-rest : {j : ℕ} (xs ys : List ℕ) → In j ys → In j (backwards xs ys)
-unfolding backwards
-in-rest [] ys h = h
-in-rest (x ∷ xs) ys h = in-rest xs (x ∷ ys) (later h)
-
-in-backwards : {j : ℕ} {xs : List ℕ} (ys : List ℕ) → In j xs → In j (backwards xs ys)
-unfolding backwards
-in-backwards ys (here {ks = ks}) = in-rest ks (_ ∷ ys) here
-in-backwards ys (later {j = i} {ks = ks} h) = in-backwards (i ∷ ys) h
-
-in-parts : {j : ℕ} (n : ℕ) (xs : List ℕ) → In j xs → In j (take n xs) ⊎ In j (drop n xs)
-in-parts zero xs h = inr h
-in-parts (suc n) [] h = inr h
-in-parts {j} (suc n) (x ∷ xs) h = go (in-parts n xs) (in-cases h)
-  where
-    up : In j (take n xs) ⊎ In j (drop n xs) → In j (x ∷ take n xs) ⊎ In j (drop n xs)
-    up (inl a) = inl (later a)
-    up (inr a) = inr a
-
-    go : (In j xs → In j (take n xs) ⊎ In j (drop n xs)) → (j ≡ x) ⊎ In j xs → In j (x ∷ take n xs) ⊎ In j (drop n xs)
-    go ih (inl e) = inl (subst (λ (i : ℕ). In j (i ∷ take n xs)) e here)
-    go ih (inr m) = up (ih m)
-
-below-in : {n j : ℕ} {ks : List ℕ} → Below n ks → In j ks → j < n
-below-in (one-below l b) here = l
-below-in (one-below l b) (later h) = below-in b h
+use Rattle.model.proofs.Laws.Tests.{any-clear}
+use Rattle.model.proofs.Laws.Lists.{in-cases, below-in, map-below, each-weaker, no-in}
+use Rattle.model.proofs.Laws.Stack.{length-backwards, map-drop, map-top, each-backwards, each-take, each-drop, in-backwards, in-parts}
+use Rattle.model.proofs.Laws.Fold.{fold-eq, earlier, hole-eq}
+use Rattle.model.proofs.Laws.Rows.{fold-ext, record-ext}
+use Rattle.model.proofs.Laws.Fill.{row-is, ext-refl, ext-trans}
 
 -- RECORDS as children
 records-below : (x : Store) {ks : List ℕ} → Each (IsRecord x) ks → Below (used x) ks
@@ -94,21 +31,8 @@ unfolding countTrue
 records-clear x each-nil = refl
 records-clear x (each-cons {k = k} p ps) = rw (p .clear) (let r = records-clear x ps in omega arith)
 
-clear-any : (bs : List Bool) → countTrue bs ≡ 0 → anyTrue bs ≡ false
-unfolding countTrue anyTrue
-clear-any [] e = refl
-clear-any (true ∷ bs) e = absurd (omega arith)
-clear-any (false ∷ bs) e = clear-any bs (omega arith)
-
-record-up : (x y : Store) → Good x → Extends x y → {k : ℕ} → IsRecord x k → IsRecord y k
-record-up x y g e {k} r =
-    let m = e .more in
-    let u = r .within in
-    record { some = r .some; within = omega arith; clear = sym (fold-ext (λ (j a : ℕ) (bs : List Bool). eqb j 0 || anyTrue bs) false x y g e k u) ∙ r .clear }
-
 pub records-up : (x y : Store) → Good x → Extends x y → {ks : List ℕ} → Each (IsRecord x) ks → Each (IsRecord y) ks
-records-up x y g e each-nil = each-nil
-records-up x y g e (each-cons p ps) = each-cons (record-up x y g e p) (records-up x y g e ps)
+records-up x y g e hs = each-weaker (record-ext x y g e) hs
 
 -- one symbol: its row
 module _ (x : Store) (g : Good x) (a : ℕ) (is : List ℕ) (hs : Each (IsRecord x) is) (la : a < length (x .counts)) (ln : countOf x a ≤ length is) where
@@ -116,7 +40,7 @@ module _ (x : Store) (g : Good x) (a : ℕ) (is : List ℕ) (hs : Each (IsRecord
   ks = top (countOf x a) is
 
   kids-records : Each (IsRecord x) ks
-  kids-records = all-backwards (take (countOf x a) is) [] (all-take (countOf x a) is hs) each-nil
+  kids-records = each-backwards (take (countOf x a) is) [] (each-take (countOf x a) is hs) each-nil
 
   pub kids-ask : RowAsked x a ks
   kids-ask =
@@ -130,10 +54,19 @@ module _ (x : Store) (g : Good x) (a : ℕ) (is : List ℕ) (hs : Each (IsRecord
       let r = row-is x g a ks kids-ask j y e in
       let z = records-clear y (records-up x y g (r .ext) kids-records) in
       let c : hasHole y j ≡ false =
-      fold-eq (λ (i b : ℕ) (bs : List Bool). eqb i 0 || anyTrue bs) false y (earlier y (r .good)) j (r .within) ∙
+      hole-eq y (earlier y (r .good)) j (r .within) ∙
       ap (λ (b : Bool). b || anyTrue (map (hasHole y) (kidsAt y j))) (ne-eqb j 0 (λ p. omega (arith, p, r .some))) ∙
-      ap (λ (l : List ℕ). anyTrue (map (hasHole y) l)) (r .tail) ∙ clear-any (map (hasHole y) ks) z in
+      ap (λ (l : List ℕ). anyTrue (map (hasHole y) l)) (r .tail) ∙ any-clear (map (hasHole y) ks) z in
       (r, record { some = r .some; within = r .within; clear = c })
+
+  -- with it on the stack in its children's place, the stack is ready for the symbols left
+  pub stack-next : (k : ℕ) → length is ≡ k → (xs : List ℕ) → Parses (x .counts) (k - countOf x a + 1) xs → (j : ℕ) (y : Store) → rowFor x a ks ≡ built j y →
+      Each (IsRecord y) (j ∷ drop (countOf x a) is) × (length (j ∷ drop (countOf x a) is) ≡ k - countOf x a + 1) × Parses (y .counts) (k - countOf x a + 1) xs
+  stack-next k e xs ps j y f =
+      let w = symbol-row j y f in
+      let l = length-drop (countOf x a) is in
+      let u = w .0 .ext in
+      (each-cons (w .1) (records-up x y g u (each-drop (countOf x a) is hs)), omega arith, subst (λ (ns : List ℕ). Parses ns (k - countOf x a + 1) xs) (sym (u .counts)) ps)
 
 -- what storing gives, for every algebra
 pub record Stored (x : Store) (xs is : List ℕ) (i : ℕ) (y : Store) : Type 1 where
@@ -142,9 +75,6 @@ pub record Stored (x : Store) (xs is : List ℕ) (i : ℕ) (y : Store) : Type 1 
   pub is-record : IsRecord y i
   pub value : {A : Type 0} (h : ℕ → List A → A) (z : A) →
       fold (λ (j a : ℕ) (vs : List A). h a vs) z y i ≡ evalFrom h z (x .counts) xs (map (fold (λ (j a : ℕ) (vs : List A). h a vs) z x) is)
-
-pub stack-length : (n k : ℕ) (is : List ℕ) (j : ℕ) → length is ≡ k → n ≤ k → length (j ∷ drop n is) ≡ k - n + 1
-stack-length n k is j e l = let d = length-drop n is in omega arith
 
 pub stored : (xs : List ℕ) (x : Store) → Good x → (k : ℕ) (is : List ℕ) → Each (IsRecord x) is → length is ≡ k → Parses (x .counts) k xs → (i : ℕ) (y : Store) →
     storeFrom x xs is ≡ built i y → Stored x xs is i y
@@ -166,23 +96,23 @@ stored (a ∷ xs) x g k is hs e (parses la ln ps) i y q =
     go ih full r s = let z : _≡_ {A = ℕ} 0 1 = cc in absurd (omega arith)
     go ih (built j v) r s =
         let w = symbol-row x g a is hs la len j v r in
-        let ro = w .0 in
-        let t = ih v (ro .good) j (each-cons (w .1) (records-up x v g (ro .ext) (all-drop (countOf x a) is hs))) (stack-length (countOf x a) k is j e ln)
-        (subst (λ (ns : List ℕ). Parses ns (k - countOf x a + 1) xs) (sym (ro .ext .counts)) ps) i y s in
+        let new-row = w .0 in
+        let n = stack-next x g a is hs la len k e xs ps j v r in
+        let t = ih v (new-row .good) j (n .0) (n .1) (n .2) i y s in
         record {
           good = t .good;
-          ext = ext-trans x v y (ro .ext) (t .ext);
+          ext = ext-trans x v y (new-row .ext) (t .ext);
           is-record = t .is-record;
           value = λ h z.
               let f : Store → ℕ → _ = λ u. fold (λ (m b : ℕ) (vs : List _). h b vs) z u in
               let drops : map (f v) (drop (countOf x a) is) ≡ drop (countOf x a) (map (f x) is) =
-              sym (each-below (f x) (f v) (used x) (λ m l. fold-ext (λ (n b : ℕ) (vs : List _). h b vs) z x v g (ro .ext) m l) (records-below x (all-drop (countOf x a) is hs))) ∙ each-drop (f x) (countOf x a) is in
+              sym (map-below (f x) (f v) (used x) (λ m l. fold-ext (λ (n b : ℕ) (vs : List _). h b vs) z x v g (new-row .ext) m l) (records-below x (each-drop (countOf x a) is hs))) ∙ map-drop (f x) (countOf x a) is in
               let tops : map (f v) (top (countOf x a) is) ≡ top (countOf x a) (map (f x) is) =
-              sym (each-below (f x) (f v) (used x) (λ m l. fold-ext (λ (n b : ℕ) (vs : List _). h b vs) z x v g (ro .ext) m l) (records-below x (kids-records x g a is hs la len))) ∙ each-top (f x) (countOf x a) is in
+              sym (map-below (f x) (f v) (used x) (λ m l. fold-ext (λ (n b : ℕ) (vs : List _). h b vs) z x v g (new-row .ext) m l) (records-below x (kids-records x g a is hs la len))) ∙ map-top (f x) (countOf x a) is in
               let head : f v j ≡ h a (top (countOf x a) (map (f x) is)) =
-              fold-eq (λ (m b : ℕ) (vs : List _). h b vs) z v (earlier v (ro .good)) j (ro .within) ∙ ap (λ (b : ℕ). h b (map (f v) (kidsAt v j))) (ro .head) ∙
-              ap (λ (l : List ℕ). h a (map (f v) l)) (ro .tail) ∙ ap (h a) tops in
-              t .value h z ∙ ap (λ (ns : List ℕ). evalFrom h z ns xs (map (f v) (j ∷ drop (countOf x a) is))) (ro .ext .counts) ∙
+              fold-eq (λ (m b : ℕ) (vs : List _). h b vs) z v (earlier v (new-row .good)) j (new-row .within) ∙ ap (λ (b : ℕ). h b (map (f v) (kidsAt v j))) (new-row .head) ∙
+              ap (λ (l : List ℕ). h a (map (f v) l)) (new-row .tail) ∙ ap (h a) tops in
+              t .value h z ∙ ap (λ (ns : List ℕ). evalFrom h z ns xs (map (f v) (j ∷ drop (countOf x a) is))) (new-row .ext .counts) ∙
               ap (λ (o : _). evalFrom h z (x .counts) xs (o ∷ map (f v) (drop (countOf x a) is))) head ∙
               ap (λ (l : List _). evalFrom h z (x .counts) xs (h a (top (countOf x a) (map (f x) is)) ∷ l)) drops;
         }
@@ -199,14 +129,7 @@ reaches n [] x g k (m ∷ is) hs e parsed i y q j h l = go is e (in-cases h)
 
     go : (ls : List ℕ) → suc (length ls) ≡ 1 → (j ≡ m) ⊎ In j ls → n ≤ i
     go ls d (inl b) = rw (← a, ← b) l
-    go [] d (inr b) = absurd (nothing b)
-      where
-        some : {k : ℕ} {ks : List ℕ} → In k ks → 0 < length ks
-        some here = omega arith
-        some (later w) = omega arith
-
-        nothing : In j [] → ⊥
-        nothing w = let t = some w in omega arith
+    go [] d (inr b) = absurd (no-in b)
     go (b ∷ ls) d (inr c) = absurd (omega arith)
 reaches n (a ∷ xs) x g k is hs e (parses la ln ps) i y q j h l =
     go (λ v gv m. reaches n xs v gv (k - countOf x a + 1) (m ∷ drop (countOf x a) is)) (rowFor x a (top (countOf x a) is)) refl q
@@ -220,16 +143,15 @@ reaches n (a ∷ xs) x g k is hs e (parses la ln ps) i y q j h l =
     go ih full r s = let z : _≡_ {A = ℕ} 0 1 = cc in absurd (omega arith)
     go ih (built m v) r s =
         let w = symbol-row x g a is hs la len m v r in
-        let ro = w .0 in
-        let next = ih v (ro .good) m (each-cons (w .1) (records-up x v g (ro .ext) (all-drop (countOf x a) is hs))) (stack-length (countOf x a) k is m e ln)
-        (subst (λ (ns : List ℕ). Parses ns (k - countOf x a + 1) xs) (sym (ro .ext .counts)) ps) i y s in
-        place next ro (in-parts (countOf x a) is h)
+        let new-row = w .0 in
+        let ready = stack-next x g a is hs la len k e xs ps m v r in
+        place (ih v (new-row .good) m (ready .0) (ready .1) (ready .2) i y s) new-row (in-parts (countOf x a) is h)
       where
         place : ((c : ℕ) → In c (m ∷ drop (countOf x a) is) → n ≤ c → n ≤ i) → RowBuilt x a (top (countOf x a) is) m v → In j (take (countOf x a) is) ⊎ In j (drop (countOf x a) is) → n ≤ i
-        place next ro (inr d) = next j (later d) l
-        place next ro (inl d) =
-            let b = subst (Below m) (ro .tail) (ro .good .row m (ro .some) (ro .within) .below) in
-            let u = below-in b (in-backwards [] d) in
+        place next new-row (inr d) = next j (later d) l
+        place next new-row (inl d) =
+            let b = subst (Below m) (new-row .tail) (new-row .good .row m (new-row .some) (new-row .within) .below) in
+            let u = below-in b (in-backwards (take (countOf x a) is) [] d) in
             next m here (omega arith)
 
 -- the row was known, and nothing is added; or it is new
@@ -260,7 +182,8 @@ known-or-new (a ∷ xs) x g k is hs e (parses la ln ps) i y q =
         ((y ≡ x) × (i ≡ cond b 0 (knownFrom x xs (findRow x a ks ∷ rest)))) ⊎ ((cond b 0 (knownFrom x xs (findRow x a ks ∷ rest)) ≡ 0) × (used x ≤ i))
     go ih false r c t s =
         let w = symbol-row x g a is hs la len (findRow x a ks) x (ap (λ (b : Bool). cond b (cond (ltb (used x) (x .room)) (built (used x) (added x a ks)) full) (built (findRow x a ks) x)) r) in
-        ih (findRow x a ks) (each-cons (w .1) (all-drop (countOf x a) is hs)) (stack-length (countOf x a) k is (findRow x a ks) e ln) ps i y s
+        let l = length-drop (countOf x a) is in
+        ih (findRow x a ks) (each-cons (w .1) (each-drop (countOf x a) is hs)) (omega arith) ps i y s
     go ih true r false t s = let z : _≡_ {A = ℕ} 0 1 = cc in absurd (omega arith)
     go ih true r true t s =
         let v : Store = added x a ks in
@@ -268,9 +191,5 @@ known-or-new (a ∷ xs) x g k is hs e (parses la ln ps) i y q =
         ap (λ (b : Bool). cond b (cond (ltb (used x) (x .room)) (built (used x) v) full) (built (findRow x a ks) x)) r ∙
         ap (λ (c : Bool). cond c (built (used x) v) full) t in
         let w = symbol-row x g a is hs la len (used x) v f in
-        let ro = w .0 in
-        inr (
-          refl,
-          reaches (used x) xs v (ro .good) (k - countOf x a + 1) (used x ∷ rest) (each-cons (w .1) (records-up x v g (ro .ext) (all-drop (countOf x a) is hs)))
-              (stack-length (countOf x a) k is (used x) e ln) ps i y s (used x) here (omega arith),
-        )
+        let n = stack-next x g a is hs la len k e xs ps (used x) v f in
+        (inr (refl, reaches (used x) xs v (w .0 .good) (k - countOf x a + 1) (used x ∷ rest) (n .0) (n .1) (n .2) i y s (used x) here (omega arith)))

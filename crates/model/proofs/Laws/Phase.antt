@@ -1,11 +1,10 @@
--- Sound tables as facts: T1 to T5, and one of three phases. What a step leaves of them is sound again but perhaps for T4's last clause.
+-- Sound tables as facts: T1 to T5, and one of three phases; nearly sound ones, which a step leaves, may fail T4's last clause alone.
 -- Assumes nothing: these are definitions.
 use mathlib.Core.Path.{_≡_}
-use mathlib.Core.Logic.{_≢_, _⊎_}
+use mathlib.Core.Logic.{_⊎_}
 use mathlib.Core.Bool.{false}
-use Prim.Native.Nat.{ℕ}
-use Rattle.model.specs.Table.{Tables, rowOf}
-use Rattle.model.specs.TableFacts.{Core, Tidy, Known, Missing, Whole, Few, Open, Shaped, HandFits}
+use Rattle.model.specs.Table.{Tables}
+use Rattle.model.specs.TableFacts.{Core, Tidy, Missing, Whole, Few, Open, HandFits}
 
 -- no question open; one open with a record in hand; one open with none, where an answer may be missing
 pub data Phase (x : Tables) : Type 0 where

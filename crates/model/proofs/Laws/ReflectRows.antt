@@ -9,7 +9,6 @@ use lib.Dec.{ltb, leb, eqb}
 use borrow.Author.Tests.{ltb-true, ltb-false, leb-true, eqb-true, eqb-false, not-true, not-false, lt-ltb, le-leb, eq-eqb}
 use lib.ListN.{length, getD, take, drop, replicate, length-append, length-drop, length-replicate, List·getD-eq-default}
 use lib.Seq.{length-take-le, getD-take, getD-drop}
-use Rattle.model.proofs.Laws.Rows.{found, absent}
 use Rattle.model.specs.Limits.{mostSymbols, mostChildren, holeSymbol}
 use Rattle.model.specs.Base.{Below, none-below, one-below, isIn, all, same}
 use Rattle.model.specs.Store.{Node, Store, holeNode, padded, used, nodeAt, symbolAt, countOf, kidsAt, findFrom, hasHole, holesIn}
@@ -17,6 +16,7 @@ use Rattle.model.specs.Table.{Tables, answerAt}
 use Rattle.model.specs.Sound.{alphabetFits, isHole, nodeFits, answerFits, hasTwin, rowsFit, isT1}
 use Rattle.model.specs.Facts.{Good, GoodRow}
 use Rattle.model.proofs.Laws.Tests.{both-true, same-eq, same-of, same-refl, true-both}
+use Rattle.model.proofs.Laws.Rows.{found, absent}
 
 -- T1 as facts: a good store, one answer in 0 to 2 for each row, none for a context
 pub record T1Facts (x : Tables) : Type 0 where

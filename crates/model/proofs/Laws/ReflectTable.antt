@@ -1,27 +1,27 @@
 -- T2 to T8 as tests say what they say as facts, and the other way round, each by itself and without T1.
 -- Each test is split into its parts, and each part is a test along a list of rows.
-use mathlib.Core.Path.{_≡_, refl, sym, ap, _∙_, subst}
+use mathlib.Core.Path.{_≡_, refl, sym, ap, _∙_}
 use mathlib.Core.Logic.{_≢_, _⊎_, inl, inr}
 use mathlib.Core.Bool.{Bool, true, false, _&&_, not, true≢false, cond}
-use mathlib.Core.List.{List, [], _∷_, map}
+use mathlib.Core.List.{List, map}
 use Prim.Native.Nat.{ℕ, zero, suc, _+_, _≤_}
 use native.Mathlib.Omega.{arith}
 use native.Mathlib.Decide.{ℕ-discrete}
 use lib.Dec.{ltb, leb, eqb}
 use borrow.Author.Tests.{ltb-true, leb-true, eqb-true, eqb-false, not-true, lt-ltb, le-leb, eq-eqb, ne-eqb}
 use lib.ListN.{length, getD}
-use Rattle.model.proofs.Laws.Tests.{both-true, true-both, all-of, all-back}
-use Rattle.model.proofs.Laws.Search.{members-in}
-use Rattle.model.proofs.Laws.Grow.{differ-not-same}
-use Rattle.model.proofs.Laws.ReflectLists.{not-so, or-cases, or-left, or-right, each-at, each-from, in-members, distinct-of, distinct-back, record-of, record-back, context-of, context-back, has-of, has-back, differ-sym, differ-of, differ-back, all-differ-of, all-differ-back, missing-row, row-missing, count-some, count-one}
 use Rattle.model.specs.Limits.{mostStates, mostRules}
-use Rattle.model.specs.Base.{Distinct, Each, In, all, allAmong, among, here, noRepeats}
+use Rattle.model.specs.Base.{Distinct, Each, In, all, allAmong, among, noRepeats}
 use Rattle.model.specs.Store.{Store, isContext, isRecord, kidsAt}
 use Rattle.model.specs.Automata.{acceptsRow}
 use Rattle.model.specs.Table.{Tables, answerAt, automatonOf, isMissing, rowOf, size}
 use Rattle.model.specs.Sound.{allDiffer, contextsFew, contextsFit, countSame, differKnown, isT2, isT3, isT5, isT6, isT7, isT8, questionFits, verdictDiffers}
 use Rattle.model.specs.Facts.{IsContext, IsRecord}
 use Rattle.model.specs.TableFacts.{Differ, HandFits, Held, Known, Missing, Open, Shaped, Yes}
+use Rattle.model.proofs.Laws.Tests.{both-true, true-both, all-of, all-back, not-so, or-cases, or-left, or-right}
+use Rattle.model.proofs.Laws.Lists.{members-in, in-members, each-at, each-from, first-in}
+use Rattle.model.proofs.Laws.Grow.{differ-not-same}
+use Rattle.model.proofs.Laws.ReflectLists.{distinct-of, distinct-back, record-of, record-back, context-of, context-back, has-of, has-back, differ-sym, differ-of, differ-back, all-differ-of, all-differ-back, missing-row, row-missing, count-some, count-one}
 
 -- T2, T3 and T4 in numbers, but for T4's last clause
 pub record Numbers (x : Tables) : Type 0 where
@@ -31,10 +31,6 @@ pub record Numbers (x : Tables) : Type 0 where
   pub hole-first : getD (x .c) 0 1 ≡ 0
   pub one-c : Distinct (x .c)
   pub few-c : length (x .c) ≤ 1 + size x
-
-hole-in : (cs : List ℕ) → getD cs 0 1 ≡ 0 → In 0 cs
-hole-in [] e = absurd (omega arith)
-hole-in (c ∷ cs) e = subst (λ (i : ℕ). In i (c ∷ cs)) e here
 
 -- an answer is known and differs from a verdict
 against : (b : Bool) (n : ℕ) → n ≡ cond b 1 2 → (n ≢ 0) × (n ≤ 2) × (b ≡ not (eqb n 2))
@@ -106,7 +102,7 @@ module _ (x : Tables) where
       let u = five-of d in (
         record { context = r .2; row = p .2; kids = p .3; among = q .2; differ = u .0; yes = u .1; one = q .1; each-one = p .1 },
         record { few-t = p .0; few-s = q .0; some-c = r .0; hole-first = r .1; one-c = r .3; few-c = r .4 },
-        hole-in (x .c) (r .1),
+        first-in (x .c) (r .1),
       )
 
   two-back : Held st w (x .s) (x .t) (x .c) → Numbers x → isT2 x ≡ true

@@ -1,34 +1,35 @@
 -- One call of a fresh run, taken or refused: it changes no count; or it opens a question; or it shows a proposal, and S and T have grown past the last one.
 -- The invariant Fresh goes along with the lent tables, since what they mean is what the step leaves.
 use mathlib.Core.Path.{_≡_, refl, sym, ap, _∙_, subst}
-use mathlib.Core.Logic.{_≢_, _⊎_, inl, inr}
-use mathlib.Core.Bool.{Bool, true, false, _&&_, not, cond, true≢false}
+use mathlib.Core.Logic.{_≢_, inl, inr}
+use mathlib.Core.Bool.{Bool, true, false, _&&_, not, cond}
 use mathlib.Core.List.{List, [], _∷_}
-use Prim.Native.Nat.{ℕ, zero, suc, _+_, _-_, _≤_, _<_}
+use Prim.Native.Nat.{ℕ, zero, suc, _+_, _≤_, _<_}
 use native.Mathlib.Omega.{arith}
 use lib.Dec.{eqb, leb, ltb}
-use borrow.Author.Tests.{eqb-true, eqb-false, eq-eqb, ne-eqb, leb-true, le-leb, ltb-true, ltb-false}
+use borrow.Author.Tests.{eq-eqb, ne-eqb, leb-true, le-leb, ltb-true, ltb-false}
 use lib.ListN.{length, getD, set, List·getD-eq-default}
 use Rattle.model.specs.Limits.{mostSymbols, mostChildren}
-use Rattle.model.specs.Base.{isIn, all, apart-nil, distinct-cons, distinct-nil}
-use Rattle.model.specs.declared.Lists.{Lists}
-use Rattle.model.specs.Sound.{alphabetFits}
-use Rattle.model.proofs.Laws.Tests.{both-true, true-both, all-getD}
-use Rattle.model.specs.Terms.{storeFrom}
+use Rattle.model.specs.Base.{isIn, all, apart-nil, distinct-cons, distinct-nil, each-nil}
 use Rattle.model.specs.Store.{Built, full, built}
+use Rattle.model.specs.Terms.{storeFrom}
 use Rattle.model.specs.Table.{Tables, tables, size}
-use Rattle.model.specs.Steps.{Ended, short, asks, proposes, offered, answered, takenBy, advance}
-use Rattle.model.specs.TableFacts.{Core, Tidy, Missing, Whole, Few, Open, HandFits}
-use Rattle.model.specs.Calls.{isProposing, Call, offers, answers, accept, looks, emits, isAsking, phaseOf, faultOf, doneBy, leaves, endOf, started}
+use Rattle.model.specs.Sound.{alphabetFits}
+use Rattle.model.specs.Steps.{Ended, asks, proposes, offered, answered, takenBy}
+use Rattle.model.specs.TableFacts.{Tidy, Open}
+use Rattle.model.specs.Calls.{isProposing, Call, offers, answers, accept, looks, emits, isAsking, phaseOf, doneBy, leaves, started}
 use Rattle.model.specs.Entry.{sizeFits, listsFit, rowsLent, startNumber}
 use Rattle.model.specs.Run.{Lent, meant, afterCall, after, startedRun, isTaken, takesOne, taken, isShown, shownBy, growsFrom}
-use Rattle.model.proofs.Laws.Phase.{Phase, idle, holding, filling, Nearly, Sounds}
-use Rattle.model.proofs.Laws.Lent.{start-back, start-size-back, start-lists-fit, start-alphabet, start-size, sizeFits-facts}
-use Rattle.model.proofs.Laws.Settle.{Gains}
+use Rattle.model.specs.declared.Lists.{Lists}
+use Rattle.model.proofs.Laws.Tests.{both-true, true-both, all-getD}
+use Rattle.model.proofs.Laws.Listed.{stored}
+use Rattle.model.proofs.Laws.Flags.{whole-flags, tidy-flags}
+use Rattle.model.proofs.Laws.Phase.{idle, holding, filling, Sounds}
 use Rattle.model.proofs.Laws.Step.{Offering, offering, answering, held-advance, none-advance, mark-some, mark-small, proposing-of, unless-true}
+use Rattle.model.proofs.Laws.Lent.{start-back, start-size-back, start-lists-fit, start-alphabet, start-size, sizeFits-facts}
 use Rattle.model.proofs.Laws.Took.{EndsIn, in-asks, in-proposes, ends-in}
 use Rattle.model.proofs.Laws.Along.{Along, along}
-use Rattle.model.proofs.Laws.Fresh.{Fresh, at-proposal, in-hand, pending, core-of, After, after-short, after-asks, after-proposes, offer-step, answer-step-down, answer-step-hand, start-fresh}
+use Rattle.model.proofs.Laws.Fresh.{Fresh, at-proposal, in-hand, to-fill, After, after-short, after-asks, after-proposes, offer-step, answer-step-down, answer-step-hand, start-fresh}
 use Rattle.model.proofs.Promises.Calls.{refused-untouched}
 
 pub record FreshLent (l : Lent) (k n : ℕ) : Type 0 where
@@ -41,12 +42,12 @@ pub record FreshLent (l : Lent) (k n : ℕ) : Type 0 where
 pub fresh-sounds : (x : Tables) (k n : ℕ) → Tidy x → Fresh x k n → Sounds x
 fresh-sounds x k n d (at-proposal w a h c l m) = record { nearly = record { core = w .core; tidy = d; phase = idle a h w }; few = inr c }
 fresh-sounds x k n d (in-hand w f o r c l m) = record { nearly = record { core = w .core; tidy = d; phase = holding o r w f }; few = inr (inr c) }
-fresh-sounds x k n d (pending q h e o r a b c) = record { nearly = record { core = q; tidy = d; phase = filling o r h (inl e) }; few = inl e }
+fresh-sounds x k n d (to-fill q h e o r a b c) = record { nearly = record { core = q; tidy = d; phase = filling o r h (inl e) }; few = inl e }
 
 -- AN OFFER and AN ANSWER of a fresh run
 fresh-offer : (x : Tables) (k n : ℕ) → Tidy x → Fresh x k n → (xs : List ℕ) (m : ℕ) → Offering x xs m → After (k + 1) n (offered x xs m)
 fresh-offer x k n d (in-hand w f q r c l e) xs m o = let p = q .0 .some in let z = o .idle-now in absurd (omega arith)
-fresh-offer x k n d (pending t h e q r a b c) xs m o = let p = q .0 .some in let z = o .idle-now in absurd (omega arith)
+fresh-offer x k n d (to-fill t h e q r a b c) xs m o = let p = q .0 .some in let z = o .idle-now in absurd (omega arith)
 fresh-offer x k n d (at-proposal w a h c l e) xs m o = go (storeFrom (x .store) xs []) refl
   where
     go : (b : Built) → storeFrom (x .store) xs [] ≡ b → After (k + 1) n (takenBy x m b)
@@ -57,7 +58,7 @@ fresh-offer x k n d (at-proposal w a h c l e) xs m o = go (storeFrom (x .store) 
       where
         stored-some : (i : ℕ) (y : _) → storeFrom (x .store) xs [] ≡ built i y → i ≢ 0
         stored-some i y q z =
-            let r = Rattle.model.proofs.Laws.Listed.stored xs (x .store) (w .core .good) 0 [] Rattle.model.specs.Base.each-nil refl (o .parsed) i y q in
+            let r = stored xs (x .store) (w .core .good) 0 [] each-nil refl (o .parsed) i y q in
             let p = r .is-record .some in
             omega arith
 
@@ -67,7 +68,7 @@ fresh-answer x k n d (in-hand w f q r c l e) z m o =
     let s = answer-step-hand x k n w d f q c l e (m + 1) (mark-some m) (mark-small m o) in
     let p = f .record-row .some in
     subst (After k n) (sym (held-advance (tables (x .store) (set (x .answers) (x .asked) (m + 1)) (x .s) (x .t) (x .c) (x .hand) 0 false) (λ u. omega (arith, u)))) s
-fresh-answer x k n d (pending t h e q r a b c) z m o =
+fresh-answer x k n d (to-fill t h e q r a b c) z m o =
     let s = answer-step-down x k n t d h q a b c (m + 1) (mark-small m o) in
     subst (After k n) (sym (none-advance (tables (x .store) (set (x .answers) (x .asked) (m + 1)) (x .s) (x .t) (x .c) (x .hand) 0 false) h)) s
 
@@ -75,22 +76,9 @@ fresh-answer x k n d (pending t h e q r a b c) z m o =
 fresh-accept : (x : Tables) (k n : ℕ) → Tidy x → Fresh x k n → x .asked ≡ 0 →
     Tidy (tables (x .store) (x .answers) (x .s) (x .t) (x .c) (x .hand) (x .asked) true) × Fresh (tables (x .store) (x .answers) (x .s) (x .t) (x .c) (x .hand) (x .asked) true) k n
 fresh-accept x k n d (in-hand w f q r c l e) z = let p = q .0 .some in absurd (omega arith)
-fresh-accept x k n d (pending t h e q r a b c) z = let p = q .0 .some in absurd (omega arith)
+fresh-accept x k n d (to-fill t h e q r a b c) z = let p = q .0 .some in absurd (omega arith)
 fresh-accept x k n d (at-proposal w a h c l e) z =
-    let q = w .core in (
-      record {
-        alphabet = d .alphabet;
-        blank = d .blank;
-        few-t = d .few-t;
-        few-s = d .few-s;
-        some-c = d .some-c;
-        hole-first = d .hole-first;
-        one-c = d .one-c;
-        few-c = d .few-c;
-      },
-      at-proposal
-          (record { core = record { good = q .good; counted = q .counted; first = q .first; bound = q .bound; held = q .held }; known = w .known; shaped = w .shaped; hole-in = w .hole-in }) a h c l e,
-    )
+    (tidy-flags x d (x .hand) (x .asked) true, at-proposal (whole-flags x w (x .hand) (x .asked) true) a h c l e)
 
 -- A CALL of the run, with its counts
 pub data RunStep (l : Lent) (q : Call) (k n : ℕ) : Type 0 where
@@ -108,7 +96,7 @@ idle-not x e = ap not (eq-eqb (x .asked) 0 e)
 fresh-open : (x : Tables) (k n : ℕ) → Fresh x k n → x .asked ≢ 0 → (isAsking x ≡ true) × (x .accepted ≡ false)
 fresh-open x k n (at-proposal w a h c l e) z = absurd (z a)
 fresh-open x k n (in-hand w f q r c l e) z = (asking-of x q, r)
-fresh-open x k n (pending t h e q r a b c) z = (asking-of x q, r)
+fresh-open x k n (to-fill t h e q r a b c) z = (asking-of x q, r)
 
 -- the phase told by tables that ask, and by tables that propose
 phase-asks : (x : Tables) → isAsking x ≡ true → x .accepted ≡ false → eqb (phaseOf x) 0 ≡ false

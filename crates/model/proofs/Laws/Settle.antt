@@ -1,46 +1,38 @@
--- Settling keeps what is held, and a proposal has gained.
+-- Settling: the first unknown answer is asked for, and where none is unknown S grows and whatever was to be gained is gained.
+-- The question's rows change no answer; the proposal has the row of each transition, among them of one that was pending.
+use native.Mathlib.Decide.{ℕ-discrete}
 use mathlib.Core.Path.{subst, _≡_, refl, sym, ap, _∙_}
 use mathlib.Core.Logic.{_≢_, _⊎_, inl, inr}
-use mathlib.Core.Bool.{Bool, true, false, _&&_, _||_, cond}
+use mathlib.Core.Bool.{Bool, true, false, cond}
 use mathlib.Core.List.{List, [], _∷_, _++_}
 use mathlib.Core.Option.{Option, none, some}
-use Prim.Native.Nat.{ℕ, zero, suc, _+_, _*_, _-_, _≤_, _<_}
+use Prim.Native.Nat.{ℕ, zero, suc, _+_, _-_, _≤_, _<_}
 use native.Mathlib.Omega.{arith}
 use lib.Dec.{ltb, eqb}
 use borrow.Author.Tests.{ltb-false, ltb-true, eqb-true, eqb-false}
 use lib.ListN.{length, getD, replicate, length-append, length-replicate, List·getD-eq-default}
-use Rattle.model.proofs.Laws.Fill.{fill-is}
+use Rattle.model.specs.Base.{In, here, later}
+use Rattle.model.specs.Store.{Extends, hasHole, Built, Frame, Store, built, fill, filledRow, framesOf, full, used}
+use Rattle.model.specs.Table.{answerAt, rowOf, Tables, answerIn, size, tables}
+use Rattle.model.specs.Steps.{ofStates, ofRows, Shortage, Ended, Sought, asks, blanked, grow, noneUnknown, opened, proposed, proposes, seek, seekIn, settled, settledBy, short, unknown}
+use Rattle.model.specs.Facts.{IsContext, Filled, Fits, IsRecord}
+use Rattle.model.specs.TableFacts.{Missing, Tidy, Open, Whole, Known, Core, Held}
+use Rattle.model.specs.Promise.{RowsShort, StatesShort}
+use Rattle.model.proofs.Laws.Lists.{no-in, in-cons, first-in}
+use Rattle.model.proofs.Laws.Rows.{hole-ext}
+use Rattle.model.proofs.Laws.Fill.{fill-is, ext-refl, ext-trans}
 use Rattle.model.proofs.Laws.Filled.{leads-filled, answers-kept}
 use Rattle.model.proofs.Laws.Down.{context-fits}
 use Rattle.model.proofs.Laws.Held.{answer-ext, Blank, held-ext, differ-ext, fits-ext}
+use Rattle.model.proofs.Laws.Grow.{grown}
 use Rattle.model.proofs.Laws.Turn.{Pending, Gain, gained, grown-held, grown-shaped}
-use Rattle.model.specs.Base.{anyTrue, In, here, later}
-use Rattle.model.specs.Store.{Extends, hasHole, Built, Frame, Store, built, fill, filledRow, framesOf, full, used}
-use Rattle.model.specs.Table.{answerAt, rowOf, Tables, answerIn, answersOf, size, tables}
-use Rattle.model.specs.Steps.{ofStates, ofRows, Shortage, Ended, Sought, asks, blanked, grow, noneUnknown, opened, proposed, proposes, seek, seekIn, settled, settledBy, short, unknown}
-use Rattle.model.specs.Facts.{IsContext, Filled, Fits, Good, IsRecord}
-use Rattle.model.specs.TableFacts.{Missing, Tidy, Open, Whole, Known, Core, Held, Shaped}
-use Rattle.model.specs.Promise.{RowsShort, StatesShort}
-use Rattle.model.proofs.Laws.Rows.{fold-ext}
-use Rattle.model.proofs.Laws.Fill.{ext-refl, ext-trans}
-use Rattle.model.proofs.Laws.Grow.{Grown, grown}
-use Rattle.model.proofs.Laws.Short.{fill-full, short-ext, StatesFull, grow-none}
+use Rattle.model.proofs.Laws.Short.{fill-full, short-ext, grow-none}
+use Rattle.model.proofs.Laws.Flags.{tidy-with}
 
 -- SEEKING
 pub data Finds (x : Store) (w cs ts : List ℕ) : Sought → Type 0 where
   all-known : ((i c : ℕ) → In i ts → In c cs → answerIn x w c i ≢ 0) → Finds x w cs ts noneUnknown
   first-unknown : {c i : ℕ} → In i ts → In c cs → answerIn x w c i ≡ 0 → Finds x w cs ts (unknown c i)
-
-some-in : {i : ℕ} {ks : List ℕ} → In i ks → 0 < length ks
-some-in here = omega arith
-some-in (later h) = omega arith
-
-no-in : {i : ℕ} → In i [] → ⊥
-no-in h = let l = some-in h in omega arith
-
-in-cons : {P : ℕ → Type 0} {k : ℕ} {ks : List ℕ} → P k → ((i : ℕ) → In i ks → P i) → (i : ℕ) → In i (k ∷ ks) → P i
-in-cons p f i here = p
-in-cons p f i (later h) = f i h
 
 row-seeks : (x : Store) (w : List ℕ) (i : ℕ) (next : Sought) (cs : List ℕ) →
     (((c : ℕ) → In c cs → answerIn x w c i ≢ 0) × (seekIn x w cs i next ≡ next)) ⊎ ((c : ℕ) × In c cs × (answerIn x w c i ≡ 0) × (seekIn x w cs i next ≡ unknown c i))
@@ -97,19 +89,22 @@ pub record Keeps (x y : Tables) : Type 0 where
 pub keeps-blanked : (x : Tables) (y : Store) → Extends (x .store) y → (s t c : List ℕ) (h o : ℕ) → Keeps x (tables y (blanked (x .store) y (x .answers)) s t c h o false)
 keeps-blanked x y e s t c h o = record { ext = e; answers = past (x .answers) (used y - used (x .store)) }
 
+-- a row with an answer is a used one
+pub answered-used : (x : Tables) → Core x → (i : ℕ) → answerAt (x .answers) i ≢ 0 → i < used (x .store)
+answered-used x k i n = go (ltb i (used (x .store))) refl
+  where
+    go : (b : Bool) → ltb i (used (x .store)) ≡ b → i < used (x .store)
+    go true p = ltb-true i (used (x .store)) p
+    go false p = let u = ltb-false i (used (x .store)) p in let l = k .counted in absurd (n (List·getD-eq-default (x .answers) 0 (omega arith)))
+
 -- rows with a hole stay unanswered
 pub blank-keeps : (x y : Tables) → Core x → Keeps x y → ((i : ℕ) → i < used (x .store) → hasHole (x .store) i ≡ true → answerAt (x .answers) i ≡ 0) →
     (i : ℕ) → i < used (y .store) → hasHole (y .store) i ≡ true → answerAt (y .answers) i ≡ 0
-blank-keeps x y k e b i u h = go (ltb i (used (x .store))) refl
+blank-keeps x y k e b i u h = e .answers i ∙ go (ℕ-discrete (answerAt (x .answers) i) 0)
   where
-    go : (t : Bool) → ltb i (used (x .store)) ≡ t → answerAt (y .answers) i ≡ 0
-    go true p =
-        let v = ltb-true i (used (x .store)) p in
-        e .answers i ∙ b i v (fold-ext (λ (j a : ℕ) (bs : List Bool). eqb j 0 || anyTrue bs) false (x .store) (y .store) (k .good) (e .ext) i v ∙ h)
-    go false p =
-        let v = ltb-false i (used (x .store)) p in
-        let l = k .counted in
-        e .answers i ∙ List·getD-eq-default (x .answers) 0 (omega arith)
+    go : Dec (answerAt (x .answers) i ≡ 0) → answerAt (x .answers) i ≡ 0
+    go (yes z) = z
+    go (no n) = let v = answered-used x k i n in b i v (hole-ext (x .store) (y .store) (k .good) (e .ext) i v ∙ h)
 
 -- WHAT RUNS SHORT while a table is settled
 pub data ShortOk (x : Tables) : Shortage → Type 0 where
@@ -189,17 +184,7 @@ module _ (x : Tables) (k : Core x) (fs : List Frame) (q : Fits (x .store) fs) (i
       let e' = keeps-blanked x y (m .ext) (x .s) (x .t) (x .c) (x .hand) j in
       record {
         core = core-after;
-        tidy =
-            record {
-              alphabet = rw (m .ext .counts) (d .alphabet);
-              blank = blank-keeps x (tables y w' (x .s) (x .t) (x .c) (x .hand) j false) k e' (d .blank);
-              few-t = d .few-t;
-              few-s = d .few-s;
-              some-c = d .some-c;
-              hole-first = d .hole-first;
-              one-c = d .one-c;
-              few-c = d .few-c;
-            };
+        tidy = tidy-with x d y w' (m .ext .counts) (blank-keeps x (tables y w' (x .s) (x .t) (x .c) (x .hand) j false) k e' (d .blank)) (x .hand) j false;
         keeps = e';
         opens = opened-open;
         same-s = refl;
@@ -229,13 +214,6 @@ module _ (x : Tables) (k : Core x) (d : Tidy x) where
   h : Held (x .store) (x .answers) (x .s) (x .t) (x .c)
   h = k .held
 
-  hole-in-c : In 0 (x .c)
-  hole-in-c = first-in (x .c) (d .some-c) (d .hole-first)
-    where
-      first-in : (cs : List ℕ) → 1 ≤ length cs → getD cs 0 1 ≡ 0 → In 0 cs
-      first-in [] l e = absurd (omega arith)
-      first-in (c ∷ cs) l e = subst (λ (n : ℕ). In n (c ∷ cs)) e here
-
   proposed-end : Known x → (s' : List ℕ) → grow (rowOf x) (x .s) (x .t) ≡ some s' → ProposedEnd x (tables (x .store) (x .answers) s' (x .t) (x .c) 0 0 false)
   proposed-end n s' e =
       let gr = grown (rowOf x) (x .s) (x .t) s' e in
@@ -247,7 +225,7 @@ module _ (x : Tables) (k : Core x) (d : Tidy x) where
               core = record { good = k .good; counted = k .counted; first = k .first; bound = k .bound; held = grown-held (x .store) (x .answers) (x .s) (x .t) (x .c) s' h n e };
               known = n;
               shaped = grown-shaped (x .store) (x .answers) (x .s) (x .t) (x .c) s' h n e;
-              hole-in = hole-in-c;
+              hole-in = first-in (x .c) (d .hole-first);
             };
         tidy =
             record {

@@ -1,20 +1,19 @@
--- Sound tables, tested (Sound), are sound tables as facts (Phase), and the other way round: the eight tests reflected one by one and put together.
-use mathlib.Core.Path.{_≡_, refl, sym, ap, _∙_}
-use mathlib.Core.Logic.{_≢_, _⊎_, inl, inr}
-use mathlib.Core.Bool.{Bool, true, false, _&&_, _||_, not, true≢false}
-use mathlib.Core.List.{List, [], _∷_}
-use Prim.Native.Nat.{ℕ, zero, suc, _+_, _≤_, _<_}
+-- Sound tables, tested, are sound tables as facts, and the other way round.
+-- The eight tests are reflected one by one and put together; which phase it is, the record in hand and the open question tell.
+use mathlib.Core.Path.{_≡_, refl}
+use mathlib.Core.Logic.{_⊎_, inl, inr}
+use mathlib.Core.Bool.{Bool, true, false, _&&_}
+use Prim.Native.Nat.{_+_}
 use native.Mathlib.Omega.{arith}
 use native.Mathlib.Decide.{ℕ-discrete}
-use lib.ListN.{length, getD}
-use Rattle.model.specs.Base.{In, here}
-use Rattle.model.specs.Table.{Tables, size, rowOf, isMissing}
+use lib.ListN.{length}
+use Rattle.model.specs.Table.{Tables, size, isMissing}
 use Rattle.model.specs.Sound.{isT1, isT2, isT3, isT4, isT5, isT6, isT7, isT8, contextsFit, contextsFew, isSound, isNearlySound}
-use Rattle.model.specs.TableFacts.{Core, Tidy, Known, Missing, Whole, Few, Open, Held, Shaped, HandFits}
+use Rattle.model.specs.TableFacts.{Core, Tidy, Known, Missing, Whole, Few}
 use Rattle.model.proofs.Laws.Tests.{both-true, true-both}
 use Rattle.model.proofs.Laws.Phase.{Phase, idle, holding, filling, Nearly, Sounds}
 use Rattle.model.proofs.Laws.ReflectRows.{T1Facts, rows-of, rows-back}
-use Rattle.model.proofs.Laws.ReflectTable.{held-of, held-back, known-of, known-back, missing-of, missing-back, few-of, few-back, few-missing, shaped-of, shaped-back, six-missing, hand-of, hand-back, seven-none, open-of, open-back, idle-of, idle-back}
+use Rattle.model.proofs.Laws.ReflectTable.{held-of, held-back, known-of, missing-of, few-of, few-back, few-missing, shaped-of, shaped-back, six-missing, hand-of, hand-back, seven-none, open-of, open-back, idle-of, idle-back}
 
 missing-or-known : (x : Tables) → Missing x ⊎ Known x
 missing-or-known x = go (isMissing x) refl

@@ -1,38 +1,38 @@
 -- A taken offer or answer on any sound tables: its mark is stored, then the step ends short, asking or proposing, and what it leaves is nearly sound.
 -- The search in hand and the settling of the table were followed before; here their ends are put together.
-use mathlib.Core.Path.{_≡_, refl, sym, ap, _∙_, subst}
+use mathlib.Core.Path.{_≡_, refl, sym, ap, _∙_}
 use mathlib.Core.Logic.{_≢_, _⊎_, inl, inr}
-use mathlib.Core.Bool.{Bool, true, false, _&&_, _||_, not, cond, true≢false}
-use mathlib.Core.List.{List, [], _∷_, _++_}
-use mathlib.Core.Option.{Option, none, some}
-use Prim.Native.Nat.{ℕ, zero, suc, _+_, _-_, _≤_, _<_}
+use mathlib.Core.Bool.{Bool, true, false, _&&_, not, cond, true≢false}
+use mathlib.Core.List.{List, []}
+use mathlib.Core.Option.{none, some}
+use Prim.Native.Nat.{ℕ, zero, suc, _+_, _-_, _≤_}
 use native.Mathlib.Omega.{arith}
-use native.Mathlib.Decide.{ℕ-discrete}
-use lib.Dec.{ltb, leb, eqb}
-use borrow.Author.Tests.{eqb-true, eqb-false, ne-eqb, eq-eqb, leb-true}
+use lib.Dec.{eqb}
+use borrow.Author.Tests.{eqb-true, eqb-false, ne-eqb, eq-eqb, leb-true, not-true, not-false}
 use lib.ListN.{length, getD, set}
 use lib.Seq.{getD-set-same, getD-set-other}
 use Rattle.model.specs.Limits.{mostRules}
-use Rattle.model.specs.Base.{In, each-nil}
+use Rattle.model.specs.Base.{each-nil}
 use Rattle.model.specs.Store.{Store, used, Extends, Built, full, built}
-use Rattle.model.specs.Terms.{Tree, treeAt, treeOf, treeWith, holeTree, evalFrom, storeFrom, knownFrom, knownRow, recordFault, orElse, unless}
+use Rattle.model.specs.Terms.{treeAt, treeOf, treeWith, holeTree, evalFrom, storeFrom, knownFrom, knownRow, recordFault, orElse, unless}
 use Rattle.model.specs.Automata.{leads, isFinal, acceptsList, runFrom, isYes, Verdict, gives, stuck}
-use Rattle.model.specs.Table.{Tables, tables, size, answerAt, rowOf, rulesOf, automatonOf}
-use Rattle.model.specs.Steps.{Shortage, ofRows, ofStates, ofTransitions, Ended, short, asks, proposes, blanked, settled, searched, search, advance, takenBy, offered, answered}
+use Rattle.model.specs.Table.{Tables, tables, answerAt, rowOf, rulesOf, automatonOf}
+use Rattle.model.specs.Steps.{Shortage, ofRows, ofTransitions, Ended, short, asks, proposes, blanked, settled, searched, search, advance, takenBy, offered, answered}
 use Rattle.model.specs.Facts.{Good, IsRecord, Parses}
-use Rattle.model.specs.TableFacts.{Core, Tidy, Known, Missing, Whole, Few, Open, HandFits, proposedVerdict}
+use Rattle.model.specs.TableFacts.{Core, Tidy, Whole, Few, Open, HandFits, proposedVerdict}
 use Rattle.model.specs.Calls.{isAsking, isProposing, markFits, contradicts, verdictIs, offerFault, answerFault}
 use Rattle.model.specs.Promise.{RowsShort}
-use Rattle.model.proofs.Laws.Phase.{Phase, idle, holding, filling, Nearly, Sounds}
-use Rattle.model.proofs.Laws.Trees.{recordFault-parses, parsed-as-tree}
+use Rattle.model.proofs.Laws.Tests.{both-true}
+use Rattle.model.proofs.Laws.Fill.{ext-refl, ext-trans}
+use Rattle.model.proofs.Laws.Trees.{recordFault-parses}
+use Rattle.model.proofs.Laws.Listed.{stored}
 use Rattle.model.proofs.Laws.Verdict.{ended, run-state}
-use Rattle.model.proofs.Laws.Fill.{ext-refl}
-use Rattle.model.proofs.Laws.Listed.{Stored, stored}
 use Rattle.model.proofs.Laws.Short.{store-full}
-use Rattle.model.proofs.Laws.Settle.{Keeps, ShortOk, short-rows, short-keeps, AskedEnd, ProposedEnd, SettledOk, ok-short, ok-asks, ok-proposes, settled-ok, past}
+use Rattle.model.proofs.Laws.Settle.{Keeps, ShortOk, short-keeps, SettledOk, ok-short, ok-asks, ok-proposes, settled-ok, past, blanked-length}
 use Rattle.model.proofs.Laws.Advance.{PutDown, HandOk, hand-short, hand-rules, hand-asks, hand-down}
 use Rattle.model.proofs.Laws.Offer.{offer-ok, its-answer}
-use Rattle.model.proofs.Laws.Answer.{answered-core, answered-tidy, answered-whole, answer-hand-ok}
+use Rattle.model.proofs.Laws.Answer.{answered-core, answered-tidy, answer-hand-ok}
+use Rattle.model.proofs.Laws.Phase.{idle, holding, filling, Nearly}
 
 -- FAULTS that are not there
 pub or-zero : (n m : ℕ) → orElse n m ≡ 0 → (n ≡ 0) × (m ≡ 0)
@@ -46,14 +46,6 @@ pub unless-true : (z : Bool) (n : ℕ) → n ≢ 0 → unless z n ≡ 0 → z �
 unless-true true n d e = refl
 unless-true false n d e = absurd (d e)
 
-flip : (z : Bool) → not z ≡ true → z ≡ false
-flip true e = absurd (true≢false (sym e))
-flip false e = refl
-
-split-and : (a b : Bool) → a && b ≡ true → (a ≡ true) × (b ≡ true)
-split-and true b e = (refl, e)
-split-and false b e = absurd (true≢false (sym e))
-
 -- what an offer that no line refuses brings
 pub record Offering (x : Tables) (xs : List ℕ) (m : ℕ) : Type 0 where
   pub idle-now : x .asked ≡ 0
@@ -66,12 +58,8 @@ pub record Offering (x : Tables) (xs : List ℕ) (m : ℕ) : Type 0 where
 
 pub proposing-of : (x : Tables) → isProposing x ≡ true → (x .asked ≡ 0) × (x .accepted ≡ false)
 proposing-of x e =
-    let p = split-and (not (isAsking x)) (not (x .accepted)) e in
-    (eqb-true (x .asked) 0 (unnot (eqb (x .asked) 0) (flip (isAsking x) (p .0))), flip (x .accepted) (p .1))
-  where
-    unnot : (z : Bool) → not z ≡ false → z ≡ true
-    unnot true q = refl
-    unnot false q = absurd (true≢false q)
+    let p = both-true (not (isAsking x)) (not (x .accepted)) e in
+    (eqb-true (x .asked) 0 (not-false (eqb (x .asked) 0) (not-true (isAsking x) (p .0))), not-true (x .accepted) (p .1))
 
 verdict-other : (b : Bool) (m : ℕ) → m ≤ 1 → eqb (cond b 1 0) m ≡ false → b ≡ not (eqb (m + 1) 2)
 verdict-other true zero l e = refl
@@ -107,8 +95,8 @@ offering x xs m e =
     let p = proposing-of x (unless-true (isProposing x) 31 (λ q. omega arith) (a .0)) in
     let ps = recordFault-parses (x .store .counts) xs (b .0) .0 in
     let l = leb-true m 1 (unless-true (markFits m) 16 (λ q. omega arith) (c .0)) in
-    let v = flip (verdictIs x xs m) (unless-true (not (verdictIs x xs m)) 32 (λ q. omega arith) (d .0)) in
-    let w = flip (contradicts (answerAt (x .answers) (knownRow (x .store) xs)) m) (unless-true (not (contradicts (answerAt (x .answers) (knownRow (x .store) xs)) m)) 33 (λ q. omega arith) (d .1)) in
+    let v = not-true (verdictIs x xs m) (unless-true (not (verdictIs x xs m)) 32 (λ q. omega arith) (d .0)) in
+    let w = not-true (contradicts (answerAt (x .answers) (knownRow (x .store) xs)) m) (unless-true (not (contradicts (answerAt (x .answers) (knownRow (x .store) xs)) m)) 33 (λ q. omega arith) (d .1)) in
     record {
       idle-now = p .0;
       running = p .1;
@@ -122,7 +110,7 @@ offering x xs m e =
 pub answering : (x : Tables) (m : ℕ) → answerFault x m ≡ 0 → (x .asked ≢ 0) × (m ≤ 1)
 answering x m e =
     let a = or-zero (unless (isAsking x) 31) (unless (markFits m) 16) e in
-    (eqb-false (x .asked) 0 (flip (eqb (x .asked) 0) (unless-true (isAsking x) 31 (λ q. omega arith) (a .0))), leb-true m 1 (unless-true (markFits m) 16 (λ q. omega arith) (a .1)))
+    (eqb-false (x .asked) 0 (not-true (eqb (x .asked) 0) (unless-true (isAsking x) 31 (λ q. omega arith) (a .0))), leb-true m 1 (unless-true (markFits m) 16 (λ q. omega arith) (a .1)))
 
 -- A STEP from tables whose mark is stored: by hand, or by settling
 pub data StepOk (x : Tables) : Ended → Type 0 where
@@ -143,7 +131,7 @@ settled-left x y h (inr (ok-proposes q g)) =
 
 keeps-trans : (x y z : Tables) → Keeps x y → Keeps y z → Keeps x z
 keeps-trans x y z a b =
-    record { ext = Rattle.model.proofs.Laws.Fill.ext-trans (x .store) (y .store) (z .store) (a .ext) (b .ext); answers = λ i. b .answers i ∙ a .answers i }
+    record { ext = ext-trans (x .store) (y .store) (z .store) (a .ext) (b .ext); answers = λ i. b .answers i ∙ a .answers i }
 
 down-left : (x z y : Tables) → PutDown x z → Left z y → Left x y
 down-left x z y p l = record { nearly = l .nearly; keeps = keeps-trans x z y (p .keeps) (l .keeps); running = l .running }
@@ -212,7 +200,7 @@ module _ (x : Tables) (f : Whole x) (d : Tidy x) (w : Few x) (xs : List ℕ) (m 
   marked-at i y e =
       let g = f .core .good in
       let st = stored xs (x .store) g 0 [] each-nil refl (o .parsed) i y e in
-      let bl = Rattle.model.proofs.Laws.Settle.blanked-length (x .store) y (x .answers) (f .core .counted) (st .ext .more) in
+      let many = blanked-length (x .store) y (x .answers) (f .core .counted) (st .ext .more) in
       let u = st .is-record .within in
       let p = past (x .answers) (used y - used (x .store)) in
       let q = its-answer x f xs (o .parsed) (m + 1) (mark-some m) (mark-small m (o .mark)) (o .agrees) (o .other-verdict) i y e in (

@@ -1,21 +1,19 @@
 -- What a taken call did to sound tables, call by call: the mark that it stored and how its step ended, or nothing but the flag. What it leaves is nearly sound.
 -- An outcome that leaves tables comes from a step that asks or proposes; the rest are the calls that change no row.
-use mathlib.Core.Path.{_≡_, refl, sym, ap, _∙_, subst}
+use mathlib.Core.Path.{_≡_, refl, sym, _∙_, subst}
 use mathlib.Core.Logic.{_≢_, _⊎_, inl, inr}
-use mathlib.Core.Bool.{Bool, true, false, not, cond, true≢false}
-use mathlib.Core.List.{List, [], _∷_}
-use Prim.Native.Nat.{ℕ, zero, suc, _+_, _≤_, _<_}
+use mathlib.Core.Bool.{true, false}
+use mathlib.Core.List.{List}
+use Prim.Native.Nat.{ℕ, _+_, _≤_}
 use native.Mathlib.Omega.{arith}
-use native.Mathlib.Decide.{ℕ-discrete}
-use lib.Dec.{eqb}
-use Rattle.model.specs.Terms.{treeAt, treeOf, unless}
+use Rattle.model.specs.Terms.{treeAt, treeOf}
 use Rattle.model.specs.Table.{Tables, tables}
-use Rattle.model.specs.Steps.{Shortage, ofRows, Ended, short, asks, proposes, shortageNumber, offered, answered}
+use Rattle.model.specs.Steps.{Ended, short, asks, proposes, offered, answered}
 use Rattle.model.specs.TableFacts.{Core, Tidy, Missing, Whole, Few, Open}
-use Rattle.model.specs.Calls.{Call, offers, answers, accept, looks, emits, Outcome, refuses, leaves, endOf, doneBy, faultOf, acceptFault, isProposing}
+use Rattle.model.specs.Calls.{Call, offers, answers, accept, looks, emits, leaves, endOf, doneBy, faultOf, isProposing}
+use Rattle.model.proofs.Laws.Flags.{core-flags, whole-flags, tidy-flags}
 use Rattle.model.proofs.Laws.Phase.{Phase, idle, holding, filling, Nearly, Sounds}
-use Rattle.model.proofs.Laws.Settle.{Keeps}
-use Rattle.model.proofs.Laws.Step.{Offering, offering, answering, StepOk, Left, step-left, Marked, OfferOk, no-rows, stored-at, offer-taken, AnswerOk, answer-held, answer-filling, proposing-of, unless-true}
+use Rattle.model.proofs.Laws.Step.{Offering, offering, answering, StepOk, Left, step-left, Marked, OfferOk, stored-at, offer-taken, AnswerOk, answer-held, answer-filling, proposing-of, unless-true}
 
 -- the tables with which a step ends
 pub data EndsIn (y : Tables) : Ended → Type 0 where
@@ -97,25 +95,10 @@ module _ (x : Tables) (s : Sounds x) where
   accepted-nearly : x .asked ≡ 0 → Nearly (tables (x .store) (x .answers) (x .s) (x .t) (x .c) (x .hand) (x .asked) true)
   accepted-nearly a =
       let n = s .nearly in
-      let k = n .core in
-      let d = n .tidy in
-      let w = idle-facts x s a .0 in
       record {
-        core = record { good = k .good; counted = k .counted; first = k .first; bound = k .bound; held = k .held };
-        tidy =
-            record {
-              alphabet = d .alphabet;
-              blank = d .blank;
-              few-t = d .few-t;
-              few-s = d .few-s;
-              some-c = d .some-c;
-              hole-first = d .hole-first;
-              one-c = d .one-c;
-              few-c = d .few-c;
-            };
-        phase =
-            idle a (hand-none (n .phase))
-            (record { core = record { good = k .good; counted = k .counted; first = k .first; bound = k .bound; held = k .held }; known = w .known; shaped = w .shaped; hole-in = w .hole-in });
+        core = core-flags x (n .core) (x .hand) (x .asked) true;
+        tidy = tidy-flags x (n .tidy) (x .hand) (x .asked) true;
+        phase = idle a (hand-none (n .phase)) (whole-flags x (idle-facts x s a .0) (x .hand) (x .asked) true);
       }
     where
       hand-none : Phase x → x .hand ≡ 0

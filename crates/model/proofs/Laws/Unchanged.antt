@@ -1,22 +1,22 @@
--- Where T at C has the same answers, the table is whole as before, and the automaton is the same.
+-- Where T at C has the same answers, the table is whole as before and proposes the same automaton.
+-- The rows of answers are the same, and rules and finals are made of them and of rows that are kept.
 use mathlib.Core.Path.{_≡_, refl, sym, ap, _∙_, subst}
-use mathlib.Core.Logic.{_≢_, _⊎_}
-use mathlib.Core.Bool.{false, _&&_, _||_}
-use mathlib.Core.List.{List, [], _∷_, _++_, map}
-use Prim.Native.Nat.{ℕ, suc, _+_, _*_, _-_, _≤_, _<_}
+use mathlib.Core.Bool.{false}
+use mathlib.Core.List.{List, [], _∷_, map}
+use Prim.Native.Nat.{ℕ, suc, _-_, _<_}
 use native.Mathlib.Omega.{arith}
 use lib.ListN.{getD}
-use Rattle.model.proofs.Laws.Rows.{kids-ext, symbol-ext}
-use Rattle.model.proofs.Laws.Down.{round-trip}
-use Rattle.model.proofs.Laws.Held.{Blank, answer-ext}
-use Rattle.model.proofs.Laws.Turn.{answers-same}
-use Rattle.model.proofs.Laws.Settle.{blank-is, past, blanked-length}
 use Rattle.model.specs.Base.{Each, In, here, later, placeOf, same}
 use Rattle.model.specs.Store.{Extends, Frame, Store, filledRow, kidsAt, symbolAt, used}
 use Rattle.model.specs.Table.{Tables, answerIn, answersOf, ruleOf, rulesOf, stateFrom, tables}
 use Rattle.model.specs.Steps.{blanked}
 use Rattle.model.specs.Facts.{Good, IsContext, IsRecord, Leads, fits-nil}
-use Rattle.model.specs.TableFacts.{Whole, Core, Full, Held, Known, Shaped}
+use Rattle.model.specs.TableFacts.{Whole, Core, Full, Held, Shaped}
+use Rattle.model.proofs.Laws.Rows.{kids-ext, symbol-ext, record-ext, context-ext}
+use Rattle.model.proofs.Laws.Down.{round-trip}
+use Rattle.model.proofs.Laws.Held.{Blank, answer-ext}
+use Rattle.model.proofs.Laws.Turn.{answers-same}
+use Rattle.model.proofs.Laws.Settle.{blank-is, past, blanked-length}
 
 -- THE AUTOMATON is the same where rows were added
 state-same : (r r' : ℕ → List ℕ) (v : List ℕ) (n : ℕ) (ss : List ℕ) → ((k : ℕ) → In k ss → r' k ≡ r k) → stateFrom r' v n ss ≡ stateFrom r v n ss
@@ -93,20 +93,20 @@ module _ (x y : Store) (g : Good x) (g' : Good y) (e : Extends x y) (w w' s t cs
 
 -- ROWS STORED
 module _ (x : Tables) (f : Whole x) (y : Store) (g' : Good y) (e : Extends (x .store) y) (hand : ℕ) where
-  kk : Core x
-  kk = f .core
+  core : Core x
+  core = f .core
 
-  bl : Blank (x .store) (x .answers) (blanked (x .store) y (x .answers))
-  bl = blank-is (x .store) y (x .answers) (kk .counted) (kk .first)
+  blank-rows : Blank (x .store) (x .answers) (blanked (x .store) y (x .answers))
+  blank-rows = blank-is (x .store) y (x .answers) (core .counted) (core .first)
 
   grown-at : (i c : ℕ) → In i (x .t) → In c (x .c) → answerIn y (blanked (x .store) y (x .answers)) c i ≡ answerIn (x .store) (x .answers) c i
-  grown-at i c a b = answer-ext (x .store) y (kk .good) g' e (x .answers) (blanked (x .store) y (x .answers)) bl c i (kk .held .context c b) (kk .held .row i a)
+  grown-at i c a b = answer-ext (x .store) y (core .good) g' e (x .answers) (blanked (x .store) y (x .answers)) blank-rows c i (core .held .context c b) (core .held .row i a)
 
-  up' : (i : ℕ) → IsRecord (x .store) i → IsRecord y i
-  up' i q = Rattle.model.proofs.Laws.Held.record-ext (x .store) y (kk .good) g' e (x .answers) (blanked (x .store) y (x .answers)) bl i q
+  record-up : (i : ℕ) → IsRecord (x .store) i → IsRecord y i
+  record-up i q = record-ext (x .store) y (core .good) e i q
 
-  ctx' : (i : ℕ) → IsContext (x .store) i → IsContext y i
-  ctx' i q = Rattle.model.proofs.Laws.Held.context-ext (x .store) y (kk .good) g' e (x .answers) (blanked (x .store) y (x .answers)) bl i q
+  context-up : (i : ℕ) → IsContext (x .store) i → IsContext y i
+  context-up i q = context-ext (x .store) y (core .good) e i q
 
   pub stored-whole : Whole (tables y (blanked (x .store) y (x .answers)) (x .s) (x .t) (x .c) hand 0 false)
   stored-whole =
@@ -114,15 +114,15 @@ module _ (x : Tables) (f : Whole x) (y : Store) (g' : Good y) (e : Extends (x .s
         core =
             record {
               good = g';
-              counted = blanked-length (x .store) y (x .answers) (kk .counted) (e .more);
-              first = past (x .answers) (used y - used (x .store)) 0 ∙ kk .first;
-              bound = λ n. rw (past (x .answers) (used y - used (x .store)) n) (kk .bound n);
-              held = held-same (x .store) y (kk .good) g' e (x .answers) (blanked (x .store) y (x .answers)) (x .s) (x .t) (x .c) (kk .held) grown-at up' ctx';
+              counted = blanked-length (x .store) y (x .answers) (core .counted) (e .more);
+              first = past (x .answers) (used y - used (x .store)) 0 ∙ core .first;
+              bound = λ n. rw (past (x .answers) (used y - used (x .store)) n) (core .bound n);
+              held = held-same (x .store) y (core .good) g' e (x .answers) (blanked (x .store) y (x .answers)) (x .s) (x .t) (x .c) (core .held) grown-at record-up context-up;
             };
         known = λ i c a b z. f .known i c a b (sym (grown-at i c a b) ∙ z);
-        shaped = shaped-same (x .store) y (kk .good) g' e (x .answers) (blanked (x .store) y (x .answers)) (x .s) (x .t) (x .c) (kk .held) grown-at up' ctx' (f .shaped);
+        shaped = shaped-same (x .store) y (core .good) g' e (x .answers) (blanked (x .store) y (x .answers)) (x .s) (x .t) (x .c) (core .held) grown-at record-up context-up (f .shaped);
         hole-in = f .hole-in;
       }
 
   pub stored-rules : rulesOf y (answersOf y (blanked (x .store) y (x .answers)) (x .c)) (x .s) (x .t) ≡ rulesOf (x .store) (answersOf (x .store) (x .answers) (x .c)) (x .s) (x .t)
-  stored-rules = rules-kept (x .store) y (kk .good) g' e (x .answers) (blanked (x .store) y (x .answers)) (x .s) (x .t) (x .c) (kk .held) grown-at up' ctx'
+  stored-rules = rules-kept (x .store) y (core .good) g' e (x .answers) (blanked (x .store) y (x .answers)) (x .s) (x .t) (x .c) (core .held) grown-at record-up context-up

@@ -5,18 +5,26 @@ use mathlib.Core.Logic.{_≢_, _⊎_, inl, inr}
 use mathlib.Core.Bool.{Bool, true, false, cond, true≢false, and-eq-true-iff}
 use mathlib.Core.List.{List, [], _∷_, map, map-map}
 use mathlib.Core.Option.{Option, none, some}
-use Prim.Native.Nat.{ℕ, zero, suc, _+_, _<_}
+use Prim.Native.Nat.{ℕ, suc, _+_, _<_}
 use native.Mathlib.Omega.{arith}
 use lib.Dec.{eqb}
 use lib.ListN.{length, getD, take, drop, length-drop, length-map}
 use borrow.Author.Tests.{eqb-true}
-use Rattle.model.specs.Base.{same, backwards, top, In, here, later}
-use Rattle.model.specs.Store.{Store, used, symbolAt, kidsAt}
+use Rattle.model.specs.Base.{same, top, In, here, later}
+use Rattle.model.specs.Store.{Store, used, symbolAt, kidsAt, Extends}
 use Rattle.model.specs.Terms.{Tree, tree, Forest, evalTree, evalForest, Within, itself, below, Among, first, next, treeAt, evalFrom, treeOf, recordFault}
 use Rattle.model.specs.Automata.{Rule, Automaton, hasLeftSide, ruleFrom, targetIn, statesOf, ledBy, leads, isFinal, stateOf, accepts, usedBy, ruleAtRoot, rowState, acceptsRow, Verdict, gives, stuck, goOn, runFrom, isYes, acceptsList}
 use Rattle.model.specs.Facts.{Good, Parses, parsed, parses}
-use Rattle.model.proofs.Laws.Fold.{map-below, earlier}
-use Rattle.model.proofs.Laws.Trees.{tree-eq, eval-forest, rows-as-trees, map-drop, map-top, parsed-as-tree, recordFault-parses}
+use Rattle.model.proofs.Laws.Tests.{same-eq}
+use Rattle.model.proofs.Laws.Lists.{map-below}
+use Rattle.model.proofs.Laws.Stack.{map-drop, map-top, in-backwards, in-parts}
+use Rattle.model.proofs.Laws.Fold.{earlier}
+use Rattle.model.proofs.Laws.Rows.{fold-ext}
+use Rattle.model.proofs.Laws.Trees.{tree-eq, eval-forest, rows-as-trees, parsed-as-tree, recordFault-parses}
+
+-- a row's state stays where rows are added
+pub state-ext : (rs : List Rule) (x y : Store) → Good x → Extends x y → (i : ℕ) → i < used x → rowState rs x i ≡ rowState rs y i
+state-ext rs x y g e i u = fold-ext (λ (j a : ℕ) (os : List (Option ℕ)). leads rs a os) none x y g e i u
 
 -- STATES of children: all are there, or none is given
 states-some : (qs : List ℕ) → statesOf (map some qs) ≡ some qs
@@ -28,26 +36,6 @@ states-none : (os : List (Option ℕ)) → In none os → statesOf os ≡ none
 unfolding statesOf
 states-none (none ∷ os) m = refl
 states-none (some q ∷ os) (later m) = rw (states-none os m)
-
--- a member of a stack goes to the children, or stays behind
-in-rest : {A : Type 0} {v : A} (xs ys : List A) → In v ys → In v (backwards xs ys)
-unfolding backwards
-in-rest [] ys m = m
-in-rest (x ∷ xs) ys m = in-rest xs (x ∷ ys) (later m)
-
-in-backwards : {A : Type 0} {v : A} (xs ys : List A) → In v xs → In v (backwards xs ys)
-unfolding backwards
-in-backwards (x ∷ xs) ys here = in-rest xs (x ∷ ys) here
-in-backwards (x ∷ xs) ys (later m) = in-backwards xs (x ∷ ys) m
-
-in-parts : {A : Type 0} {v : A} (n : ℕ) (xs : List A) → In v xs → In v (take n xs) ⊎ In v (drop n xs)
-in-parts zero xs m = inr m
-in-parts (suc n) (x ∷ xs) here = inl here
-in-parts {v = v} (suc n) (x ∷ xs) (later m) = go (in-parts n xs m)
-  where
-    go : In v (take n xs) ⊎ In v (drop n xs) → In v (x ∷ take n xs) ⊎ In v (drop n xs)
-    go (inl l) = inl (later l)
-    go (inr r) = inr r
 
 -- LISTED RECORDS: once a state is missing, the whole record has none
 module _ (rs : List Rule) (ns : List ℕ) where
@@ -121,17 +109,6 @@ module _ (d : Automaton) where
         ap (ruleAtRoot d) (tree-eq x w i u) ∙ ap (λ (os : List (Option ℕ)). usedBy (d .rules) (symbolAt x i) (statesOf os)) e
 
 -- RULES: a left side has a target where it has a place, and its place holds it
-same-eq : (xs ys : List ℕ) → same xs ys ≡ true → xs ≡ ys
-unfolding same
-same-eq [] [] e = refl
-same-eq [] (y ∷ ys) e = absurd (true≢false (sym e))
-same-eq (x ∷ xs) [] e = absurd (true≢false (sym e))
-same-eq (x ∷ xs) (y ∷ ys) e =
-    let p = and-eq-true-iff (eqb x y) (same xs ys) .0 e in
-    let q = eqb-true x y (p .0) in
-    let r = same-eq xs ys (p .1) in
-    cc
-
 module _ (a : ℕ) (qs : List ℕ) where
   pub target-rule : (n : ℕ) (rs : List Rule) → targetIn a qs rs ≢ none → ruleFrom n a qs rs ≢ none
   unfolding targetIn ruleFrom
@@ -140,16 +117,6 @@ module _ (a : ℕ) (qs : List ℕ) where
     where
       go : (b : Bool) → cond b (some (r .target)) (targetIn a qs rs) ≢ none → (targetIn a qs rs ≢ none → ruleFrom (suc n) a qs rs ≢ none) →
           cond b (some n) (ruleFrom (suc n) a qs rs) ≢ none
-      go true s ih = λ e. let z : _≡_ {A = ℕ} 0 1 = cc in omega arith
-      go false s ih = ih s
-
-  pub rule-target : (n : ℕ) (rs : List Rule) → ruleFrom n a qs rs ≢ none → targetIn a qs rs ≢ none
-  unfolding targetIn ruleFrom
-  rule-target n [] t = t
-  rule-target n (r ∷ rs) t = go (hasLeftSide a qs r) t (rule-target (suc n) rs)
-    where
-      go : (b : Bool) → cond b (some n) (ruleFrom (suc n) a qs rs) ≢ none → (ruleFrom (suc n) a qs rs ≢ none → targetIn a qs rs ≢ none) →
-          cond b (some (r .target)) (targetIn a qs rs) ≢ none
       go true s ih = λ e. let z : _≡_ {A = ℕ} 0 1 = cc in omega arith
       go false s ih = ih s
 
@@ -180,17 +147,9 @@ module _ (d : Automaton) where
   ruled a none t = t
   ruled a (some qs) t = target-rule a qs 0 (d .rules) t
 
-  led : (a : ℕ) (o : Option (List ℕ)) → usedBy (d .rules) a o ≢ none → ledBy (d .rules) a o ≢ none
-  led a none t = t
-  led a (some qs) t = rule-target a qs 0 (d .rules) t
-
   pub state-rule : (t : Tree) → stateOf d t ≢ none → ruleAtRoot d t ≢ none
   unfolding evalTree
   state-rule (tree a ts) s = ruled a (statesOf (evalForest (leads (d .rules)) ts)) s
-
-  pub rule-state : (t : Tree) → ruleAtRoot d t ≢ none → stateOf d t ≢ none
-  unfolding evalTree
-  rule-state (tree a ts) s = led a (statesOf (evalForest (leads (d .rules)) ts)) s
 
   first-none : (o : Option ℕ) (os : List (Option ℕ)) → o ≡ none → statesOf (o ∷ os) ≡ none
   first-none o os e = states-none (o ∷ os) (rw e here)

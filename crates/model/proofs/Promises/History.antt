@@ -6,18 +6,19 @@ use mathlib.Core.List.{List, [], _∷_}
 use Prim.Native.Nat.{ℕ, zero, suc, _<_}
 use lib.ListN.{getD, List·getD-map}
 use Rattle.model.specs.Base.{In}
-use Rattle.model.specs.declared.Lists.{Lists}
 use Rattle.model.specs.Table.{Tables, answerAt, rowOf, ruleOf, automatonOf}
 use Rattle.model.specs.TableFacts.{Core}
-use Rattle.model.specs.Entry.{startNumber}
 use Rattle.model.specs.Calls.{Call}
+use Rattle.model.specs.Entry.{startNumber}
 use Rattle.model.specs.Run.{Lent, meant, startedRun, afterCall, after, Said, saidIn, offeredBy, heardIn}
 use Rattle.model.specs.Promise.{Holds, AnswersTaken, AskedOnce, VouchedFor, Vouched}
-use Rattle.model.proofs.Laws.Lent.{start-back}
-use Rattle.model.proofs.Laws.Proposed.{length-rules}
+use Rattle.model.specs.declared.Lists.{Lists}
+use Rattle.model.proofs.Laws.Lists.{no-in, in-either}
 use Rattle.model.proofs.Laws.Verdict.{rule-within}
+use Rattle.model.proofs.Laws.Proposed.{length-rules}
+use Rattle.model.proofs.Laws.Lent.{start-back}
 use Rattle.model.proofs.Laws.RunStep.{fresh-start, run-after}
-use Rattle.model.proofs.Laws.History.{in-none, in-either, holds-none, HeardOf, asked-anew, FreshRun, run-spoken, run-core, run-next, holds-run, heard-run, yes-said}
+use Rattle.model.proofs.Laws.History.{holds-none, HeardOf, asked-anew, FreshRun, run-spoken, run-core, run-next, holds-run, heard-run, yes-said}
 
 module _ (ws ns : List ℕ) (old : Lists) (e : startNumber ws ns ≡ 0) where
   starts : FreshRun (startedRun ws ns old)
@@ -50,7 +51,7 @@ asked-once ws ns old ks k t e q h =
     f = runs ws ns old e ks
 
     go : In t (heardIn (startedRun ws ns old) ks) ⊎ In t (offeredBy l k) → HeardOf (meant l) t ⊎ In t (offeredBy l k)
-    go (inl m) = inl (heard-run (startedRun ws ns old) (starts ws ns old e) [] (λ u n. absurd (in-none n)) ks t m)
+    go (inl m) = inl (heard-run (startedRun ws ns old) (starts ws ns old e) [] (λ u n. absurd (no-in n)) ks t m)
     go (inr m) = inr m
 
 vouched-for : (x : Tables) → Core x → (es : List Said) → Holds x es → VouchedFor x es

@@ -1,22 +1,19 @@
--- Demand 3: whatever the calls, S and T grow with the records taken; and an automaton that agrees with all that was taken has at least as many states and rules.
+-- Demand 3 (§7.3): whatever the calls, S and T grow with the records taken; and an automaton that agrees with all that was taken has at least as many states and rules.
 -- By the invariant of Laws.Fresh along the list, and by two injections: representatives to states, transitions to rules. Assumes nothing.
-use mathlib.Core.Path.{_≡_, refl, sym, ap, _∙_, subst}
-use mathlib.Core.Logic.{_≢_, _⊎_, inl, inr}
-use mathlib.Core.Bool.{Bool, true, false, _&&_, cond}
-use mathlib.Core.List.{List, [], _∷_, _++_}
-use Prim.Native.Nat.{ℕ, zero, suc, _+_, _≤_, _<_}
+use mathlib.Core.Path.{_≡_, sym, ap, _∙_}
+use mathlib.Core.Bool.{Bool, true, false, cond}
+use Prim.Native.Nat.{ℕ, _+_, _≤_}
 use native.Mathlib.Omega.{arith}
 use lib.ListN.{length}
 use Rattle.model.specs.Table.{Tables, size}
-use Rattle.model.specs.Calls.{Call, isAsking}
-use Rattle.model.specs.Run.{Lent, meant, after, startedRun, taken, shown, shownBy}
-use Rattle.model.specs.Promise.{Grown, GrowsEach, Learnt, LearnsEach}
-use Rattle.model.specs.declared.Lists.{Lists}
+use Rattle.model.specs.Calls.{isAsking}
+use Rattle.model.specs.Run.{meant, after, startedRun, taken, shown, shownBy}
+use Rattle.model.specs.Promise.{GrowsEach, LearnsEach}
+use Rattle.model.proofs.Laws.Injections.{targets-in, representative-leads, representatives-apart, transition-uses, transitions-apart}
 use Rattle.model.proofs.Laws.Lent.{start-back}
 use Rattle.model.proofs.Laws.Fresh.{taken-le, core-of, taken-bound}
+use Rattle.model.proofs.Laws.RunStep.{fresh-start, run-after, run-grows}
 use Rattle.model.proofs.Laws.AgreeRun.{agree-run, agree-start}
-use Rattle.model.proofs.Laws.Injections.{targets-in, representative-leads, representatives-apart, transition-uses, transitions-apart}
-use Rattle.model.proofs.Laws.RunStep.{FreshLent, fresh-start, RunAfter, run-after, run-grows}
 
 pub grows-each : GrowsEach
 grows-each ws ns old ks e =

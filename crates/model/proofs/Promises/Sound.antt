@@ -1,11 +1,9 @@
 -- Fresh runs stay sound, and any call leaves sound tables nearly sound: what a taken call leaves is read back from the words and lists that it wrote.
 -- Along a fresh run goes the invariant of Laws.Fresh, which is sound in each of its three phases. Assumes nothing.
 use mathlib.Core.Path.{_≡_}
-use mathlib.Core.List.{List, [], _∷_}
-use mathlib.Core.Bool.{true, _&&_}
+use mathlib.Core.Bool.{true}
 use Prim.Native.Nat.{ℕ}
-use Rattle.model.specs.Calls.{Call}
-use Rattle.model.specs.Run.{Lent, meant, afterCall, after}
+use Rattle.model.specs.Run.{Lent, meant}
 use Rattle.model.specs.Promise.{isLentSound, StaysSound, StaysNearlySound}
 use Rattle.model.proofs.Laws.Tests.{true-both}
 use Rattle.model.proofs.Laws.Sounds.{facts-sound}

@@ -17,13 +17,13 @@ use Rattle.model.specs.Steps.{Shortage, shortageNumber, Ended, short, as
 use Rattle.model.specs.TableFacts.{Whole, HandFits, SearchEnd, ends-new, ends-unknown, ends-different}
 use Rattle.model.specs.Calls.{Call, offers, answers, accept, looks, emits, Outcome, refuses, leaves, numberOf, endOf, faultOf, doneBy, call}
 use Rattle.model.specs.Promise.{SearchEnds, RowsShort, StatesShort, Due, TakenWhenDue}
-use Rattle.model.proofs.Laws.Phase.{Phase, idle, holding, filling, Sounds}
-use Rattle.model.proofs.Laws.Sounds.{sound-facts}
-use Rattle.model.proofs.Laws.Faults.{fault-small}
-use Rattle.model.proofs.Laws.Unchanged.{full-of}
 use Rattle.model.proofs.Laws.Search.{in-hand-ends}
 use Rattle.model.proofs.Laws.Settle.{short-rows, short-states, short-keeps}
+use Rattle.model.proofs.Laws.Unchanged.{full-of}
+use Rattle.model.proofs.Laws.Phase.{Phase, idle, holding, filling, Sounds}
 use Rattle.model.proofs.Laws.Step.{offering, answering, StepOk, StepShort, short-of, short-rules, step-short, Marked, OfferOk, no-rows, stored-at, offer-taken}
+use Rattle.model.proofs.Laws.Faults.{fault-small}
+use Rattle.model.proofs.Laws.Sounds.{sound-facts}
 use Rattle.model.proofs.Laws.Took.{idle-facts, answer-ok}
 
 -- THE SEARCH: a record in hand on sound tables goes against the proposal

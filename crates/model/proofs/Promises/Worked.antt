@@ -1,14 +1,15 @@
--- The worked runs, by computation: each definition unfolds to its value. Assumes nothing.
-use mathlib.Core.Path.{_≡_, refl}
-use mathlib.Core.List.{List, [], _∷_}
+-- The worked runs, by computation.
+-- Each definition unfolds to its value. Assumes nothing.
+use mathlib.Core.Path.{refl}
+use mathlib.Core.List.{[], _∷_}
 use Rattle.model.specs.Base.{all, same, among, allAmong, noRepeats, anyTrue, countTrue, sum, placeOf, backwards}
 use Rattle.model.specs.Store.{foldFrom, findFrom, fill, filledRow, splitAt, downFrom}
 use Rattle.model.specs.Terms.{forest, evalTree, evalFrom, symbolsFault, storeFrom, knownFrom}
 use Rattle.model.specs.Automata.{ruleFrom, targetIn, hasLeft, leftsDiffer, statesOf, runFrom}
 use Rattle.model.specs.Table.{anyMissing, stateFrom}
 use Rattle.model.specs.Sound.{rowsFit, differKnown, allDiffer}
-use Rattle.model.specs.Listing.{little, valueOf, ruleBlocks, rulesFrom}
 use Rattle.model.specs.Steps.{searchFrom, seekIn, seek, grow}
+use Rattle.model.specs.Listing.{little, valueOf, ruleBlocks, rulesFrom}
 use Rattle.model.specs.Entry.{nodesIn, answersIn, rowWords}
 use Rattle.model.specs.Run.{after, saidIn}
 use Rattle.model.specs.Worked.{TheRun, Runs, PremisesHold}
