@@ -30,6 +30,7 @@ pub mod Injections
 pub mod Search
 pub mod Held
 pub mod Grow
+pub mod Renamed
 pub mod Turn
 pub mod Short
 pub mod Flags

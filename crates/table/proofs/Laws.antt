@@ -1,0 +1,6 @@
+-- The laws, in reading order: a file leans on those above it.
+pub mod Rows
+pub mod Left
+pub mod Gap
+pub mod Growth
+pub mod Tied

@@ -1,0 +1,35 @@
+-- A row of the table of answers: how long it is, its answers one by one, and what is left of it after some.
+-- By the laws of take, drop and getD: row k is the first m numbers from place 289 * k on.
+use mathlib.Core.Path.{_≡_, sym, ap, _∙_}
+use mathlib.Core.List.{List, [], _∷_}
+use Prim.Native.Nat.{ℕ, suc, _+_, _*_, _≤_, _<_}
+use native.Mathlib.Numerals.{add-one}
+use native.Mathlib.Omega.{arith}
+use lib.ListN.{length, getD, drop, length-drop, drop-of-length-le}
+use lib.Seq.{getD-take, getD-drop, length-take-le, drop-cons}
+use Rattle.model.specs.Limits.{mostRules, mostContexts}
+use Rattle.table.specs.Answers.{rowAt, Sized}
+
+pub row-at : (tb : List ℕ) (m k j : ℕ) → j < m → getD (rowAt tb m k) j 0 ≡ getD tb (mostContexts * k + j) 0
+row-at tb m k j l = getD-take m (drop (mostContexts * k) tb) j 0 l ∙ getD-drop (mostContexts * k) tb j 0
+
+pub row-length : (tb : List ℕ) (m k : ℕ) → mostContexts * k + m ≤ length tb → length (rowAt tb m k) ≡ m
+row-length tb m k h =
+    length-take-le m (drop (mostContexts * k) tb) (let e = length-drop (mostContexts * k) tb in omega arith)
+
+-- after the first j answers of a row
+pub row-more : (tb : List ℕ) (m k j : ℕ) → mostContexts * k + m ≤ length tb → j < m → drop j (rowAt tb m k) ≡ getD tb (mostContexts * k + j) 0 ∷ drop (j + 1) (rowAt tb m k)
+row-more tb m k j h l =
+    drop-cons (rowAt tb m k) j 0 (let e = row-length tb m k h in omega arith) ∙
+    ap (λ (v : ℕ). v ∷ drop (suc j) (rowAt tb m k)) (row-at tb m k j l) ∙
+    ap (λ (i : ℕ). getD tb (mostContexts * k + j) 0 ∷ drop i (rowAt tb m k)) (sym (add-one j))
+
+pub row-end : (tb : List ℕ) (m k j : ℕ) → mostContexts * k + m ≤ length tb → m ≤ j → drop j (rowAt tb m k) ≡ []
+row-end tb m k j h l = drop-of-length-le (rowAt tb m k) {i = j} (let e = row-length tb m k h in omega arith)
+
+-- each row stands within the table; what is within it holds at all its rows
+pub sized-whole : {tb : List ℕ} {n m : ℕ} → Sized tb n m → Sized tb mostRules m
+sized-whole z = record { long = z .long; few-t = omega arith; few-c = z .few-c }
+
+pub row-fits : (tb : List ℕ) (n m k : ℕ) → Sized tb n m → k < mostRules → mostContexts * k + m ≤ length tb
+row-fits tb n m k z l = omega arith

@@ -1,0 +1,162 @@
+// The table of answers (§1.5): rows compared, the state of a transition, the first unknown answer, the growth of S.
+// A row is 289 bytes, one for each context; transitions and representatives are places in T. Proved equal to model's Table and Steps.
+ghost use mathlib.Core.Path.{_≡_};
+ghost use Prim.Native.Nat.{ℕ, _+_, _*_, _<_, _≤_};
+ghost use lib.ListN.{length, getD, take};
+ghost use Rattle.model.specs.Base.{same, among};
+ghost use Rattle.model.specs.Sound.{differKnown};
+ghost use Rattle.table.specs.Answers.{rowAt, Sized, unknownIn, placeBy, gapFrom, stateAt, growAt, grownBy};
+use model::State;
+
+// Whether two transitions have the same answers at the first `contexts` contexts.
+pub fn same_rows(table: &[u8; 73984], contexts: usize, a: usize, b: usize) -> bool
+    requires { ⌜ Sized (now table) 256 contexts × (a < 256) × (b < 256) ⌝ }
+    ensures { λ r. ⌜ r ≡ same (rowAt (now (table .entry)) contexts a) (rowAt (now (table .entry)) contexts b) ⌝ }
+{
+    let mut j = 0;
+    while j < contexts {
+        if table[289 * a + j] != table[289 * b + j] {
+            return false;
+        }
+        j += 1;
+    }
+    true
+}
+
+// Whether two transitions differ at a context where both answers are known.
+pub fn differ_known(table: &[u8; 73984], contexts: usize, a: usize, b: usize) -> bool
+    requires { ⌜ Sized (now table) 256 contexts × (a < 256) × (b < 256) ⌝ }
+    ensures { λ r. ⌜ r ≡ differKnown (rowAt (now (table .entry)) contexts a) (rowAt (now (table .entry)) contexts b) ⌝ }
+{
+    let mut j = 0;
+    while j < contexts {
+        let v = table[289 * a + j];
+        let w = table[289 * b + j];
+        if v != 0 {
+            if w != 0 {
+                if v != w {
+                    return true;
+                }
+            }
+        }
+        j += 1;
+    }
+    false
+}
+
+// Whether a transition has an answer at some context: 2 for a yes, 0 for an unknown one.
+pub fn has_answer(table: &[u8; 73984], contexts: usize, a: usize, answer: u8) -> bool
+    requires { ⌜ Sized (now table) 256 contexts × (a < 256) ⌝ }
+    ensures { λ r. ⌜ r ≡ among answer (rowAt (now (table .entry)) contexts a) ⌝ }
+{
+    let mut j = 0;
+    while j < contexts {
+        if table[289 * a + j] == answer {
+            return true;
+        }
+        j += 1;
+    }
+    false
+}
+
+// The first unknown answer, if any: the transition's place in T and the context's place in C.
+pub enum Gap {
+    Closed,
+    At(u16, u16),
+}
+
+// The place of the first unknown answer of one transition; `contexts` for none.
+fn first_in(table: &[u8; 73984], contexts: usize, a: usize) -> usize
+    requires { ⌜ Sized (now table) 256 contexts × (a < 256) ⌝ }
+    ensures { λ r. ⌜ r ≡ placeBy contexts (unknownIn (rowAt (now (table .entry)) contexts a) 0) ⌝ }
+{
+    let mut j = 0;
+    while j < contexts {
+        if table[289 * a + j] == 0 {
+            return j;
+        }
+        j += 1;
+    }
+    contexts
+}
+
+// Transitions in order, and for each the contexts in order (§4.2).
+pub fn first_unknown(table: &[u8; 73984], rules: usize, contexts: usize) -> Gap
+    requires { ⌜ Sized (now table) rules contexts ⌝ }
+    ensures { λ r. ⌜ r ≡ gapFrom (now (table .entry)) contexts 0 rules ⌝ }
+{
+    let mut k = 0;
+    while k < rules {
+        let j = first_in(table, contexts, k);
+        if j < contexts {
+            return Gap::At(k as u16, j as u16);
+        }
+        k += 1;
+    }
+    Gap::Closed
+}
+
+// The state of a transition: the first representative with its row; past the last for none.
+pub fn state_of(
+    table: &[u8; 73984],
+    contexts: usize,
+    places: &[u16; 32],
+    states: usize,
+    a: usize,
+) -> State
+    requires { ⌜ Sized (now table) 256 contexts × (a < 256) × (states ≤ 32) × (length (now places) ≡ 32) × ((i : ℕ) → i < states → getD (now places) i 0 < 256) ⌝ }
+    ensures { λ r. ⌜ r .0 ≡ stateAt (now (table .entry)) contexts (take states (now (places .entry))) a ⌝ }
+{
+    let mut q = 0;
+    while q < states {
+        if same_rows(table, contexts, a, places[q] as usize) {
+            return State(q as u16);
+        }
+        q += 1;
+    }
+    State(states as u16)
+}
+
+// What S has become: more than 32 states were wanted, or its places in T.
+pub struct Growth {
+    pub ok: bool,
+    pub states: u8,
+    pub places: [u16; 32],
+}
+
+// T in order: each transition whose row no representative has becomes one (§4.3).
+pub fn grow(
+    table: &[u8; 73984],
+    rules: usize,
+    contexts: usize,
+    places: [u16; 32],
+    states: u8,
+) -> Growth
+    requires { ⌜ Sized (now table) rules contexts × (states ≤ 32) × ((i : ℕ) → i < states → getD places i 0 < 256) ⌝ }
+    ensures { λ r. ⌜ grownBy (growAt (now (table .entry)) contexts rules (take states places)) r ⌝ }
+    ensures below { λ r. ⌜ ((i : ℕ) → i < r .states → getD (r .places) i 0 < 256) ⌝ }
+{
+    let mut ps = places;
+    let mut n = states;
+    let mut k = 0;
+    while k < rules {
+        let q = state_of(table, contexts, &ps, n as usize, k);
+        if q.0 as u8 == n {
+            if n == 32 {
+                return Growth {
+                    ok: false,
+                    states: n,
+                    places: ps,
+                };
+            }
+            ps[n as usize] = k as u16;
+            n += 1;
+        }
+        k += 1;
+    }
+    Growth {
+        ok: true,
+        states: n,
+        places: ps,
+    }
+}
