@@ -4,10 +4,13 @@
 pub mod Tests
 pub mod Lists
 pub mod Stack
+pub mod Backwards
+pub mod Members
 pub mod Pigeonhole
 -- the store: the one fold, rows found and added, frames filled, ways down
 pub mod Fold
 pub mod Rows
+pub mod FirstRows
 pub mod Frames
 pub mod Fill
 pub mod Filled

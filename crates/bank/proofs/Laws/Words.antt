@@ -1,0 +1,424 @@
+-- Rows among the lent words: read as the store's nodes and answers, and written behind them with the rows before left as they were.
+-- By induction on the rows read, and at the seams of `++`.
+use mathlib.Core.Path.{_≡_, refl, sym, ap, _∙_}
+use mathlib.Core.Logic.{_≢_}
+use mathlib.Core.Bool.{Bool, true, false, _&&_}
+use mathlib.Core.List.{List, [], _∷_, _++_, append-assoc, append-nil}
+use Prim.Native.Nat.{ℕ, zero, suc, _+_, _*_, _-_, _/_, _≤_, _<_}
+use native.Mathlib.Omega.{arith}
+use lib.Dec.{ltb, eqb}
+use borrow.Author.Tests.{ltb-true, ltb-false, eqb-true, eq-eqb}
+use lib.ListN.{length, getD, set, take, drop, replicate, length-append, length-drop, length-replicate, take-append-drop}
+use lib.Seq.{getD-drop, getD-take, drop-drop, getD-append-add, sets-eq, length-sets, take-at, drop-at, length-take-le, ext-getD, drop-append-le}
+use Rattle.model.specs.Limits.{rowWidth, mostChildren}
+use Rattle.model.specs.Base.{over, same}
+use Rattle.model.specs.Store.{Node, Store, Extends, holeNode, node, padded, used, nodeAt, symbolAt, kidsAt, added, isNode, findPlaces}
+use Rattle.model.specs.Table.{answerAt}
+use Rattle.model.specs.Facts.{Good}
+use Rattle.model.specs.Entry.{nodesIn, answersIn, rowWords, storeOf}
+use Rattle.model.proofs.Laws.Tests.{both-true, true-both, same-eq, same-of}
+use Rattle.model.proofs.Laws.Lent.{FourPlaces, length-rowWords, nodesIn-rowWords, answersIn-rowWords, rowWords-same, length-nodesIn, length-answersIn}
+use Rattle.model.proofs.Laws.Rows.{found, absent}
+use Rattle.bank.specs.Rows.{symbolIn, answerIn, kidIn, placesIn, nodeIn, withRow, Within}
+use Rattle.bank.specs.Index.{bucketOf, bucketAt, NoTwins, findIn}
+use Rattle.bank.specs.Ready.{withRows}
+
+-- ROWS READ
+abbrev front : List ℕ → Node
+front ws = record { symbol = getD ws 0 0; kids = take mostChildren (drop 2 ws) }
+
+front-in : (n i : ℕ) (ws : List ℕ) → i < n → getD (nodesIn n ws) i holeNode ≡ front (drop (rowWidth * i) ws)
+unfolding nodesIn
+front-in zero i ws h = absurd (omega arith)
+front-in (suc n) zero ws h = refl
+front-in (suc n) (suc i) ws h =
+    let e : 6 + 6 * i ≡ 6 * suc i = omega arith in
+    front-in n i (drop 6 ws) (omega arith) ∙ ap front (drop-drop (6 * i) 6 ws ∙ ap (λ (k : ℕ). drop k ws) e)
+
+take-four : (l : List ℕ) → 4 ≤ length l → take 4 l ≡ getD l 0 0 ∷ getD l 1 0 ∷ getD l 2 0 ∷ getD l 3 0 ∷ []
+take-four [] h = absurd (omega arith)
+take-four (a ∷ []) h = absurd (omega arith)
+take-four (a ∷ b ∷ []) h = absurd (omega arith)
+take-four (a ∷ b ∷ c ∷ []) h = absurd (omega arith)
+take-four (a ∷ b ∷ c ∷ d ∷ l) h = refl
+
+word : (ws : List ℕ) (i k : ℕ) → getD (drop 2 (drop (rowWidth * i) ws)) k 0 ≡ kidIn ws i k
+word ws i k =
+    let e : 6 * i + (2 + k) ≡ 6 * i + 2 + k = omega arith in
+    getD-drop 2 (drop (6 * i) ws) k 0 ∙ getD-drop (6 * i) ws (2 + k) 0 ∙ ap (λ (j : ℕ). getD ws j 0) e
+
+pub used-of : (ws ns : List ℕ) (n : ℕ) → used (storeOf ws ns n) ≡ n
+used-of ws ns n = length-nodesIn n ws
+
+module _ (ws ns : List ℕ) (n i : ℕ) (h : i < n) where
+  pub symbol-in : symbolAt (storeOf ws ns n) i ≡ symbolIn ws i
+  symbol-in =
+      let e : 6 * i + 0 ≡ 6 * i = omega arith in
+      ap (λ (r : Node). r .symbol) (front-in n i ws h) ∙ getD-drop (6 * i) ws 0 0 ∙ ap (λ (j : ℕ). getD ws j 0) e
+
+  pub places-in : rowWidth * n ≤ length ws → nodeAt (storeOf ws ns n) i .kids ≡ placesIn ws i
+  places-in l =
+      ap (λ (r : Node). r .kids) (front-in n i ws h) ∙ take-four (drop 2 (drop (6 * i) ws)) (simp length-drop (omega arith)) ∙
+      (λ t. word ws i 0 t ∷ word ws i 1 t ∷ word ws i 2 t ∷ word ws i 3 t ∷ [])
+
+  pub node-in : rowWidth * n ≤ length ws → nodeAt (storeOf ws ns n) i ≡ nodeIn ws i
+  node-in l = λ t. record { symbol = symbol-in t; kids = places-in l t }
+
+  pub kids-in : rowWidth * n ≤ length ws → kidsAt (storeOf ws ns n) i ≡ take (getD ns (symbolIn ws i) 0) (placesIn ws i)
+  kids-in l = λ t. take (getD ns (symbol-in t) 0) (places-in l t)
+
+pub answer-in : (n i : ℕ) (ws : List ℕ) → i < n → answerAt (answersIn n ws) i ≡ answerIn ws i
+unfolding answersIn
+answer-in zero i ws h = absurd (omega arith)
+answer-in (suc n) zero ws h = refl
+answer-in (suc n) (suc i) ws h =
+    let e : 6 + (6 * i + 1) ≡ 6 * suc i + 1 = omega arith in
+    answer-in n i (drop 6 ws) (omega arith) ∙ getD-drop 6 ws (6 * i + 1) 0 ∙ ap (λ (k : ℕ). getD ws k 0) e
+
+-- a row's six words stored one after the other
+pub row-stored : {us vs xs ys zs rs : List ℕ} (ws : List ℕ) (i a : ℕ) (ps : List ℕ) → us ≡ set ws (rowWidth * i + 0) a → vs ≡ set us (rowWidth * i + 1) 0 →
+    xs ≡ set vs (rowWidth * i + 2) (getD ps 0 0) → ys ≡ set xs (rowWidth * i + 3) (getD ps 1 0) → zs ≡ set ys (rowWidth * i + 4) (getD ps 2 0) →
+    rs ≡ set zs (rowWidth * i + 5) (getD ps 3 0) → rs ≡ withRow ws i a ps
+row-stored ws i a ps h₀ h₁ h₂ h₃ h₄ h₅ =
+    let m : ℕ = 6 * i in
+    let e₀ : m + 0 ≡ m = omega arith in
+    let e₁ : m + 1 ≡ suc m = omega arith in
+    let e₂ : m + 2 ≡ suc (suc m) = omega arith in
+    let e₃ : m + 3 ≡ suc (suc (suc m)) = omega arith in
+    let e₄ : m + 4 ≡ suc (suc (suc (suc m))) = omega arith in
+    let e₅ : m + 5 ≡ suc (suc (suc (suc (suc m)))) = omega arith in
+    cc
+
+-- A ROW COMPARED, test by test
+and-true : (b : Bool) → b && true ≡ b
+and-true true = refl
+and-true false = refl
+
+same-four : (x y z w : ℕ) (l : List ℕ) → length l ≡ 4 →
+    same (x ∷ y ∷ z ∷ w ∷ []) l ≡ eqb x (getD l 0 0) && (eqb y (getD l 1 0) && (eqb z (getD l 2 0) && eqb w (getD l 3 0)))
+unfolding same
+same-four x y z w [] h = absurd (omega arith)
+same-four x y z w (a ∷ []) h = absurd (omega arith)
+same-four x y z w (a ∷ b ∷ []) h = absurd (omega arith)
+same-four x y z w (a ∷ b ∷ c ∷ []) h = absurd (omega arith)
+same-four x y z w (a ∷ b ∷ c ∷ d ∷ []) h = ap (λ (t : Bool). eqb x a && (eqb y b && (eqb z c && t))) (and-true (eqb w d))
+same-four x y z w (a ∷ b ∷ c ∷ d ∷ e ∷ l) h = absurd (omega arith)
+
+abbrev pub Tested : (words : List ℕ) → (row symbol : ℕ) → (places : List ℕ) → (found : ℕ) → (kids : List ℕ) → Type 0
+Tested ws i a l s ks =
+    isNode a l (nodeIn ws i) ≡
+    eqb s a && (eqb (getD ks 0 0) (getD l 0 0) && (eqb (getD ks 1 0) (getD l 1 0) && (eqb (getD ks 2 0) (getD l 2 0) && eqb (getD ks 3 0) (getD l 3 0))))
+
+pub tests : (ws : List ℕ) (i a : ℕ) (l : List ℕ) (s : ℕ) (ks : List ℕ) → length l ≡ 4 → s ≡ symbolIn ws i → ks ≡ placesIn ws i → Tested ws i a l s ks
+tests ws i a l s ks h p q =
+    ap (λ (b : Bool). eqb (symbolIn ws i) a && b) (same-four (kidIn ws i 0) (kidIn ws i 1) (kidIn ws i 2) (kidIn ws i 3) l h) ∙
+    (λ t. eqb (sym p t) a && (eqb (getD (sym q t) 0 0) (getD l 0 0) && (eqb (getD (sym q t) 1 0) (getD l 1 0) &&
+    (eqb (getD (sym q t) 2 0) (getD l 2 0) && eqb (getD (sym q t) 3 0) (getD l 3 0)))))
+
+pub last-of-five : {p q r s : Bool} (t : Bool) → p ≡ true → q ≡ true → r ≡ true → s ≡ true → p && (q && (r && (s && t))) ≡ t
+last-of-five t a b c d = rw (a, b, c, d)
+
+pub is-row : (ws : List ℕ) (i a : ℕ) (ps : List ℕ) → isNode a ps (nodeIn ws i) ≡ true → (symbolIn ws i ≡ a) × (placesIn ws i ≡ ps)
+is-row ws i a ps e =
+    let p = both-true (eqb (symbolIn ws i) a) (same (placesIn ws i) ps) e in
+    (eqb-true (symbolIn ws i) a (p .0), same-eq (placesIn ws i) ps (p .1))
+
+pub row-is : (ws : List ℕ) (i a : ℕ) (ps : List ℕ) → symbolIn ws i ≡ a → placesIn ws i ≡ ps → isNode a ps (nodeIn ws i) ≡ true
+row-is ws i a ps p q = true-both (eqb (symbolIn ws i) a) (same (placesIn ws i) ps) (eq-eqb (symbolIn ws i) a p) (same-of (placesIn ws i) ps q)
+
+-- THE FIRST n ROWS, as they were
+abbrev pub SameRows : (words : List ℕ) → (n : ℕ) → (after : List ℕ) → Type 0
+SameRows ws n vs = take (rowWidth * n) vs ≡ take (rowWidth * n) ws
+
+module _ (ws vs : List ℕ) (n : ℕ) (same : SameRows ws n vs) where
+  pub word-kept : (j : ℕ) → j < rowWidth * n → getD vs j 0 ≡ getD ws j 0
+  word-kept j h = sym (getD-take (6 * n) vs j 0 h) ∙ ap (λ (l : List ℕ). getD l j 0) same ∙ getD-take (6 * n) ws j 0 h
+
+  module _ (i : ℕ) (h : i < n) where
+    pub symbol-kept : symbolIn vs i ≡ symbolIn ws i
+    symbol-kept = word-kept (6 * i) (omega arith)
+
+    pub answer-kept : answerIn vs i ≡ answerIn ws i
+    answer-kept = word-kept (6 * i + 1) (omega arith)
+
+    pub kid-kept : (k : ℕ) → k < 4 → kidIn vs i k ≡ kidIn ws i k
+    kid-kept k l = word-kept (6 * i + 2 + k) (omega arith)
+
+    pub places-kept : placesIn vs i ≡ placesIn ws i
+    places-kept = λ t. kid-kept 0 (omega arith) t ∷ kid-kept 1 (omega arith) t ∷ kid-kept 2 (omega arith) t ∷ kid-kept 3 (omega arith) t ∷ []
+
+    pub bucket-kept : (mix : List ℕ) → bucketAt mix vs i ≡ bucketAt mix ws i
+    unfolding bucketAt
+    bucket-kept m =
+        λ t. bucketOf m (symbol-kept t) (kid-kept 0 (omega arith) t) (kid-kept 1 (omega arith) t) (kid-kept 2 (omega arith) t) (kid-kept 3 (omega arith) t)
+
+  pub answers-kept : answersIn n vs ≡ answersIn n ws
+  answers-kept =
+      ext-getD 0 (answersIn n vs) (answersIn n ws) (length-answersIn n vs ∙ sym (length-answersIn n ws))
+      (λ i u. let h : i < n = omega (arith, length-answersIn n vs) in answer-in n i vs h ∙ answer-kept i h ∙ sym (answer-in n i ws h))
+
+  module _ (long : length vs ≡ length ws) (within : rowWidth * n ≤ length ws) where
+    pub node-kept : (ns : List ℕ) (i : ℕ) → i < n → nodeAt (storeOf vs ns n) i ≡ nodeAt (storeOf ws ns n) i
+    node-kept ns i h =
+        node-in vs ns n i h (omega arith) ∙ (λ t. record { symbol = symbol-kept i h t; kids = places-kept i h t }) ∙ sym (node-in ws ns n i h within)
+
+    pub nodes-kept : nodesIn n vs ≡ nodesIn n ws
+    nodes-kept =
+        ext-getD holeNode (nodesIn n vs) (nodesIn n ws) (length-nodesIn n vs ∙ sym (length-nodesIn n ws))
+        (λ i u. node-kept [] i (omega (arith, length-nodesIn n vs)))
+
+    pub store-kept : (ns : List ℕ) → storeOf vs ns n ≡ storeOf ws ns n
+    store-kept ns = λ t. record { counts = ns; room = long t / rowWidth; nodes = nodes-kept t }
+
+-- ROWS WRITTEN behind the first n
+rowWords-zeros : (ms : List Node) (k : ℕ) → rowWords ms [] ≡ rowWords ms (replicate k 0)
+unfolding rowWords
+rowWords-zeros [] k = refl
+rowWords-zeros (m ∷ ms) zero = refl
+rowWords-zeros (m ∷ ms) (suc k) = ap (λ (l : List ℕ). (m .symbol ∷ 0 ∷ m .kids) ++ l) (rowWords-zeros ms k)
+
+rowWords-append : (ls ms : List Node) (us vs : List ℕ) → length us ≡ length ls → rowWords (ls ++ ms) (us ++ vs) ≡ rowWords ls us ++ rowWords ms vs
+unfolding rowWords
+rowWords-append [] ms [] vs e = refl
+rowWords-append [] ms (u ∷ us) vs e = absurd (omega arith)
+rowWords-append (l ∷ ls) ms [] vs e = absurd (omega arith)
+rowWords-append (l ∷ ls) ms (u ∷ us) vs e =
+    ap (λ (r : List ℕ). (l .symbol ∷ u ∷ l .kids) ++ r) (rowWords-append ls ms us vs (omega arith)) ∙
+    sym (append-assoc (l .symbol ∷ u ∷ l .kids) (rowWords ls us) (rowWords ms vs))
+
+-- the store with more rows is the old nodes and the ones behind
+pub nodes-split : (x y : Store) → Extends x y → x .nodes ++ drop (used x) (y .nodes) ≡ y .nodes
+nodes-split x y e =
+    ap (λ (l : List Node). l ++ drop (used x) (y .nodes)) (sym first) ∙ take-append-drop (used x) (y .nodes)
+  where
+    long : length (take (used x) (y .nodes)) ≡ used x
+    long = length-take-le (used x) (y .nodes) (e .more)
+
+    first : take (used x) (y .nodes) ≡ x .nodes
+    first =
+        ext-getD holeNode (take (used x) (y .nodes)) (x .nodes) long
+        (λ i u. let h : i < used x = omega (arith, long) in getD-take (used x) (y .nodes) i holeNode h ∙ sym (e .kept i h))
+
+-- as words, the nodes with the old answers, and none behind
+abbrev pub answersMore : (words : List ℕ) → (n m : ℕ) → List ℕ
+answersMore ws n m = answersIn n ws ++ replicate (m - n) 0
+
+four-drop : (n : ℕ) (ms : List Node) → FourPlaces ms → FourPlaces (drop n ms)
+four-drop n ms f i h =
+    let l = length-drop n ms in
+    rw (getD-drop n ms i holeNode) (f (n + i) (omega arith))
+
+module _ (ws ns : List ℕ) (n : ℕ) (y : Store) (ext : Extends (storeOf ws ns n) y) (four : FourPlaces (y .nodes)) (fits : rowWidth * used y ≤ length ws) where
+  more : n ≤ used y
+  more = let m = ext .more in let u = used-of ws ns n in omega arith
+
+  parts : nodesIn n ws ++ drop n (y .nodes) ≡ y .nodes
+  parts = ap (λ (k : ℕ). nodesIn n ws ++ drop k (y .nodes)) (sym (used-of ws ns n)) ∙ nodes-split (storeOf ws ns n) y ext
+
+  four-rest : FourPlaces (drop n (y .nodes))
+  four-rest = four-drop n (y .nodes) four
+
+  long-front : length (take (rowWidth * n) ws) ≡ rowWidth * n
+  long-front = length-take-le (6 * n) ws (omega (arith, more))
+
+  long-rest : length (rowWords (drop n (y .nodes)) []) ≡ rowWidth * (used y - n)
+  long-rest = length-rowWords (drop n (y .nodes)) [] four-rest ∙ ap (λ (k : ℕ). 6 * k) (length-drop n (y .nodes))
+
+  long-rows : length (take (rowWidth * n) ws ++ rowWords (drop n (y .nodes)) []) ≡ rowWidth * used y
+  long-rows = rw length-append (omega (arith, long-front, long-rest, more))
+
+  rows-answered : take (rowWidth * n) ws ++ rowWords (drop n (y .nodes)) [] ≡ rowWords (y .nodes) (answersMore ws n (used y))
+  rows-answered =
+      let a = sym (rowWords-same n ws (omega (arith, more))) in
+      let b = rowWords-zeros (drop n (y .nodes)) (used y - n) in
+      let c = rowWords-append (nodesIn n ws) (drop n (y .nodes)) (answersIn n ws) (replicate (used y - n) 0) (length-answersIn n ws ∙ sym (length-nodesIn n ws)) in
+      (λ t. a t ++ b t) ∙ sym c ∙ ap (λ (l : List Node). rowWords l (answersMore ws n (used y))) parts
+
+  long-answers : length (answersMore ws n (used y)) ≡ used y
+  long-answers = simp (length-append, length-answersIn, length-replicate) (omega (arith, more))
+
+  pub withRows-over : withRows ws n y ≡ over (rowWords (y .nodes) (answersMore ws n (used y))) ws
+  withRows-over =
+      let l = length-rowWords (y .nodes) (answersMore ws n (used y)) four in
+      λ t. rows-answered t ++ drop (sym l t) ws
+
+  pub length-withRows : length (withRows ws n y) ≡ length ws
+  length-withRows = simp (length-append, length-drop) (omega (arith, long-front, long-rest, more))
+
+  pub store-withRows : storeOf (withRows ws n y) ns (used y) ≡ y
+  store-withRows =
+      let a = ap (λ (l : List ℕ). nodesIn (used y) (l ++ drop (6 * used y) ws)) rows-answered ∙
+      nodesIn-rowWords (y .nodes) (answersMore ws n (used y)) (drop (6 * used y) ws) four in
+      λ t. record { counts = sym (ext .counts) t; room = (ap (λ (k : ℕ). k / rowWidth) length-withRows ∙ sym (ext .room)) t; nodes = a t }
+
+  pub answers-withRows : answersIn (used y) (withRows ws n y) ≡ answersMore ws n (used y)
+  answers-withRows =
+      ap (λ (l : List ℕ). answersIn (used y) (l ++ drop (6 * used y) ws)) rows-answered ∙
+      answersIn-rowWords (y .nodes) (answersMore ws n (used y)) (drop (6 * used y) ws) four long-answers
+
+  pub front-withRows : SameRows ws n (withRows ws n y)
+  front-withRows =
+      ap (take (6 * n)) (append-assoc (take (6 * n) ws) (rowWords (drop n (y .nodes)) []) (drop (6 * used y) ws)) ∙
+      take-at (take (6 * n) ws) (rowWords (drop n (y .nodes)) [] ++ drop (6 * used y) ws) (6 * n) long-front
+
+  pub rows-withRows : take (rowWidth * used y) (withRows ws n y) ≡ take (rowWidth * n) ws ++ rowWords (drop n (y .nodes)) []
+  rows-withRows = take-at (take (6 * n) ws ++ rowWords (drop n (y .nodes)) []) (drop (6 * used y) ws) (6 * used y) long-rows
+
+  pub behind-withRows : drop (rowWidth * used y) (withRows ws n y) ≡ drop (rowWidth * used y) ws
+  behind-withRows = drop-at (take (6 * n) ws ++ rowWords (drop n (y .nodes)) []) (drop (6 * used y) ws) (6 * used y) long-rows
+
+  -- more rows behind these: as if written at once
+  module _ (z : Store) (later : Extends y z) where
+    behind : drop (rowWidth * used z) (withRows ws n y) ≡ drop (rowWidth * used z) ws
+    behind =
+        let m = later .more in
+        let e : 6 * used y + 6 * (used z - used y) ≡ 6 * used z = omega arith in
+        ap (λ (k : ℕ). drop k (withRows ws n y)) (sym e) ∙ sym (drop-drop (6 * (used z - used y)) (6 * used y) (withRows ws n y)) ∙
+        ap (drop (6 * (used z - used y))) behind-withRows ∙ drop-drop (6 * (used z - used y)) (6 * used y) ws ∙ ap (λ (k : ℕ). drop k ws) e
+
+    both-parts : drop n (y .nodes) ++ drop (used y) (z .nodes) ≡ drop n (z .nodes)
+    both-parts = sym (drop-append-le n (y .nodes) (drop (used y) (z .nodes)) more) ∙ ap (drop n) (nodes-split y z later)
+
+    both-rows : rowWords (drop n (y .nodes)) [] ++ rowWords (drop (used y) (z .nodes)) [] ≡ rowWords (drop n (z .nodes)) []
+    both-rows =
+        let k = length (drop n (y .nodes)) in
+        let a = rowWords-zeros (drop n (y .nodes)) k in
+        let b = rowWords-append (drop n (y .nodes)) (drop (used y) (z .nodes)) (replicate k 0) (replicate 0 0) (length-replicate k 0) in
+        let c = ap (λ (us : List ℕ). rowWords (drop n (y .nodes) ++ drop (used y) (z .nodes)) us) (append-nil (replicate k 0)) in
+        let d = sym (rowWords-zeros (drop n (y .nodes) ++ drop (used y) (z .nodes)) k) in
+        let e = ap (λ (ms : List Node). rowWords ms []) both-parts in
+        ap (λ (l : List ℕ). l ++ rowWords (drop (used y) (z .nodes)) []) a ∙ sym b ∙ c ∙ d ∙ e
+
+    pub withRows-twice : withRows (withRows ws n y) (used y) z ≡ withRows ws n z
+    withRows-twice =
+        let a = append-assoc (take (6 * n) ws) (rowWords (drop n (y .nodes)) []) (rowWords (drop (used y) (z .nodes)) []) in
+        (λ t. (rows-withRows t ++ rowWords (drop (used y) (z .nodes)) []) ++ behind t) ∙ ap (λ (l : List ℕ). l ++ drop (6 * used z) ws) (a ∙ ap (λ (l : List ℕ). take (6 * n) ws ++ l) both-rows)
+
+-- ONE ROW written
+four-is : (l : List ℕ) → length l ≡ 4 → getD l 0 0 ∷ getD l 1 0 ∷ getD l 2 0 ∷ getD l 3 0 ∷ [] ≡ l
+four-is [] h = absurd (omega arith)
+four-is (a ∷ []) h = absurd (omega arith)
+four-is (a ∷ b ∷ []) h = absurd (omega arith)
+four-is (a ∷ b ∷ c ∷ []) h = absurd (omega arith)
+four-is (a ∷ b ∷ c ∷ d ∷ []) h = refl
+four-is (a ∷ b ∷ c ∷ d ∷ e ∷ l) h = absurd (omega arith)
+
+pub length-withRow : (ws : List ℕ) (n a : ℕ) (ps : List ℕ) → length (withRow ws n a ps) ≡ length ws
+length-withRow ws n a ps = length-sets ws (6 * n) (a ∷ 0 ∷ getD ps 0 0 ∷ getD ps 1 0 ∷ getD ps 2 0 ∷ getD ps 3 0 ∷ [])
+
+module _ (ws : List ℕ) (n a : ℕ) (ps : List ℕ) (within : Within ws n) where
+  withRow-parts : withRow ws n a ps ≡ take (rowWidth * n) ws ++ (a ∷ 0 ∷ getD ps 0 0 ∷ getD ps 1 0 ∷ getD ps 2 0 ∷ getD ps 3 0 ∷ []) ++ drop (rowWidth * n + rowWidth) ws
+  withRow-parts = sets-eq (a ∷ 0 ∷ getD ps 0 0 ∷ getD ps 1 0 ∷ getD ps 2 0 ∷ getD ps 3 0 ∷ []) ws (6 * n) within
+
+  long-before : length (take (rowWidth * n) ws) ≡ rowWidth * n
+  long-before = length-take-le (6 * n) ws (omega arith)
+
+  pub front-withRow : SameRows ws n (withRow ws n a ps)
+  front-withRow =
+      ap (take (6 * n)) (withRow-parts ∙ append-assoc (take (6 * n) ws) (a ∷ 0 ∷ getD ps 0 0 ∷ getD ps 1 0 ∷ getD ps 2 0 ∷ getD ps 3 0 ∷ []) (drop (6 * n + 6) ws)) ∙
+      take-at (take (6 * n) ws) ((a ∷ 0 ∷ getD ps 0 0 ∷ getD ps 1 0 ∷ getD ps 2 0 ∷ getD ps 3 0 ∷ []) ++ drop (6 * n + 6) ws) (6 * n) long-before
+
+  written : (k : ℕ) → getD (withRow ws n a ps) (rowWidth * n + k) 0 ≡ getD ((a ∷ 0 ∷ getD ps 0 0 ∷ getD ps 1 0 ∷ getD ps 2 0 ∷ getD ps 3 0 ∷ []) ++ drop (rowWidth * n + rowWidth) ws) k 0
+  written k =
+      ap (λ (l : List ℕ). getD l (6 * n + k) 0) (withRow-parts ∙ append-assoc (take (6 * n) ws) (a ∷ 0 ∷ getD ps 0 0 ∷ getD ps 1 0 ∷ getD ps 2 0 ∷ getD ps 3 0 ∷ []) (drop (6 * n + 6) ws)) ∙
+      ap (λ (m : ℕ). getD (take (6 * n) ws ++ ((a ∷ 0 ∷ getD ps 0 0 ∷ getD ps 1 0 ∷ getD ps 2 0 ∷ getD ps 3 0 ∷ []) ++ drop (6 * n + 6) ws)) (m + k) 0) (sym long-before) ∙
+      getD-append-add (take (6 * n) ws) ((a ∷ 0 ∷ getD ps 0 0 ∷ getD ps 1 0 ∷ getD ps 2 0 ∷ getD ps 3 0 ∷ []) ++ drop (6 * n + 6) ws) k 0
+
+  at-word : (k m : ℕ) → rowWidth * n + k ≡ m → getD (withRow ws n a ps) m 0 ≡ getD ((a ∷ 0 ∷ getD ps 0 0 ∷ getD ps 1 0 ∷ getD ps 2 0 ∷ getD ps 3 0 ∷ []) ++ drop (rowWidth * n + rowWidth) ws) k 0
+  at-word k m e = ap (λ (j : ℕ). getD (withRow ws n a ps) j 0) (sym e) ∙ written k
+
+  pub symbol-written : symbolIn (withRow ws n a ps) n ≡ a
+  symbol-written = at-word 0 (6 * n) (omega arith)
+
+  pub answer-written : answerIn (withRow ws n a ps) n ≡ 0
+  answer-written = at-word 1 (6 * n + 1) (omega arith)
+
+  pub places-written : length ps ≡ 4 → placesIn (withRow ws n a ps) n ≡ ps
+  places-written l =
+      (λ t. at-word 2 (6 * n + 2 + 0) (omega arith) t ∷ at-word 3 (6 * n + 2 + 1) (omega arith) t ∷ at-word 4 (6 * n + 2 + 2) (omega arith) t ∷
+      at-word 5 (6 * n + 2 + 3) (omega arith) t ∷ []) ∙ four-is ps l
+
+  pub one-row : (ns ks : List ℕ) → ps ≡ padded ks → length ps ≡ 4 → withRow ws n a ps ≡ withRows ws n (added (storeOf ws ns n) a ks)
+  unfolding rowWords
+  one-row ns ks e l =
+      let d : drop n (nodesIn n ws ++ (node a ks ∷ [])) ≡ node a ks ∷ [] = drop-at (nodesIn n ws) (node a ks ∷ []) n (length-nodesIn n ws) in
+      let r : rowWords (drop n (nodesIn n ws ++ (node a ks ∷ []))) [] ≡ a ∷ 0 ∷ ps = ap (λ (ms : List Node). rowWords ms []) d ∙ ap (λ (l : List ℕ). a ∷ 0 ∷ l) (append-nil (padded ks) ∙ sym e) in
+      let u : 6 * n + 6 ≡ 6 * used (added (storeOf ws ns n) a ks) = rw length-append (omega (arith, length-nodesIn n ws)) in
+      let f : a ∷ 0 ∷ getD ps 0 0 ∷ getD ps 1 0 ∷ getD ps 2 0 ∷ getD ps 3 0 ∷ [] ≡ a ∷ 0 ∷ ps = ap (λ (l : List ℕ). a ∷ 0 ∷ l) (four-is ps l) in
+      withRow-parts ∙ (λ t. take (6 * n) ws ++ (f ∙ sym r) t ++ drop (u t) ws)
+
+-- THE ROW FOUND among the first n: by computation what the store finds; without twins the only one
+pub find-row : (ws ns : List ℕ) (n a : ℕ) (ps : List ℕ) → findIn ws n a ps ≡ findPlaces (storeOf ws ns n) a ps
+find-row ws ns n a ps = refl
+
+pub only-one : (ws : List ℕ) (n : ℕ) → NoTwins ws n → (i j : ℕ) → 0 < i → i < n → 0 < j → j < n → symbolIn ws i ≡ symbolIn ws j → placesIn ws i ≡ placesIn ws j → i ≡ j
+only-one ws n t i j z h y k p q = go (ltb i j) refl (ltb j i) refl
+  where
+    go : (b : Bool) → ltb i j ≡ b → (c : Bool) → ltb j i ≡ c → i ≡ j
+    go true e c f = absurd (t i j z (ltb-true i j e) k p q)
+    go false e true f = absurd (t j i y (ltb-true j i f) h (sym p) (sym q))
+    go false e false f = let a = ltb-false i j e in let b = ltb-false j i f in omega arith
+
+module _ (ws : List ℕ) (n : ℕ) (within : rowWidth * n ≤ length ws) where
+  at-drop : (m : ℕ) → getD (drop 1 (nodesIn n ws)) m holeNode ≡ nodeAt (storeOf ws [] n) (1 + m)
+  at-drop m = getD-drop 1 (nodesIn n ws) m holeNode
+
+  pub found-in : (a : ℕ) (ps : List ℕ) → findIn ws n a ps ≢ 0 → (findIn ws n a ps < n) × (symbolIn ws (findIn ws n a ps) ≡ a) × (placesIn ws (findIn ws n a ps) ≡ ps)
+  found-in a ps e =
+      let s = found a ps 1 (drop 1 (nodesIn n ws)) e in
+      let d = length-drop 1 (nodesIn n ws) in
+      let u = length-nodesIn n ws in
+      let j : findIn ws n a ps ≡ 1 + s .0 = s .2 in
+      let h : 1 + s .0 < n = omega (arith, s .1) in
+      let p = node-in ws [] n (1 + s .0) h within in (
+        omega (arith, h, j),
+        ap (symbolIn ws) j ∙ sym (ap (λ (r : Node). r .symbol) (at-drop (s .0) ∙ p)) ∙ s .3,
+        ap (placesIn ws) j ∙ sym (ap (λ (r : Node). r .kids) (at-drop (s .0) ∙ p)) ∙ s .4,
+      )
+
+  pub absent-in : (a : ℕ) (ps : List ℕ) → findIn ws n a ps ≡ 0 → (i : ℕ) → 0 < i → i < n → symbolIn ws i ≡ a → placesIn ws i ≡ ps → ⊥
+  absent-in a ps e zero z h p q = omega arith
+  absent-in a ps e (suc m) z h p q =
+      let u = length-nodesIn n ws in
+      let f : 1 + m ≡ suc m = omega arith in
+      let r = at-drop m ∙ ap (nodeAt (storeOf ws [] n)) f ∙ node-in ws [] n (suc m) h within in
+      absent a ps 1 (drop 1 (nodesIn n ws)) (omega arith) e m (rw length-drop (omega arith)) (ap (λ (r : Node). r .symbol) r ∙ p) (ap (λ (r : Node). r .kids) r ∙ q)
+
+  -- none has it: not found
+  pub find-none : (a : ℕ) (ps : List ℕ) → ((i : ℕ) → 0 < i → i < n → symbolIn ws i ≡ a → placesIn ws i ≡ ps → ⊥) → findIn ws n a ps ≡ 0
+  find-none a ps none = go (findIn ws n a ps) refl
+    where
+      go : (j : ℕ) → findIn ws n a ps ≡ j → findIn ws n a ps ≡ 0
+      go zero e = e
+      go (suc j) e =
+          let s = found-in a ps (λ p. omega (arith, p, e)) in
+          absurd (none (findIn ws n a ps) (omega (arith, e)) (s .0) (s .1) (s .2))
+
+  -- one has it, and there are no twins: it is found
+  pub find-is : NoTwins ws n → (i : ℕ) → 0 < i → i < n → findIn ws n (symbolIn ws i) (placesIn ws i) ≡ i
+  find-is t i z h = go (findIn ws n (symbolIn ws i) (placesIn ws i)) refl
+    where
+      go : (j : ℕ) → findIn ws n (symbolIn ws i) (placesIn ws i) ≡ j → findIn ws n (symbolIn ws i) (placesIn ws i) ≡ i
+      go zero e = absurd (absent-in (symbolIn ws i) (placesIn ws i) e i z h refl refl)
+      go (suc j) e =
+          let s = found-in (symbolIn ws i) (placesIn ws i) (λ p. omega (arith, p, e)) in
+          only-one ws n t (findIn ws n (symbolIn ws i) (placesIn ws i)) i (omega (arith, e)) (s .0) z h (s .1) (s .2)
+
+-- NO TWINS of a good store
+pub no-twins : (ws ns : List ℕ) (n : ℕ) → rowWidth * n ≤ length ws → Good (storeOf ws ns n) → NoTwins ws n
+no-twins ws ns n l g i j z h k p q =
+    let u = used-of ws ns n in
+    let a = kids-in ws ns n i (omega arith) l in
+    let b = kids-in ws ns n j k l in
+    let c : kidsAt (storeOf ws ns n) i ≡ kidsAt (storeOf ws ns n) j = a ∙ (λ t. take (getD ns (p t) 0) (q t)) ∙ sym b in
+    let d = symbol-in ws ns n i (omega arith) ∙ p ∙ sym (symbol-in ws ns n j k) in
+    let e = g .twins i j z (omega arith) (omega arith) (omega arith) d c in
+    omega arith
+
+-- and back: where unused places are 0, rows of one symbol and children are one
+pub twins-of : (ws ns : List ℕ) (n : ℕ) → rowWidth * n ≤ length ws → NoTwins ws n →
+    ((i : ℕ) → 0 < i → i < n → nodeAt (storeOf ws ns n) i .kids ≡ padded (kidsAt (storeOf ws ns n) i)) → (i j : ℕ) → 0 < i → i < n → 0 < j → j < n →
+    symbolAt (storeOf ws ns n) i ≡ symbolAt (storeOf ws ns n) j → kidsAt (storeOf ws ns n) i ≡ kidsAt (storeOf ws ns n) j → i ≡ j
+twins-of ws ns n l t pad i j z h y k p q =
+    only-one ws n t i j z h y k (sym (symbol-in ws ns n i h) ∙ p ∙ symbol-in ws ns n j k)
+    (sym (places-in ws ns n i h l) ∙ pad i z h ∙ ap padded q ∙ sym (pad j y k) ∙ places-in ws ns n j k l)

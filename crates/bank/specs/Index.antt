@@ -1,0 +1,57 @@
+-- The hash index over the used rows: bucket heads and chains, from the latest row to the first. Assumes nothing: these are definitions.
+use mathlib.Core.Path.{_≡_}
+use mathlib.Core.List.{List, [], _∷_}
+use Prim.Native.Nat.{ℕ, _+_, _*_, _%_, _≤_, _<_}
+use lib.ListN.{length, getD, drop}
+use Rattle.model.specs.Limits.{mostRows}
+use Rattle.model.specs.Store.{Node, findFrom}
+use Rattle.model.specs.Entry.{nodesIn}
+use Rattle.bank.specs.Rows.{symbolIn, kidIn, placesIn}
+use Rattle.model.specs.declared.Row.{Row}
+use Rattle.bank.specs.declared.index.Sight.{Sight}
+
+-- the bucket of a symbol and four places, under five multipliers
+abbrev pub bucketOf : (mix : List ℕ) → (symbol kid0 kid1 kid2 kid3 : ℕ) → ℕ
+bucketOf m a k l n o =
+    (a * getD m 0 0 + k * getD m 1 0 + l * getD m 2 0 + n * getD m 3 0 + o * getD m 4 0) % 2147483629 % mostRows
+
+unfoldable pub bucketAt : (mix words : List ℕ) → (row : ℕ) → ℕ
+bucketAt m ws i = bucketOf m (symbolIn ws i) (kidIn ws i 0) (kidIn ws i 1) (kidIn ws i 2) (kidIn ws i 3)
+
+-- five multipliers, each small enough that a sum of five products fits
+pub record Mixing (mix : List ℕ) : Type 0 where
+  pub five : length mix ≡ 5
+  pub small : (k : ℕ) → getD mix k 0 < 536870912
+
+-- rows 1 to n - 1 are in their chains
+pub record Indexed (mix words : List ℕ) (n : ℕ) (head next : List ℕ) : Type 0 where
+  pub heads : (h : ℕ) → h < mostRows → getD head h 0 < n
+  pub head-bucket : (h : ℕ) → h < mostRows → (getD head h 0 ≡ 0 → ⊥) → bucketAt mix words (getD head h 0) ≡ h
+  pub head-skips : (h j : ℕ) → h < mostRows → getD head h 0 < j → j < n → bucketAt mix words j ≡ h → ⊥
+  pub nexts : (r : ℕ) → 0 < r → r < n → getD next r 0 < r
+  pub next-bucket : (r : ℕ) → 0 < r → r < n → (getD next r 0 ≡ 0 → ⊥) → bucketAt mix words (getD next r 0) ≡ bucketAt mix words r
+  pub next-skips : (r j : ℕ) → 0 < r → r < n → getD next r 0 < j → j < r → bucketAt mix words j ≡ bucketAt mix words r → ⊥
+
+-- no two of the rows 1 to n - 1 are equal in symbol and places
+abbrev pub NoTwins : (words : List ℕ) → (n : ℕ) → Type 0
+NoTwins ws n = (i j : ℕ) → 0 < i → i < j → j < n → symbolIn ws i ≡ symbolIn ws j → placesIn ws i ≡ placesIn ws j → ⊥
+
+-- an index that finds: sizes, chains, no twins
+pub record Finding (mix words : List ℕ) (n : ℕ) (head next : List ℕ) : Type 0 where
+  pub some : 1 ≤ n
+  pub few : n ≤ mostRows
+  pub room : 6 * n ≤ length words
+  pub mixing : Mixing mix
+  pub head-long : length head ≡ mostRows
+  pub next-long : length next ≡ mostRows
+  pub indexed : Indexed mix words n head next
+  pub no-twins : NoTwins words n
+
+-- the row of a symbol and four places among the first n rows; 0 for none
+abbrev pub findIn : (words : List ℕ) → (n symbol : ℕ) → (places : List ℕ) → ℕ
+findIn ws n a ps = findFrom a ps 1 (drop 1 (nodesIn n ws))
+
+-- what a search that gives up may say: the row that is found, or nothing
+pub data SightOf (found : ℕ) : Sight → Type 0 where
+  seen : {row : Row} → row .0 ≡ found → SightOf found (Sight.At row)
+  gave-up : SightOf found Sight.Crowded
