@@ -8,7 +8,7 @@ use mathlib.Core.Option.{Option, none, some}
 use Prim.Native.Nat.{ℕ, zero, suc, _+_, _≤_, _<_}
 use lib.Dec.{eqb}
 use lib.ListN.{length, getD}
-use Rattle.model.specs.Limits.{mostStates, mostRules}
+use Rattle.model.specs.Limits.{mostSymbols, mostStates, mostRules, mostContexts}
 use Rattle.model.specs.Base.{isIn, all, among, allAmong, In, Each, Below}
 use Rattle.model.specs.Store.{Store, used, countOf, kidsAt, isRecord, findRow, Frame, filledRow, Spot, spotOf, Extends}
 use Rattle.model.specs.Terms.{Tree, Within, treeAt, treeOf, recordFault}
@@ -17,7 +17,7 @@ use Rattle.model.specs.Table.{Tables, size, answerAt, answerIn, rowOf, r
 use Rattle.model.specs.Sound.{alphabetFits, isSound, isNearlySound, contextsFew}
 use Rattle.model.specs.Listing.{emitted, Read, loaded, readList, finalsFit}
 use Rattle.model.specs.Steps.{Search, lost, search, Sought, noneUnknown, unknown, seek, grow}
-use Rattle.model.specs.Calls.{Call, Outcome, refuses, numberOf, isAsking, phaseOf, faultOf, call}
+use Rattle.model.specs.Calls.{Call, offers, answers, accept, looks, emits, Outcome, refuses, numberOf, isAsking, phaseOf, faultOf, call}
 use Rattle.model.specs.Entry.{sizeFits, listsFit, startNumber, startSeen, startLists, callNumber, callSeen}
 use Rattle.model.specs.Run.{Lent, meant, startedRun, afterCall, after, isTaken, takenOnly, taken, shown, grows, Said, said, saidIn, offeredBy, askedBy, heardIn, agreesWith}
 use Rattle.model.specs.declared.Lists.{Lists}
@@ -28,6 +28,23 @@ use Rattle.model.specs.declared.Seen.{Seen}
 -- a refused call changes nothing
 abbrev pub RefusedUntouched : Type 0
 RefusedUntouched = (l : Lent) (k : Call) → isTaken l k ≡ false → afterCall l k ≡ l
+
+-- looking and emitting change nothing, in lists whose arrays have the lengths of §2.2
+pub record Arrays (l : Lists) : Type 0 where
+  pub counts : length (l .counts) ≡ mostSymbols
+  pub s : length (l .s) ≡ mostStates
+  pub t : length (l .t) ≡ mostRules
+  pub c : length (l .c) ≡ mostContexts
+
+abbrev pub onlyReads : Call → Bool
+onlyReads (offers xs m) = false
+onlyReads (answers m) = false
+onlyReads accept = false
+onlyReads looks = true
+onlyReads (emits r) = true
+
+abbrev pub ReadsUntouched : Type 0
+ReadsUntouched = (l : Lent) (k : Call) → Arrays (l .lists) → onlyReads k ≡ true → afterCall l k ≡ l
 
 -- unsound tables of fit size get 30, whatever is called
 abbrev pub isLentSound : Lent → Bool

@@ -1,10 +1,11 @@
 -- Every promise at once, in the order of the demands (§7.3): one record, of which proofs/Promises/All.antt has the one value. Assumes nothing.
-use Rattle.model.specs.Promise.{RefusedUntouched, UnsoundRefused, StaysSound, StaysNearlySound, SearchEnds, TakenWhenDue, CountsTold, Ordered, AskedOnce, AnswersTaken, OneAutomaton, ListBack, Vouched, GrowsEach, LearnsEach, TakenAlone}
-use Rattle.model.specs.Worked.{Runs, PremisesHold}
+use Rattle.model.specs.Promise.{RefusedUntouched, ReadsUntouched, UnsoundRefused, StaysSound, StaysNearlySound, SearchEnds, TakenWhenDue, CountsTold, Ordered, AskedOnce, AnswersTaken, OneAutomaton, ListBack, Vouched, GrowsEach, LearnsEach, TakenAlone}
+use Rattle.model.specs.Worked.{Runs, Corners, PremisesHold}
 
 pub record Promised : Type 0 where
   -- what a call leaves
   pub refused-untouched : RefusedUntouched
+  pub reads-untouched : ReadsUntouched
   pub unsound-refused : UnsoundRefused
   pub stays-sound : StaysSound
   pub stays-nearly-sound : StaysNearlySound
@@ -24,4 +25,5 @@ pub record Promised : Type 0 where
   pub taken-alone : TakenAlone
   -- the worked runs
   pub runs : Runs
+  pub corners : Corners
   pub premises-hold : PremisesHold

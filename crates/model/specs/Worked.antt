@@ -9,10 +9,11 @@ use Rattle.model.specs.Base.{all}
 use Rattle.model.specs.Automata.{Automaton, isDeterministic}
 use Rattle.model.specs.Listing.{Read, loaded, readList}
 use Rattle.model.specs.Calls.{Call, offers, answers, accept, looks, emits}
-use Rattle.model.specs.Entry.{startNumber, startSeen, callNumber, callSeen, emitOut, emitSeen}
+use Rattle.model.specs.Entry.{startNumber, startSeen, startWords, startLists, callNumber, callSeen, emitOut, emitSeen, loadSeen}
 use Rattle.model.specs.Run.{Lent, startedRun, after, saidIn, agreesWith}
 use Rattle.model.specs.declared.Lists.{Lists}
 use Rattle.model.specs.declared.Seen.{Seen}
+use Rattle.model.specs.declared.Emitted.{Emitted}
 
 -- o is symbol 0 with one child, p is 1 with none; what is lent holds other numbers before the start
 abbrev pub counts : List ℕ
@@ -102,6 +103,70 @@ pub record Runs : Type 0 where
   pub an-answer : refusal (fresh 9) (answers 0) ≡ 31
   pub yes-to-p : refusal (at 9 2) (offers (1 ∷ []) 1) ≡ 33
   pub no-to-op-again : refusal (at 9 2) (offers op 0) ≡ 32
+
+-- THE CORNERS of the calls: what start leaves, what a refusal returns, and the lines of refusal in their order
+abbrev pub zeros : (number : ℕ) → Seen
+zeros n = record { number = n; phase = 0; row = 0; states = 0; rules = 0; contexts = 0 }
+
+abbrev pub wrote : (number size : ℕ) → Emitted
+wrote n k = record { number = n; size = k }
+
+abbrev pub emitting : Lent → (room : ℕ) → Emitted
+emitting l r = emitSeen (l .words) (l .lists) (replicate r 9)
+
+pub record Starts : Type 0 where
+  pub first-row : startWords (oldWords 2) counts ≡ (255 ∷ 0 ∷ 0 ∷ 0 ∷ 0 ∷ 0 ∷ []) ++ replicate 6 7
+  pub lists :
+      startLists (oldWords 2) counts oldLists ≡
+      record {
+        letters = 2;
+        counts = 1 ∷ 0 ∷ replicate 62 0;
+        used = 1;
+        states = 0;
+        s = replicate 32 0;
+        rules = 0;
+        t = replicate 256 0;
+        contexts = 1;
+        c = replicate 289 0;
+        hand = 0;
+        asked = 0;
+        accepted = 0;
+      }
+  pub no-words : startSeen [] counts ≡ zeros 18
+  pub a-word-more : startSeen (7 ∷ oldWords 2) counts ≡ zeros 18
+  pub no-alphabet : startSeen (oldWords 2) [] ≡ zeros 17
+  pub five-children : startSeen (oldWords 2) (5 ∷ 0 ∷ []) ≡ zeros 17
+  pub size-before-alphabet : startSeen [] [] ≡ zeros 18
+  pub refused-words : startWords (oldWords 2) [] ≡ oldWords 2
+  pub refused-lists : startLists (oldWords 2) [] oldLists ≡ oldLists
+
+pub record Corners : Type 0 where
+  pub starts : Starts
+  -- offers: 31, 11 to 15, 16, 32, 33
+  pub offered-while-asking : told (at 9 1) (offers [] 2) ≡ zeros 31
+  pub offered-when-accepted : told (at 9 5) (offers op 0) ≡ zeros 31
+  pub nothing-with-mark-2 : told (fresh 9) (offers [] 2) ≡ zeros 11
+  pub too-long : told (fresh 9) (offers (replicate 1025 2) 2) ≡ zeros 12
+  pub symbol-before-mark : told (fresh 9) (offers (0 ∷ []) 2) ≡ zeros 14
+  pub mark-2 : told (fresh 9) (offers op 2) ≡ zeros 16
+  -- answers: 31, 16; accepting: 31
+  pub answered-while-proposing : told (fresh 9) (answers 2) ≡ zeros 31
+  pub answer-2 : told (at 9 1) (answers 2) ≡ zeros 16
+  pub accepted-while-asking : told (at 9 1) accept ≡ zeros 31
+  pub accepted-twice : told (at 9 5) accept ≡ zeros 31
+  -- any call: 18 before 30; a flag of 2 is not sound
+  pub not-whole-rows : callSeen (7 ∷ fresh 9 .words) oldLists looks ≡ zeros 18
+  pub not-sound : callSeen (fresh 9 .words) oldLists looks ≡ zeros 30
+  pub flag-2 : callSeen (fresh 9 .words) (record { letters = 2; counts = counts; used = 1; states = 0; s = []; rules = 0; t = []; contexts = 1; c = 0 ∷ []; hand = 0; asked = 0; accepted = 2 }) looks ≡ zeros 30
+  -- emitting: 31, 20; 33 bytes are enough
+  pub emitted-while-asking : emitting (at 9 1) 0 ≡ wrote 31 0
+  pub one-byte-short : emitting (at 9 5) 32 ≡ wrote 20 0
+  pub out-kept : emitOut (at 9 5 .words) (at 9 5 .lists) (replicate 32 9) ≡ replicate 32 9
+  pub just-room : emitting (at 9 5) 33 ≡ wrote 0 33
+  -- loading: the rules read, or 21
+  pub read-back : loadSeen theList ≡ wrote 0 2
+  pub nothing-read : loadSeen [] ≡ wrote 21 0
+  pub byte-more : loadSeen (theList ++ (0 ∷ [])) ≡ wrote 21 0
 
 -- the premises of LearnsEach hold for this run and its own automaton
 pub record PremisesHold : Type 0 where

@@ -1,6 +1,6 @@
 -- Every promise kept, each by the term of its own file. Assumes nothing.
 use Rattle.model.specs.Promised.{Promised}
-use Rattle.model.proofs.Promises.Calls.{refused-untouched, unsound-refused, counts-told, taken-alone}
+use Rattle.model.proofs.Promises.Calls.{refused-untouched, reads-untouched, unsound-refused, counts-told, taken-alone}
 use Rattle.model.proofs.Promises.Sound.{stays-sound, stays-nearly-sound}
 use Rattle.model.proofs.Promises.Steps.{search-ends, taken-when-due}
 use Rattle.model.proofs.Promises.Order.{ordered}
@@ -8,12 +8,13 @@ use Rattle.model.proofs.Promises.History.{asked-once, answers-taken, vo
 use Rattle.model.proofs.Promises.Automata.{one-automaton}
 use Rattle.model.proofs.Promises.Listing.{list-back}
 use Rattle.model.proofs.Promises.Learns.{grows-each, learns-each}
-use Rattle.model.proofs.Promises.Worked.{runs, premises-hold}
+use Rattle.model.proofs.Promises.Worked.{runs, corners, premises-hold}
 
 pub promised : Promised
 promised =
     record {
       refused-untouched = refused-untouched;
+      reads-untouched = reads-untouched;
       unsound-refused = unsound-refused;
       stays-sound = stays-sound;
       stays-nearly-sound = stays-nearly-sound;
@@ -30,5 +31,6 @@ promised =
       learns-each = learns-each;
       taken-alone = taken-alone;
       runs = runs;
+      corners = corners;
       premises-hold = premises-hold;
     }

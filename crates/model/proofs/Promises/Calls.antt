@@ -1,20 +1,22 @@
--- A refused call changes nothing, unsound tables get 30, the counts told are those of the tables left, and refused calls may be left out of a run.
+-- A refused call changes nothing, nor does one that only reads, unsound tables get 30, the counts told are those of the tables left, and refused calls may be left out of a run.
 -- Each holds by the call's outcome alone: a refusal keeps what was lent, and tables that are left are told and written as they are.
 use mathlib.Core.Path.{_≡_, refl, sym, ap, _∙_}
 use mathlib.Core.Bool.{Bool, true, false, _&&_, cond, true≢false}
 use mathlib.Core.List.{List, [], _∷_}
 use Prim.Native.Nat.{ℕ}
+use native.Mathlib.Omega.{arith}
 use lib.Dec.{eqb}
 use lib.ListN.{length}
 use Rattle.model.specs.Table.{Tables}
 use Rattle.model.specs.Sound.{isSound}
-use Rattle.model.specs.Calls.{Outcome, refuses, leaves, numberOf, look, faultOf, doneBy, isAsking, started}
+use Rattle.model.specs.Calls.{Call, offers, answers, accept, looks, emits, Outcome, refuses, leaves, numberOf, look, faultOf, doneBy, isAsking, started}
 use Rattle.model.specs.Entry.{rowsLent, sizeFits, tablesOf, listsFit, listsOf, seenOf, seenBy, wordsBy, wordsOf, listsBy, zeroLists, callBy}
 use Rattle.model.specs.Run.{Lent, meant, afterCall, after, isTaken, takenOnly}
-use Rattle.model.specs.Promise.{RefusedUntouched, UnsoundRefused, Tells, CountsTold, TakenAlone}
+use Rattle.model.specs.Promise.{RefusedUntouched, ReadsUntouched, onlyReads, UnsoundRefused, Tells, CountsTold, TakenAlone}
 use Rattle.model.specs.declared.Lists.{Lists}
-use Rattle.model.proofs.Laws.Lent.{s-back, t-back, c-back, accepted-back, start-leaves}
-use Rattle.model.proofs.Laws.Taken.{is-taken}
+use Rattle.model.proofs.Laws.Lent.{length-nodesIn, words-same, lists-same, s-back, t-back, c-back, accepted-back, rows-within, listsFit-facts, start-leaves}
+use Rattle.model.proofs.Laws.Taken.{is-taken, leaves-after}
+use Rattle.model.proofs.Laws.Sounds.{sound-facts}
 
 pub refused-untouched : RefusedUntouched
 refused-untouched l k e = go (callBy (l .words) (l .lists) k) e
@@ -22,6 +24,36 @@ refused-untouched l k e = go (callBy (l .words) (l .lists) k) e
     go : (o : Outcome) → eqb (numberOf o) 0 ≡ false → record { words = wordsBy (l .words) o; lists = listsBy (l .lists) o } ≡ l
     go (refuses n) e = refl
     go (leaves y) e = absurd (true≢false e)
+
+-- tables written over what they were read from are the same
+reads-done : (x : Tables) (k : Call) → onlyReads k ≡ true → doneBy x k ≡ leaves x
+reads-done x (offers xs m) r = absurd (true≢false (sym r))
+reads-done x (answers m) r = absurd (true≢false (sym r))
+reads-done x accept r = absurd (true≢false (sym r))
+reads-done x looks r = refl
+reads-done x (emits n) r = refl
+
+pub reads-untouched : ReadsUntouched
+reads-untouched l k a r = go (isTaken l k) refl
+  where
+    go : (b : Bool) → isTaken l k ≡ b → afterCall l k ≡ l
+    go false e = refused-untouched l k e
+    go true e =
+        let w = is-taken l k e in
+        let f = listsFit-facts (l .lists) (w .lists) in
+        let g = sound-facts (meant l) (w .taken .sound) .nearly .core .good .fits in
+        let n = length-nodesIn (l .lists .used) (l .words) in
+        let a1 = a .counts in
+        let a2 = a .s in
+        let a3 = a .t in
+        let a4 = a .c in
+        let f1 = f .letters in
+        let f2 = f .states in
+        let f3 = f .rules in
+        let f4 = f .contexts in
+        let p = words-same (l .words) (l .lists) (rows-within (l .words) (l .lists .used) (omega arith)) in
+        let q = lists-same (l .words) (l .lists) (omega arith) (omega arith) (omega arith) (omega arith) (f .accepted) in
+        leaves-after l k (meant l) (w .outcome ∙ sym (w .taken .done) ∙ reads-done (meant l) k r) ∙ (λ i. record { words = p i; lists = q i })
 
 -- both gates behind the size refuse with 30
 shut-gates : (a b c : Bool) (o : Outcome) → a ≡ true → a && b && c ≡ false →

@@ -12,7 +12,7 @@ use Rattle.model.specs.Steps.{searchFrom, seekIn, seek, grow}
 use Rattle.model.specs.Listing.{little, valueOf, ruleBlocks, rulesFrom}
 use Rattle.model.specs.Entry.{nodesIn, answersIn, rowWords}
 use Rattle.model.specs.Run.{after, saidIn}
-use Rattle.model.specs.Worked.{TheRun, Runs, PremisesHold}
+use Rattle.model.specs.Worked.{TheRun, Runs, Starts, Corners, PremisesHold}
 
 the-run : TheRun
 unfolding all same among allAmong noRepeats anyTrue countTrue sum placeOf backwards foldFrom findFrom fill filledRow splitAt downFrom symbolsFault storeFrom knownFrom targetIn statesOf runFrom anyMissing stateFrom rowsFit differKnown allDiffer searchFrom seekIn seek grow nodesIn answersIn rowWords after
@@ -50,6 +50,48 @@ runs =
       an-answer = refl;
       yes-to-p = refl;
       no-to-op-again = refl;
+    }
+
+starts : Starts
+unfolding all rowWords
+starts =
+    record {
+      first-row = refl;
+      lists = refl;
+      no-words = refl;
+      a-word-more = refl;
+      no-alphabet = refl;
+      five-children = refl;
+      size-before-alphabet = refl;
+      refused-words = refl;
+      refused-lists = refl;
+    }
+
+pub corners : Corners
+unfolding all same among allAmong noRepeats anyTrue countTrue sum placeOf backwards foldFrom findFrom fill filledRow splitAt downFrom symbolsFault storeFrom knownFrom ruleFrom targetIn hasLeft leftsDiffer statesOf runFrom anyMissing stateFrom rowsFit differKnown allDiffer little valueOf ruleBlocks rulesFrom searchFrom seekIn seek grow nodesIn answersIn rowWords after
+corners =
+    record {
+      starts = starts;
+      offered-while-asking = refl;
+      offered-when-accepted = refl;
+      nothing-with-mark-2 = refl;
+      too-long = refl;
+      symbol-before-mark = refl;
+      mark-2 = refl;
+      answered-while-proposing = refl;
+      answer-2 = refl;
+      accepted-while-asking = refl;
+      accepted-twice = refl;
+      not-whole-rows = refl;
+      not-sound = refl;
+      flag-2 = refl;
+      emitted-while-asking = refl;
+      one-byte-short = refl;
+      out-kept = refl;
+      just-room = refl;
+      read-back = refl;
+      nothing-read = refl;
+      byte-more = refl;
     }
 
 pub premises-hold : PremisesHold
