@@ -2,5 +2,4 @@ pub mod Rows
 pub mod Index
 pub mod Ready
 pub mod Pass
-pub mod Paths
 pub mod Listed

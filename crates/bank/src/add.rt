@@ -1,12 +1,11 @@
 // Rows added where there are none: for a context filled, and for a listed record (§4.4). Rows running out is an answer.
 ghost use mathlib.Core.Path.{_≡_};
-ghost use Prim.Native.Nat.{_+_, _*_, _<_, _≤_};
+ghost use Prim.Native.Nat.{_<_};
 ghost use lib.ListN.{length};
 ghost use Rattle.model.specs.Store.{symbolAt, filledKids, rowFor, fill as fillOf};
-ghost use Rattle.model.specs.Facts.{FrameFits, Fits, Good};
+ghost use Rattle.model.specs.Facts.{FrameFits, Fits};
 ghost use Rattle.model.specs.Entry.{storeOf};
 ghost use Rattle.bank.specs.Ready.{Ready, Came, frameAt, pathOf, PlacesAsked, kidsOf};
-ghost use Rattle.bank.specs.Paths.{framesOn, OnPath};
 use crate::index;
 use crate::rows;
 use model::Row;
@@ -63,84 +62,18 @@ pub fn fill(
     requires { ⌜ Ready (now words) (now counts) used (now holes) (now head) (now next) (now mix) × (length (now down) ≡ 16384) × (row .0 < used) × (with .0 < used) × Fits (storeOf (now words) (now counts) used) (pathOf (now down) (storeOf (now words) (now counts) used) (row .0)) ⌝ }
     ensures { λ r. ⌜ Came (now (words .entry)) (now (counts .entry)) used (fillOf (storeOf (now (words .entry)) (now (counts .entry)) used) (pathOf (now (down .entry)) (storeOf (now (words .entry)) (now (counts .entry)) used) (row .0)) (with .0)) r (now (words .exit)) (now (holes .exit)) (now (head .exit)) (now (next .exit)) (now (mix .entry)) ⌝ }
 {
-    let mut path = [0u16; 16384];
-    let deep = path_down(words, counts, used, down, row, &mut path);
-    climb(
-        words,
-        counts,
-        used,
-        holes,
-        head,
-        next,
-        mix,
-        down,
-        &path,
-        deep,
-        with,
-    )
-}
-
-// The rows that `down` leads through from a row, outermost first, written to `path`, and how many they are.
-fn path_down(
-    words: &[u32],
-    counts: &[u8],
-    used: u16,
-    down: &[u8; 16384],
-    row: Row,
-    path: &mut [u16; 16384],
-) -> usize
-    requires { ⌜ Good (storeOf (now words) (now counts) used) × (6 * used ≤ length (now words)) × (used ≤ 16384) × (length (now down) ≡ 16384) × (length (now path) ≡ 16384) × (row .0 < used) × Fits (storeOf (now words) (now counts) used) (pathOf (now down) (storeOf (now words) (now counts) used) (row .0)) ⌝ }
-    ensures { λ r. ⌜ OnPath (storeOf (now (words .entry)) (now (counts .entry)) used) (now (down .entry)) (now (path .exit)) r (pathOf (now (down .entry)) (storeOf (now (words .entry)) (now (counts .entry)) used) (row .0)) ⌝ }
-{
-    let mut at = row.0;
-    let mut deep = 0;
-    let mut code = down[at as usize];
-    while code != 0 {
-        path[deep] = at;
-        deep += 1;
-        let kid = rows::kid_of(words, Row(at), code as usize - 1);
-        at = kid as u16;
-        code = down[at as usize];
+    let i = row.0 as usize;
+    let code = down[i];
+    if code == 0 {
+        return Grown::At(with, used);
     }
-    deep
-}
-
-// The first `deep` rows of a path filled, from the innermost outwards.
-fn climb(
-    words: &mut [u32],
-    counts: &[u8],
-    used: u16,
-    holes: &mut [u8; 16384],
-    head: &mut [u16; 16384],
-    next: &mut [u16; 16384],
-    mix: &[u32; 5],
-    down: &[u8; 16384],
-    path: &[u16; 16384],
-    deep: usize,
-    with: Row,
-) -> Grown
-    requires { ⌜ Ready (now words) (now counts) used (now holes) (now head) (now next) (now mix) × (length (now down) ≡ 16384) × (with .0 < used) × OnPath (storeOf (now words) (now counts) used) (now down) (now path) deep (framesOn (now down) (storeOf (now words) (now counts) used) (now path) deep) ⌝ }
-    ensures { λ r. ⌜ Came (now (words .entry)) (now (counts .entry)) used (fillOf (storeOf (now (words .entry)) (now (counts .entry)) used) (framesOn (now (down .entry)) (storeOf (now (words .entry)) (now (counts .entry)) used) (now (path .entry)) deep) (with .0)) r (now (words .exit)) (now (holes .exit)) (now (head .exit)) (now (next .exit)) (now (mix .entry)) ⌝ }
-{
-    let mut left = deep;
-    let mut kid = with;
-    let mut n = used;
-    while left != 0 {
-        left -= 1;
-        let i = path[left];
-        let row = Row(i);
-        let place = down[i as usize] as usize - 1;
-        match above(words, counts, n, holes, head, next, mix, row, place, kid) {
-            Grown::Full => {
-                return Grown::Full;
-            }
-            Grown::At(j, m) => {
-                kid = j;
-                n = m;
-            }
-        }
+    let k = code as usize - 1;
+    let kid = rows::kid_of(words, row, k);
+    let at = Row(kid as u16);
+    match fill(words, counts, used, holes, head, next, mix, down, at, with) {
+        Grown::Full => Grown::Full,
+        Grown::At(j, n) => above(words, counts, n, holes, head, next, mix, row, k, j),
     }
-    Grown::At(kid, n)
 }
 
 // The row that is `row` but for the child at a place, found or added.

@@ -1,23 +1,22 @@
--- Filling frame by frame, from the innermost outwards: what the calls so far came to, the row above asked for, and what that comes to.
+-- Filling along an array of places: what the fill from the child came to, the row above asked for, and what that comes to.
 -- The store built so far extends the first, so rows and frames of the first stand in it as they were.
 use mathlib.Core.Path.{_≡_, refl, sym, ap, subst, _∙_}
-use mathlib.Core.List.{List, [], _∷_, map}
-use Prim.Native.Nat.{ℕ, zero, suc, _-_, _≤_, _<_}
+use mathlib.Core.List.{List, _∷_}
+use Prim.Native.Nat.{ℕ, suc, _-_, _<_}
 use native.Mathlib.Omega.{arith}
-use lib.ListN.{length, getD, take, drop}
-use lib.Seq.{getD-take, drop-cons, drop-length, length-take-le}
+use lib.ListN.{getD, take, drop}
 use Rattle.model.specs.Store.{Store, Frame, frame, Built, full, built, used, symbolAt, kidsAt, filledKids, rowFor, thenBuild, fill}
 use Rattle.model.specs.Facts.{Good, FrameFits, Fits, Filled}
 use Rattle.model.specs.Entry.{storeOf}
 use Rattle.model.proofs.Laws.Rows.{kids-ext, symbol-ext}
 use Rattle.model.proofs.Laws.Fill.{fill-is, frame-ext, frame-asks}
 use Rattle.bank.specs.declared.add.Grown.{Grown}
-use Rattle.bank.specs.Ready.{Ready, grownRow, frameAt}
-use Rattle.bank.specs.Paths.{frameOn, framesOn, OnPath}
+use Rattle.bank.specs.Rows.{kidIn}
+use Rattle.bank.specs.Ready.{Ready, grownRow, frameAt, pathOf}
 use Rattle.bank.proofs.Laws.Words.{used-of}
 use Rattle.bank.proofs.Laws.Coming.{Comes, comes-by, comes-same, comes-row, Stage, stage, not-full}
 use Rattle.bank.proofs.Laws.Above.{frame-four}
-use Rattle.bank.proofs.Laws.Paths.{fits-head, fits-tail}
+use Rattle.bank.proofs.Laws.Paths.{fits-head, fits-tail, path-none, path-step, kid-before, kid-word}
 
 -- the store that some frames were filled into
 pub record Reached (ws ns : List ℕ) (n : ℕ) (fs : List Frame) (i j u : ℕ) (ws' hs he ne m : List ℕ) : Type 0 where
@@ -59,18 +58,18 @@ module _ {ws ns : List ℕ} {n : ℕ} {fs : List Frame} {i j u : ℕ} {ws' hs he
   fit-y : FrameFits (d .y) (frameAt (storeOf ws ns n) row k)
   fit-y = frame-ext (storeOf ws ns n) (d .y) g (d .filled .ext) (frameAt (storeOf ws ns n) row k) q
 
-  pub next-fits : FrameFits (storeOf ws' ns u) (frameAt (storeOf ws' ns u) row k)
+  next-fits : FrameFits (storeOf ws' ns u) (frameAt (storeOf ws' ns u) row k)
   next-fits =
       subst (λ (f : Frame). FrameFits (storeOf ws' ns u) f) (sym store-same)
       (subst (λ (x : Store). FrameFits x (frameAt (storeOf ws ns n) row k)) (sym (d .stands .store)) fit-y)
 
-  pub next-row : row < u
+  next-row : row < u
   next-row = let a = d .filled .ext .more in let b = d .stands .count in omega (arith, used-of ws ns n)
 
-  pub next-kid : j < u
+  next-kid : j < u
   next-kid = let a = d .filled .within in let b = d .stands .count in omega arith
 
-  pub next-comes : {r : Grown} {vs hs' he' ne' : List ℕ} →
+  next-comes : {r : Grown} {vs hs' he' ne' : List ℕ} →
       Comes ws' ns u (rowFor (storeOf ws' ns u) (symbolAt (storeOf ws' ns u) row) (filledKids (frameAt (storeOf ws' ns u) row k) j)) r vs hs' he' ne' m →
       Comes ws ns n (fill (storeOf ws ns n) (frameAt (storeOf ws ns n) row k ∷ fs) i) r vs hs' he' ne' m
   unfolding fill
@@ -82,95 +81,7 @@ module _ {ws ns : List ℕ} {n : ℕ} {fs : List Frame} {i j u : ℕ} {ws' hs he
       comes-by (ap (λ (b : Built). thenBuild b (λ (t : ℕ) (z : Store). rowFor z (f .symbol) (filledKids f t))) (d .is))
       (comes-row ws ns n (d .y) (d .filled .ext) (d .filled .good) (d .stands) (f .symbol) (filledKids f j) a (comes-by e c))
 
--- ALONG A PATH: the frames from one of its rows on
-abbrev pub framesFrom : (ds : List ℕ) → Store → (path : List ℕ) → (left deep : ℕ) → List Frame
-framesFrom ds x path left deep = map (frameOn ds x) (drop left (take deep path))
-
-fits-drop : (x : Store) (f : ℕ → Frame) (k : ℕ) (l : List ℕ) → Fits x (map f l) → Fits x (map f (drop k l))
-fits-drop x f zero l h = h
-fits-drop x f (suc k) [] h = h
-fits-drop x f (suc k) (a ∷ l) h = fits-drop x f k l (fits-tail h)
-
-module _ {ds : List ℕ} {x : Store} {path : List ℕ} {deep : ℕ} {fs : List Frame} (o : OnPath x ds path deep fs) where
-  whole : Fits x (framesOn ds x path deep)
-  whole = subst (λ (l : List Frame). Fits x l) (o .frames-are) (o .fit)
-
-  long : length (take deep path) ≡ deep
-  long = length-take-le deep path (let a = o .few in let b = o .long in omega arith)
-
-  pub path-ended : framesFrom ds x path deep deep ≡ []
-  path-ended = ap (λ (k : ℕ). map (frameOn ds x) (drop k (take deep path))) (sym long) ∙ ap (map (frameOn ds x)) (drop-length (take deep path))
-
-  pub path-fits : (left : ℕ) → Fits x (framesFrom ds x path left deep)
-  path-fits left = fits-drop x (frameOn ds x) left (take deep path) whole
-
-  pub path-cons : (left : ℕ) → left < deep → framesFrom ds x path left deep ≡ frameOn ds x (getD path left 0) ∷ framesFrom ds x path (suc left) deep
-  path-cons left l =
-      ap (map (frameOn ds x)) (drop-cons (take deep path) left 0 (omega (arith, long))) ∙
-      ap (λ (i : ℕ). frameOn ds x i ∷ framesFrom ds x path (suc left) deep) (getD-take deep path left 0 l)
-
-  pub path-frame : (left : ℕ) → left < deep → FrameFits x (frameOn ds x (getD path left 0))
-  path-frame left l = fits-head (subst (λ (l : List Frame). Fits x l) (path-cons left l) (path-fits left))
-
--- the innermost end: nothing to fill
-pub climb-starts : {ws ns : List ℕ} {n : ℕ} {hs he ne m : List ℕ} → Ready ws ns n hs he ne m → {ds path : List ℕ} {deep : ℕ} {fs : List Frame} → OnPath (storeOf ws ns n) ds path deep fs → (i : ℕ) →
-    Comes ws ns n (fill (storeOf ws ns n) (framesFrom ds (storeOf ws ns n) path deep deep) i) (grownRow i n) ws hs he ne m
-unfolding fill
-climb-starts {ws} {ns} {n} r o i = comes-by (ap (λ (fs : List Frame). fill (storeOf ws ns n) fs i) (path-ended o)) (comes-same r i)
-
--- one row outwards: `left` rows of the path are to be filled yet
-module _ {ws ns : List ℕ} {n : ℕ} {ds path : List ℕ} {deep : ℕ} {fs : List Frame} (g : Good (storeOf ws ns n)) (o : OnPath (storeOf ws ns n) ds path deep fs) {i : ℕ} (l : i < n)
-    (left : ℕ) (z : left ≡ 0 → ⊥) (h : left ≤ deep) {j u : ℕ} {ws' hs he ne m : List ℕ}
-    (c : Comes ws ns n (fill (storeOf ws ns n) (framesFrom ds (storeOf ws ns n) path left deep) i) (grownRow j u) ws' hs he ne m) where
-  so-far : Reached ws ns n (framesFrom ds (storeOf ws ns n) path left deep) i j u ws' hs he ne m
-  so-far = reached ws ns n (framesFrom ds (storeOf ws ns n) path left deep) i g (path-fits o left) l c
-
-  below : left - 1 < deep
-  below = omega arith
-
-  pub climb-row : getD path (left - 1) 0 < n
-  climb-row = omega (arith, o .within (left - 1) below, used-of ws ns n)
-
-  frame-there : FrameFits (storeOf ws ns n) (frameOn ds (storeOf ws ns n) (getD path (left - 1) 0))
-  frame-there = path-frame o (left - 1) below
-
-  pub climb-ready : Ready ws' ns u hs he ne m
-  climb-ready = so-far .stands .ready
-
-  pub climb-within : getD path (left - 1) 0 < u
-  climb-within = next-row g so-far (getD path (left - 1) 0) (getD ds (getD path (left - 1) 0) 0 - 1) climb-row frame-there
-
-  pub climb-kid : j < u
-  climb-kid = next-kid g so-far (getD path (left - 1) 0) (getD ds (getD path (left - 1) 0) 0 - 1) climb-row frame-there
-
-  pub climb-fits : FrameFits (storeOf ws' ns u) (frameAt (storeOf ws' ns u) (getD path (left - 1) 0) (getD ds (getD path (left - 1) 0) 0 - 1))
-  climb-fits = next-fits g so-far (getD path (left - 1) 0) (getD ds (getD path (left - 1) 0) 0 - 1) climb-row frame-there
-
-  pub climb-four : getD ds (getD path (left - 1) 0) 0 - 1 < 4
-  climb-four =
-      frame-four (storeOf ws ns n) g (getD path (left - 1) 0) (getD ds (getD path (left - 1) 0) 0 - 1) (omega (arith, climb-row, used-of ws ns n)) frame-there
-
-  pub climb-named : getD ds (getD path (left - 1) 0) 0 ≡ 0 → ⊥
-  climb-named = o .named (left - 1) below
-
-  pub climb-on : {r : Grown} {vs hs' he' ne' : List ℕ} →
-      Comes ws' ns u (rowFor (storeOf ws' ns u) (symbolAt (storeOf ws' ns u) (getD path (left - 1) 0))
-      (filledKids (frameAt (storeOf ws' ns u) (getD path (left - 1) 0) (getD ds (getD path (left - 1) 0) 0 - 1)) j)) r vs hs' he' ne' m →
-      Comes ws ns n (fill (storeOf ws ns n) (framesFrom ds (storeOf ws ns n) path (left - 1) deep) i) r vs hs' he' ne' m
-  climb-on d =
-      let e : suc (left - 1) ≡ left = omega arith in
-      comes-by
-      (ap (λ (fs : List Frame). fill (storeOf ws ns n) fs i)
-      (path-cons o (left - 1) below ∙ ap (λ (k : ℕ). frameOn ds (storeOf ws ns n) (getD path (left - 1) 0) ∷ framesFrom ds (storeOf ws ns n) path k deep) e))
-      (next-comes g so-far (getD path (left - 1) 0) (getD ds (getD path (left - 1) 0) 0 - 1) climb-row frame-there d)
-
--- no row left: the whole path is filled
-pub climb-done : (ws ns : List ℕ) (n : ℕ) (ds path : List ℕ) (left deep i : ℕ) → left ≡ 0 → {r : Grown} {vs hs he ne m : List ℕ} →
-    Comes ws ns n (fill (storeOf ws ns n) (framesFrom ds (storeOf ws ns n) path left deep) i) r vs hs he ne m →
-    Comes ws ns n (fill (storeOf ws ns n) (framesOn ds (storeOf ws ns n) path deep) i) r vs hs he ne m
-climb-done ws ns n ds path left deep i e c = comes-by (ap (λ (k : ℕ). fill (storeOf ws ns n) (framesFrom ds (storeOf ws ns n) path k deep) i) (sym e)) c
-
--- ROWS RAN OUT on the way: then the whole fill is full, and the first rows are kept
+-- ROWS RAN OUT: one fill is full where another is, and the first rows are kept
 full-on : {ws ns : List ℕ} {n : ℕ} {b c : Built} {vs hs he ne m : List ℕ} → (b ≡ full → c ≡ full) → Comes ws ns n b Grown.Full vs hs he ne m → Comes ws ns n c Grown.Full vs hs he ne m
 full-on {ws} {ns} {n} {b} {c} {vs} {hs} {he} {ne} {m} f d = go b refl d
   where
@@ -178,17 +89,72 @@ full-on {ws} {ns} {n} {b} {c} {vs} {hs} {he} {ne} {m} f d = go b refl d
     go full e k = comes-by (f e) (record { came = k .came })
     go (built i y) e k = let p = k .came .0 in let z : _≡_ {A = ℕ} 0 1 = cc in absurd (omega arith)
 
-fill-full : (x : Store) (f : ℕ → Frame) (k : ℕ) (l : List ℕ) (i : ℕ) → fill x (map f (drop k l)) i ≡ full → fill x (map f l) i ≡ full
+-- THE INNERMOST END: a row whose entry names no place
+pub fill-ends : {ws ns : List ℕ} {n : ℕ} {hs he ne m : List ℕ} → Ready ws ns n hs he ne m → (ds : List ℕ) (row i : ℕ) → getD ds row 0 ≡ 0 →
+    Comes ws ns n (fill (storeOf ws ns n) (pathOf ds (storeOf ws ns n) row) i) (grownRow i n) ws hs he ne m
 unfolding fill
-fill-full x f zero l i e = e
-fill-full x f (suc k) [] i e = e
-fill-full x f (suc k) (a ∷ l) i e = ap (λ (b : Built). thenBuild b (λ (j : ℕ) (y : Store). rowFor y (f a .symbol) (filledKids (f a) j))) (fill-full x f k l i e)
+fill-ends {ws} {ns} {n} r ds row i e = comes-by (ap (λ (fs : List Frame). fill (storeOf ws ns n) fs i) (path-none ds (storeOf ws ns n) (r .good) row e)) (comes-same r i)
 
-pub climb-ends : (ws ns : List ℕ) (n : ℕ) (ds path : List ℕ) (left deep i : ℕ) {vs hs he ne m : List ℕ} →
-    Comes ws ns n (fill (storeOf ws ns n) (framesFrom ds (storeOf ws ns n) path left deep) i) Grown.Full vs hs he ne m →
-    Comes ws ns n (fill (storeOf ws ns n) (framesOn ds (storeOf ws ns n) path deep) i) Grown.Full vs hs he ne m
-climb-ends ws ns n ds path left deep i c = full-on (fill-full (storeOf ws ns n) (frameOn ds (storeOf ws ns n)) left (take deep path) i) c
+-- ONE STEP: a row whose entry names a place, which is that of a child
+module _ {ws ns : List ℕ} {n : ℕ} {hs₀ he₀ ne₀ m : List ℕ} (o : Ready ws ns n hs₀ he₀ ne₀ m) (ds : List ℕ) (row : ℕ) (l : row < n) (z : getD ds row 0 ≡ 0 → ⊥)
+    (f : Fits (storeOf ws ns n) (pathOf ds (storeOf ws ns n) row)) where
+  low : row < used (storeOf ws ns n)
+  low = omega (arith, used-of ws ns n)
 
--- A PATH is that of its own frames
-pub on-path : {x : Store} {ds path : List ℕ} {n : ℕ} {fs : List Frame} → OnPath x ds path n fs → OnPath x ds path n (framesOn ds x path n)
-on-path o = record { long = o .long; few = o .few; within = o .within; named = o .named; frames-are = refl; fit = whole o }
+  step : pathOf ds (storeOf ws ns n) row ≡ frameAt (storeOf ws ns n) row (getD ds row 0 - 1) ∷ pathOf ds (storeOf ws ns n) (getD (kidsAt (storeOf ws ns n) row) (getD ds row 0 - 1) 0)
+  step = path-step ds (storeOf ws ns n) (o .good) row low z f
+
+  both : Fits (storeOf ws ns n) (frameAt (storeOf ws ns n) row (getD ds row 0 - 1) ∷ pathOf ds (storeOf ws ns n) (getD (kidsAt (storeOf ws ns n) row) (getD ds row 0 - 1) 0))
+  both = subst (λ (fs : List Frame). Fits (storeOf ws ns n) fs) step f
+
+  frame-fits : FrameFits (storeOf ws ns n) (frameAt (storeOf ws ns n) row (getD ds row 0 - 1))
+  frame-fits = fits-head both
+
+  pub down-four : getD ds row 0 - 1 < 4
+  down-four = frame-four (storeOf ws ns n) (o .good) row (getD ds row 0 - 1) low frame-fits
+
+  module _ (kid : ℕ) (e : kid ≡ kidIn ws row (getD ds row 0 - 1)) where
+    kid-is : kid ≡ getD (kidsAt (storeOf ws ns n) row) (getD ds row 0 - 1) 0
+    kid-is = e ∙ sym (kid-word ws ns n row (getD ds row 0 - 1) (o .finding .room) l (o .good) frame-fits)
+
+    pub down-falls : kid < row
+    down-falls = let k = kid-before ds (storeOf ws ns n) (o .good) row (getD ds row 0 - 1) low frame-fits in omega (arith, kid-is)
+
+    pub down-fits : Fits (storeOf ws ns n) (pathOf ds (storeOf ws ns n) kid)
+    down-fits = subst (λ (k : ℕ). Fits (storeOf ws ns n) (pathOf ds (storeOf ws ns n) k)) (sym kid-is) (fits-tail both)
+
+    path-is : pathOf ds (storeOf ws ns n) row ≡ frameAt (storeOf ws ns n) row (getD ds row 0 - 1) ∷ pathOf ds (storeOf ws ns n) kid
+    path-is = step ∙ ap (λ (k : ℕ). frameAt (storeOf ws ns n) row (getD ds row 0 - 1) ∷ pathOf ds (storeOf ws ns n) k) (sym kid-is)
+
+    -- rows ran out inside
+    full-above : (i : ℕ) → fill (storeOf ws ns n) (pathOf ds (storeOf ws ns n) kid) i ≡ full → fill (storeOf ws ns n) (pathOf ds (storeOf ws ns n) row) i ≡ full
+    unfolding fill
+    full-above i p =
+        let h : Frame = frameAt (storeOf ws ns n) row (getD ds row 0 - 1) in
+        ap (λ (fs : List Frame). fill (storeOf ws ns n) fs i) path-is ∙ ap (λ (b : Built). thenBuild b (λ (j : ℕ) (y : Store). rowFor y (h .symbol) (filledKids h j))) p
+
+    pub up-full : (i : ℕ) {vs hs he ne : List ℕ} → Comes ws ns n (fill (storeOf ws ns n) (pathOf ds (storeOf ws ns n) kid) i) Grown.Full vs hs he ne m →
+        Comes ws ns n (fill (storeOf ws ns n) (pathOf ds (storeOf ws ns n) row) i) Grown.Full vs hs he ne m
+    up-full i c = full-on (full-above i) c
+
+    -- the fill from the child came to a row
+    module _ {i : ℕ} (b : i < n) {j u : ℕ} {ws' hs he ne : List ℕ} (c : Comes ws ns n (fill (storeOf ws ns n) (pathOf ds (storeOf ws ns n) kid) i) (grownRow j u) ws' hs he ne m) where
+      inside : Reached ws ns n (pathOf ds (storeOf ws ns n) kid) i j u ws' hs he ne m
+      inside = reached ws ns n (pathOf ds (storeOf ws ns n) kid) i (o .good) down-fits b c
+
+      pub up-ready : Ready ws' ns u hs he ne m
+      up-ready = inside .stands .ready
+
+      pub up-row : row < u
+      up-row = next-row (o .good) inside row (getD ds row 0 - 1) l frame-fits
+
+      pub up-kid : j < u
+      up-kid = next-kid (o .good) inside row (getD ds row 0 - 1) l frame-fits
+
+      pub up-fits : FrameFits (storeOf ws' ns u) (frameAt (storeOf ws' ns u) row (getD ds row 0 - 1))
+      up-fits = next-fits (o .good) inside row (getD ds row 0 - 1) l frame-fits
+
+      pub up-comes : {r : Grown} {vs hs' he' ne' : List ℕ} →
+          Comes ws' ns u (rowFor (storeOf ws' ns u) (symbolAt (storeOf ws' ns u) row) (filledKids (frameAt (storeOf ws' ns u) row (getD ds row 0 - 1)) j)) r vs hs' he' ne' m →
+          Comes ws ns n (fill (storeOf ws ns n) (pathOf ds (storeOf ws ns n) row) i) r vs hs' he' ne' m
+      up-comes d = comes-by (ap (λ (fs : List Frame). fill (storeOf ws ns n) fs i) path-is) (next-comes (o .good) inside row (getD ds row 0 - 1) l frame-fits d)
