@@ -44,7 +44,6 @@ pub mod Order
 pub mod Advance
 pub mod Offer
 pub mod Answer
-pub mod Phase
 pub mod Step
 pub mod Faults
 pub mod Fresh

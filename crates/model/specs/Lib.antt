@@ -9,6 +9,7 @@ pub mod Listing
 pub mod Steps
 pub mod Facts
 pub mod TableFacts
+pub mod Phase
 pub mod Calls
 pub mod Entry
 pub mod Run

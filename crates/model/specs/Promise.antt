@@ -15,6 +15,7 @@ use Rattle.model.specs.Terms.{Tree, Within, treeAt, treeOf, recordFault}
 use Rattle.model.specs.Automata.{Rule, Automaton, isDeterministic, stateOf, accepts, ruleAtRoot, acceptsRow, acceptsList}
 use Rattle.model.specs.Table.{Tables, size, answerAt, answerIn, rowOf, ruleOf, automatonOf}
 use Rattle.model.specs.Sound.{alphabetFits, isSound, isNearlySound, contextsFew}
+use Rattle.model.specs.Phase.{Sounds}
 use Rattle.model.specs.Listing.{emitted, Read, loaded, readList, finalsFit}
 use Rattle.model.specs.Steps.{Search, lost, search, Sought, noneUnknown, unknown, seek, grow}
 use Rattle.model.specs.Calls.{Call, offers, answers, accept, looks, emits, Outcome, refuses, numberOf, isAsking, phaseOf, faultOf, call}
@@ -53,6 +54,11 @@ isLentSound l = sizeFits (l .words) && listsFit (l .lists) && isSound (meant l)
 abbrev pub UnsoundRefused : Type 0
 UnsoundRefused =
     (l : Lent) (k : Call) → sizeFits (l .words) ≡ true → isLentSound l ≡ false → callNumber (l .words) (l .lists) k ≡ 30
+
+-- T1 to T8 as a call tests them are T1 to T8 as facts, field by field
+pub record SoundMeans : Type 0 where
+  pub told : (x : Tables) → isSound x ≡ true → Sounds x
+  pub tested : (x : Tables) → Sounds x → isSound x ≡ true
 
 -- after every call of a fresh run the lent tables are sound
 abbrev pub StaysSound : Type 0

@@ -1,5 +1,5 @@
 -- Every promise at once, in the order of the demands (§7.3): one record, of which proofs/Promises/All.antt has the one value. Assumes nothing.
-use Rattle.model.specs.Promise.{RefusedUntouched, ReadsUntouched, UnsoundRefused, StaysSound, StaysNearlySound, SearchEnds, TakenWhenDue, CountsTold, Ordered, AskedOnce, AnswersTaken, OneAutomaton, ListBack, Vouched, GrowsEach, LearnsEach, TakenAlone}
+use Rattle.model.specs.Promise.{RefusedUntouched, ReadsUntouched, UnsoundRefused, SoundMeans, StaysSound, StaysNearlySound, SearchEnds, TakenWhenDue, CountsTold, Ordered, AskedOnce, AnswersTaken, OneAutomaton, ListBack, Vouched, GrowsEach, LearnsEach, TakenAlone}
 use Rattle.model.specs.Worked.{Runs, Corners, PremisesHold}
 
 pub record Promised : Type 0 where
@@ -7,6 +7,7 @@ pub record Promised : Type 0 where
   pub refused-untouched : RefusedUntouched
   pub reads-untouched : ReadsUntouched
   pub unsound-refused : UnsoundRefused
+  pub sound-means : SoundMeans
   pub stays-sound : StaysSound
   pub stays-nearly-sound : StaysNearlySound
   pub search-ends : SearchEnds

@@ -132,6 +132,8 @@ pub record Starts : Type 0 where
         asked = 0;
         accepted = 0;
       }
+  pub most-rows : startSeen (oldWords 16384) counts ≡ seen 0 0 0 0 1
+  pub a-row-more : startSeen (oldWords 16385) counts ≡ zeros 18
   pub no-words : startSeen [] counts ≡ zeros 18
   pub a-word-more : startSeen (7 ∷ oldWords 2) counts ≡ zeros 18
   pub no-alphabet : startSeen (oldWords 2) [] ≡ zeros 17
@@ -147,6 +149,9 @@ pub record Corners : Type 0 where
   pub offered-when-accepted : told (at 9 5) (offers op 0) ≡ zeros 31
   pub nothing-with-mark-2 : told (fresh 9) (offers [] 2) ≡ zeros 11
   pub too-long : told (fresh 9) (offers (replicate 1025 2) 2) ≡ zeros 12
+  pub just-long-enough : told (fresh 9) (offers (1 ∷ replicate 1023 0) 1) ≡ zeros 34
+  pub one-symbol-more : told (fresh 9) (offers (1 ∷ replicate 1024 0) 1) ≡ zeros 12
+  pub third-offer-taken : told (at 9 4) (offers (1 ∷ 0 ∷ 0 ∷ 0 ∷ []) 1) ≡ seen 0 0 2 3 2
   pub symbol-before-mark : told (fresh 9) (offers (0 ∷ []) 2) ≡ zeros 14
   pub mark-2 : told (fresh 9) (offers op 2) ≡ zeros 16
   -- answers: 31, 16; accepting: 31

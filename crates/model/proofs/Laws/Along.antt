@@ -14,7 +14,7 @@ use Rattle.model.specs.Entry.{sizeFits, listsFit, listsOf}
 use Rattle.model.specs.Run.{Lent, meant, afterCall, isTaken}
 use Rattle.model.specs.Promise.{isLentSound, NearlySound}
 use Rattle.model.proofs.Laws.Tests.{both-true, true-both}
-use Rattle.model.proofs.Laws.Phase.{Nearly, Sounds}
+use Rattle.model.specs.Phase.{Nearly, Sounds}
 use Rattle.model.proofs.Laws.Sounds.{sound-facts, nearly-sound, few-or-one-more}
 use Rattle.model.proofs.Laws.Lent.{good-four, sizeFits-back, rows-within, listsOf-within, listsFit-true}
 use Rattle.model.proofs.Laws.Taken.{is-taken, leaves-after, meant-after}

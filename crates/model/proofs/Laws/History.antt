@@ -25,7 +25,7 @@ use Rattle.model.proofs.Laws.Filled.{filled-leads}
 use Rattle.model.proofs.Laws.Down.{context-fits}
 use Rattle.model.proofs.Laws.Trees.{one-row, within-leads}
 use Rattle.model.proofs.Laws.Settle.{Keeps, answered-used}
-use Rattle.model.proofs.Laws.Phase.{Phase, idle, holding, filling, Nearly, Sounds}
+use Rattle.model.specs.Phase.{Phase, idle, holding, filling, Nearly, Sounds}
 use Rattle.model.proofs.Laws.Step.{Marked, Left}
 use Rattle.model.proofs.Laws.ReflectLists.{record-of, record-back}
 use Rattle.model.proofs.Laws.Took.{Took, took-offer, took-answer, took-accept, took-look, took-emit}

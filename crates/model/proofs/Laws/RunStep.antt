@@ -24,7 +24,7 @@ use Rattle.model.specs.declared.Lists.{Lists}
 use Rattle.model.proofs.Laws.Tests.{both-true, true-both, all-getD}
 use Rattle.model.proofs.Laws.Listed.{stored}
 use Rattle.model.proofs.Laws.Flags.{whole-flags, tidy-flags}
-use Rattle.model.proofs.Laws.Phase.{idle, holding, filling, Sounds}
+use Rattle.model.specs.Phase.{idle, holding, filling, Sounds}
 use Rattle.model.proofs.Laws.Step.{Offering, offering, answering, held-advance, none-advance, mark-some, mark-small, proposing-of, unless-true}
 use Rattle.model.proofs.Laws.Lent.{start-back, start-size-back, start-lists-fit, start-alphabet, start-size, sizeFits-facts}
 use Rattle.model.proofs.Laws.Took.{EndsIn, in-asks, in-proposes, ends-in}

@@ -11,7 +11,7 @@ use Rattle.model.specs.Table.{Tables, size, isMissing}
 use Rattle.model.specs.Sound.{isT1, isT2, isT3, isT4, isT5, isT6, isT7, isT8, contextsFit, contextsFew, isSound, isNearlySound}
 use Rattle.model.specs.TableFacts.{Core, Tidy, Known, Missing, Whole, Few}
 use Rattle.model.proofs.Laws.Tests.{both-true, true-both}
-use Rattle.model.proofs.Laws.Phase.{Phase, idle, holding, filling, Nearly, Sounds}
+use Rattle.model.specs.Phase.{Phase, idle, holding, filling, Nearly, Sounds}
 use Rattle.model.proofs.Laws.ReflectRows.{T1Facts, rows-of, rows-back}
 use Rattle.model.proofs.Laws.ReflectTable.{held-of, held-back, known-of, missing-of, few-of, few-back, few-missing, shaped-of, shaped-back, six-missing, hand-of, hand-back, seven-none, open-of, open-back, idle-of, idle-back}
 

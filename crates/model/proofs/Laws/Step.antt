@@ -32,7 +32,7 @@ use Rattle.model.proofs.Laws.Settle.{Keeps, ShortOk, short-keeps, Settl
 use Rattle.model.proofs.Laws.Advance.{PutDown, HandOk, hand-short, hand-rules, hand-asks, hand-down}
 use Rattle.model.proofs.Laws.Offer.{offer-ok, its-answer}
 use Rattle.model.proofs.Laws.Answer.{answered-core, answered-tidy, answer-hand-ok}
-use Rattle.model.proofs.Laws.Phase.{idle, holding, filling, Nearly}
+use Rattle.model.specs.Phase.{idle, holding, filling, Nearly}
 
 -- FAULTS that are not there
 pub or-zero : (n m : ℕ) → orElse n m ≡ 0 → (n ≡ 0) × (m ≡ 0)

@@ -12,7 +12,7 @@ use Rattle.model.specs.Steps.{Ended, short, asks, proposes, offered, ans
 use Rattle.model.specs.TableFacts.{Core, Tidy, Missing, Whole, Few, Open}
 use Rattle.model.specs.Calls.{Call, offers, answers, accept, looks, emits, leaves, endOf, doneBy, faultOf, isProposing}
 use Rattle.model.proofs.Laws.Flags.{core-flags, whole-flags, tidy-flags}
-use Rattle.model.proofs.Laws.Phase.{Phase, idle, holding, filling, Nearly, Sounds}
+use Rattle.model.specs.Phase.{Phase, idle, holding, filling, Nearly, Sounds}
 use Rattle.model.proofs.Laws.Step.{Offering, offering, answering, StepOk, Left, step-left, Marked, OfferOk, stored-at, offer-taken, AnswerOk, answer-held, answer-filling, proposing-of, unless-true}
 
 -- the tables with which a step ends

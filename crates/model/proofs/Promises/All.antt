@@ -1,7 +1,7 @@
 -- Every promise kept, each by the term of its own file. Assumes nothing.
 use Rattle.model.specs.Promised.{Promised}
 use Rattle.model.proofs.Promises.Calls.{refused-untouched, reads-untouched, unsound-refused, counts-told, taken-alone}
-use Rattle.model.proofs.Promises.Sound.{stays-sound, stays-nearly-sound}
+use Rattle.model.proofs.Promises.Sound.{sound-means, stays-sound, stays-nearly-sound}
 use Rattle.model.proofs.Promises.Steps.{search-ends, taken-when-due}
 use Rattle.model.proofs.Promises.Order.{ordered}
 use Rattle.model.proofs.Promises.History.{asked-once, answers-taken, vouched}
@@ -16,6 +16,7 @@ promised =
       refused-untouched = refused-untouched;
       reads-untouched = reads-untouched;
       unsound-refused = unsound-refused;
+      sound-means = sound-means;
       stays-sound = stays-sound;
       stays-nearly-sound = stays-nearly-sound;
       search-ends = search-ends;

@@ -20,7 +20,7 @@ use Rattle.model.specs.Promise.{SearchEnds, RowsShort, StatesShort, Due,
 use Rattle.model.proofs.Laws.Search.{in-hand-ends}
 use Rattle.model.proofs.Laws.Settle.{short-rows, short-states, short-keeps}
 use Rattle.model.proofs.Laws.Unchanged.{full-of}
-use Rattle.model.proofs.Laws.Phase.{Phase, idle, holding, filling, Sounds}
+use Rattle.model.specs.Phase.{Phase, idle, holding, filling, Sounds}
 use Rattle.model.proofs.Laws.Step.{offering, answering, StepOk, StepShort, short-of, short-rules, step-short, Marked, OfferOk, no-rows, stored-at, offer-taken}
 use Rattle.model.proofs.Laws.Faults.{fault-small}
 use Rattle.model.proofs.Laws.Sounds.{sound-facts}
