@@ -6,6 +6,7 @@ pub mod Lists
 pub mod Stack
 pub mod Backwards
 pub mod Members
+pub mod Scans
 pub mod Pigeonhole
 -- the store: the one fold, rows found and added, frames filled, ways down
 pub mod Fold
@@ -21,10 +22,12 @@ pub mod Listed
 pub mod Verdict
 -- the emitted list: blocks, rule bodies, written and read
 pub mod Blocks
+pub mod Heads
 pub mod RuleBodies
 pub mod LeftSides
 pub mod Listing
 pub mod ListRead
+pub mod RulesRead
 -- the table: the proposal, any automaton that agrees, the search in hand, settling and growing
 pub mod Proposal
 pub mod Proposed

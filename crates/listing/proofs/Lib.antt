@@ -1,0 +1,12 @@
+pub mod Cut
+pub mod Scan
+pub mod Fits
+pub mod Walk
+pub mod Keys
+pub mod Reading
+pub mod Put
+pub mod Flat
+pub mod Writing
+pub mod Looks
+pub mod Views
+pub mod Parts

@@ -1,0 +1,4 @@
+pub mod Blocks
+pub mod Flat
+pub mod Put
+pub mod Shown
