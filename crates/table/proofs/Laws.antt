@@ -3,4 +3,6 @@ pub mod Rows
 pub mod Left
 pub mod Gap
 pub mod Growth
+pub mod Judge
 pub mod Tied
+pub mod Judged

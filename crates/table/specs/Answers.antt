@@ -67,6 +67,12 @@ pub record Observed (x : Store) (w t : List ℕ) (n : ℕ) (c : List ℕ) (m : �
 abbrev pub Placed : (t : List ℕ) → (n : ℕ) → (s : List ℕ) → (q : ℕ) → (places : List ℕ) → Type 0
 Placed t n s q ps = (i : ℕ) → i < q → (getD ps i 0 < n) × (getD t (getD ps i 0) 0 ≡ getD s i 0)
 
+-- places of representatives, as a call carries them
+pub record Placing (places : List ℕ) (q : ℕ) : Type 0 where
+  pub long : length places ≡ 32
+  pub few : q ≤ 32
+  pub within : (i : ℕ) → i < q → getD places i 0 < mostRules
+
 -- the question at a gap, and whether there is one
 abbrev pub soughtBy : (t c : List ℕ) → Gap → Sought
 soughtBy t c Gap.Closed = noneUnknown

@@ -8,6 +8,8 @@ ghost use Rattle.model.specs.Sound.{differKnown};
 ghost use Rattle.table.specs.Answers.{rowAt, Sized, unknownIn, placeBy, gapFrom, stateAt, growAt, grownBy};
 use model::State;
 
+pub mod judge; // judge.rt: T5 and T6
+
 // Whether two transitions have the same answers at the first `contexts` contexts.
 pub fn same_rows(table: &[u8; 73984], contexts: usize, a: usize, b: usize) -> bool
     requires { ⌜ Sized (now table) 256 contexts × (a < 256) × (b < 256) ⌝ }

@@ -27,44 +27,47 @@ state-within r v n ps h =
     omega arith
 
 -- S from q on
-module _ (r : ℕ → List ℕ) (v : List ℕ) (n : ℕ) (ps : List ℕ) (h : n ≤ length ps) (q : ℕ) where
-  left : q < n → drop q (take n ps) ≡ getD ps q 0 ∷ drop (q + 1) (take n ps)
-  left l =
-      drop-cons (take n ps) q 0 (let e = length-take-le n ps h in omega arith) ∙
-      ap (λ (p : ℕ). p ∷ drop (suc q) (take n ps)) (getD-take n ps q 0 l) ∙
-      ap (λ (i : ℕ). getD ps q 0 ∷ drop i (take n ps)) (sym (add-one q))
+pub left : (n : ℕ) (ps : List ℕ) → n ≤ length ps → (q : ℕ) → q < n → drop q (take n ps) ≡ getD ps q 0 ∷ drop (q + 1) (take n ps)
+left n ps h q l =
+    drop-cons (take n ps) q 0 (let e = length-take-le n ps h in omega arith) ∙
+    ap (λ (p : ℕ). p ∷ drop (suc q) (take n ps)) (getD-take n ps q 0 l) ∙
+    ap (λ (i : ℕ). getD ps q 0 ∷ drop i (take n ps)) (sym (add-one q))
 
+pub left-none : (n : ℕ) (ps : List ℕ) → n ≤ length ps → (q : ℕ) → n ≤ q → drop q (take n ps) ≡ []
+left-none n ps h q l = drop-of-length-le (take n ps) {i = q} (let e = length-take-le n ps h in omega arith)
+
+module _ (r : ℕ → List ℕ) (v : List ℕ) (n : ℕ) (ps : List ℕ) (h : n ≤ length ps) (q : ℕ) where
   pub state-hit : (b : Bool) → q < n → b ≡ same v (r (getD ps q 0)) → b ≡ true → stateFrom r v q (drop q (take n ps)) ≡ q
   unfolding stateFrom
-  state-hit b l e t = rw (left l, ← e, t)
+  state-hit b l e t = rw (left n ps h q l, ← e, t)
 
   pub state-pass : (b : Bool) → q < n → b ≡ same v (r (getD ps q 0)) → b ≡ false → stateFrom r v q (drop q (take n ps)) ≡ stateFrom r v (q + 1) (drop (q + 1) (take n ps))
   unfolding stateFrom
-  state-pass b l e t = rw (left l, ← e, t, ← add-one q)
+  state-pass b l e t = rw (left n ps h q l, ← e, t, ← add-one q)
 
   pub state-end : n ≤ q → stateFrom r v q (drop q (take n ps)) ≡ q
   unfolding stateFrom
-  state-end l = rw (drop-of-length-le (take n ps) {i = q} (let e = length-take-le n ps h in omega arith))
+  state-end l = rw (left-none n ps h q l)
 
 -- T from k on
-module _ (r : ℕ → List ℕ) (s : List ℕ) (n k : ℕ) where
-  rest : k < n → placesFrom k (n - k) ≡ k ∷ placesFrom (k + 1) (n - (k + 1))
-  unfolding placesFrom
-  rest l =
-      let e : n - k ≡ suc (n - (k + 1)) = omega arith in
-      ap (placesFrom k) e ∙ ap (λ (i : ℕ). k ∷ placesFrom i (n - (k + 1))) (sym (add-one k))
+pub rest : (n k : ℕ) → k < n → placesFrom k (n - k) ≡ k ∷ placesFrom (k + 1) (n - (k + 1))
+unfolding placesFrom
+rest n k l =
+    let e : n - k ≡ suc (n - (k + 1)) = omega arith in
+    ap (placesFrom k) e ∙ ap (λ (i : ℕ). k ∷ placesFrom i (n - (k + 1))) (sym (add-one k))
 
+module _ (r : ℕ → List ℕ) (s : List ℕ) (n k : ℕ) where
   grow-seen : k < n → stateFrom r (r k) 0 s < length s → grow r s (placesFrom k (n - k)) ≡ grow r s (placesFrom (k + 1) (n - (k + 1)))
   unfolding grow
-  grow-seen l h = rw (rest l, lt-ltb _ _ h)
+  grow-seen l h = rw (rest n k l, lt-ltb _ _ h)
 
   grow-new : k < n → length s ≤ stateFrom r (r k) 0 s → length s < mostStates → grow r s (placesFrom k (n - k)) ≡ grow r (s ++ (k ∷ [])) (placesFrom (k + 1) (n - (k + 1)))
   unfolding grow
-  grow-new l h f = rw (rest l, le-ltb _ _ h, lt-leb _ _ f)
+  grow-new l h f = rw (rest n k l, le-ltb _ _ h, lt-leb _ _ f)
 
   grow-full : k < n → length s ≤ stateFrom r (r k) 0 s → mostStates ≤ length s → grow r s (placesFrom k (n - k)) ≡ none
   unfolding grow
-  grow-full l h f = rw (rest l, le-ltb _ _ h, le-leb _ _ f)
+  grow-full l h f = rw (rest n k l, le-ltb _ _ h, le-leb _ _ f)
 
   grow-end : n ≤ k → grow r s (placesFrom k (n - k)) ≡ some s
   unfolding grow placesFrom

@@ -118,7 +118,7 @@ module _ {x : Store} {w t : List ℕ} {n : ℕ} {c : List ℕ} {m : ℕ} {tb : L
 
   -- STATES AND GROWTH: S by places in T
   module _ (s : List ℕ) (q : ℕ) (ps : List ℕ) (placed : Placed t n s q ps) (l : q ≤ length s) (h : q ≤ length ps) where
-    placed-below : Below n (take q ps)
+    pub placed-below : Below n (take q ps)
     placed-below = at-below n (take q ps) at
       where
         at : (i : ℕ) → i < length (take q ps) → getD (take q ps) i 0 < n
