@@ -53,7 +53,7 @@ fn wide(row: Row) -> u32
 }
 
 // The top of a stack of rows as the child places of the next row, in order.
-fn top_places(stack: &[u16; 1024], height: usize, count: usize) -> [u32; 4]
+pub fn top_places(stack: &[u16; 1024], height: usize, count: usize) -> [u32; 4]
     requires { ⌜ (length (now stack) ≡ 1024) × (count ≤ 4) × (count ≤ height) × (height ≤ 1024) ⌝ }
     ensures { λ r. ⌜ r ≡ padded (top count (stackOf (now (stack .entry)) height)) ⌝ }
 {

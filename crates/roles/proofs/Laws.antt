@@ -1,3 +1,4 @@
 pub mod Scan
 pub mod Marked
 pub mod Fit
+pub mod Children

@@ -9,6 +9,8 @@ ghost use Rattle.roles.specs.Marked.{recordBy, contextBy, recordsBy, con
 use bank::pass;
 use model::Row;
 
+pub mod transitions; // transitions.rt: T2
+
 // Whether a number is that of a used row without a hole.
 pub fn is_record(used: u16, holes: &[u8; 16384], row: Row) -> bool
     requires { ⌜ (length (now holes) ≡ 16384) × (used ≤ 16384) ⌝ }

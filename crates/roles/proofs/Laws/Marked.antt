@@ -3,14 +3,19 @@
 use mathlib.Core.Path.{_≡_, refl, sym, ap, _∙_}
 use mathlib.Core.Bool.{Bool, true, false, _&&_, not}
 use mathlib.Core.List.{List}
-use Prim.Native.Nat.{ℕ, _<_}
+use Prim.Native.Nat.{ℕ, _≤_, _<_}
+use native.Mathlib.Omega.{arith}
 use borrow.Author.Tests.{ltb-true}
 use lib.Dec.{ltb}
+use lib.ListN.{length, getD, take}
+use lib.Seq.{getD-take, length-take-le}
 use Rattle.model.specs.Base.{all}
 use Rattle.model.specs.Store.{used, hasHole, isRecord, isContext}
 use Rattle.model.specs.Table.{Tables, size}
 use Rattle.model.specs.Sound.{contextsFit}
 use Rattle.model.specs.Entry.{storeOf}
+use Rattle.model.proofs.Laws.Tests.{all-getD}
+use Rattle.model.proofs.Laws.ReflectLists.{record-of}
 use Rattle.bank.specs.Ready.{Ready}
 use Rattle.bank.specs.Pass.{holeBy}
 use Rattle.bank.proofs.Laws.Words.{used-of}
@@ -37,6 +42,14 @@ module _ {ws ns : List ℕ} {n : ℕ} {hs head next mix : List ℕ} (r : Ready w
 
   pub contexts-ready : (rows : List ℕ) → contextsBy hs n rows ≡ all (isContext (storeOf ws ns n)) rows
   contexts-ready rows = λ i. all (λ (k : ℕ). context-ready k i) rows
+
+  -- the first m of a list that are records: each is a used row beyond row 0
+  pub record-at : (t : List ℕ) (m : ℕ) → m ≤ length t → all (isRecord (storeOf ws ns n)) (take m t) ≡ true → (k : ℕ) → k < m → (0 < getD t k 0) × (getD t k 0 < n)
+  record-at t m h e k l =
+      let z = length-take-le m t h in
+      let a = record-of (storeOf ws ns n) (getD (take m t) k 0) (all-getD (isRecord (storeOf ws ns n)) (take m t) k 0 e (omega arith)) in
+      let g = getD-take m t k 0 l in
+      (omega (arith, a .some), omega (arith, a .within, used-of ws ns n))
 
   pub contexts-fit-ready : (x : Tables) → x .store ≡ storeOf ws ns n → contextsFitBy hs n (size x) (x .c) ≡ contextsFit x
   contexts-fit-ready x e = rw (contexts-ready (x .c), e) refl
