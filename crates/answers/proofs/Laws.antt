@@ -1,0 +1,4 @@
+pub mod Listed
+pub mod Frames
+pub mod Columns
+pub mod Rows

@@ -1,0 +1,101 @@
+-- The table of answers, row by row: a row's answers put one by one are the row written at once, and a row written is that row alone.
+-- Rows are as wide as the most contexts, so a row's answers end before the next row begins.
+use mathlib.Core.Path.{_≡_, refl, sym, ap, _∙_}
+use mathlib.Core.List.{List, [], _∷_, _++_, map}
+use Prim.Native.Nat.{ℕ, zero, suc, _+_, _*_, _-_, _≤_, _<_}
+use native.Mathlib.Omega.{arith}
+use native.Mathlib.Numerals.{add-one}
+use lib.ListN.{length, getD, set, take, drop, length-map, length-set}
+use lib.Seq.{sets, sets-eq, length-sets, paste, paste-zero, paste-suc, take-length, getD-take, getD-set-same, getD-set-other, length-take-le, ext-getD}
+use Rattle.model.specs.Limits.{mostRules, mostContexts}
+use Rattle.model.specs.Store.{Store}
+use Rattle.model.specs.Table.{answerIn, answersOf}
+use Rattle.table.specs.Answers.{rowAt, Observed}
+use Rattle.table.proofs.Laws.Rows.{row-at, row-length}
+use Rattle.bank.proofs.Laws.Chains.{by-equal}
+
+map-at : (f : ℕ → ℕ) (ks : List ℕ) (j : ℕ) → j < length ks → getD (map f ks) j 0 ≡ f (getD ks j 0)
+map-at f [] j l = absurd (omega arith)
+map-at f (k ∷ ks) zero l = refl
+map-at f (k ∷ ks) (suc j) l = map-at f ks j (omega arith)
+
+-- THE ANSWERS of a record at the first m contexts
+module _ (x : Store) (w c : List ℕ) (m row : ℕ) (enough : m ≤ length c) where
+  pub answers-length : length (answersOf x w (take m c) row) ≡ m
+  answers-length = length-map (take m c) (λ (i : ℕ). answerIn x w i row) ∙ length-take-le m c enough
+
+  pub answers-at : (j : ℕ) → j < m → getD (answersOf x w (take m c) row) j 0 ≡ answerIn x w (getD c j 0) row
+  answers-at j l =
+      map-at (λ (i : ℕ). answerIn x w i row) (take m c) j (omega (arith, length-take-le m c enough)) ∙
+      ap (λ (i : ℕ). answerIn x w i row) (getD-take m c j 0 l)
+
+  -- put one by one from a place on
+  module _ (tb : List ℕ) (at : ℕ) (fits : at + m ≤ length tb) where
+    pub put-none : tb ≡ paste tb at (answersOf x w (take m c) row) 0
+    put-none = paste-zero tb at (answersOf x w (take m c) row)
+
+    pub put-more : {us : List ℕ} (j v : ℕ) → j < m → us ≡ paste tb at (answersOf x w (take m c) row) j → v ≡ answerIn x w (getD c j 0) row →
+        set us (at + j) v ≡ paste tb at (answersOf x w (take m c) row) (j + 1)
+    put-more j v l e a =
+        (λ t. set (e t) (at + j) ((a ∙ sym (answers-at j l)) t)) ∙
+        paste-suc tb at (answersOf x w (take m c) row) j 0 (omega arith) (omega (arith, answers-length)) ∙
+        ap (paste tb at (answersOf x w (take m c) row)) (sym (add-one j))
+
+    pub put-all : {us : List ℕ} (j : ℕ) → j ≡ m → us ≡ paste tb at (answersOf x w (take m c) row) j → us ≡ sets tb at (answersOf x w (take m c) row)
+    put-all j s e =
+        let vs = answersOf x w (take m c) row in
+        let l = s ∙ sym answers-length in
+        e ∙ ap (paste tb at vs) l ∙ ap (λ (us : List ℕ). take at tb ++ us ++ drop (at + length vs) tb) (take-length vs) ∙
+        sym (sets-eq vs tb at (omega (arith, answers-length)))
+
+-- A RUN OF STORES, number by number
+sets-before : (tb : List ℕ) (at : ℕ) (vs : List ℕ) (j : ℕ) → j < at → getD (sets tb at vs) j 0 ≡ getD tb j 0
+sets-before tb at [] j l = refl
+sets-before tb at (v ∷ vs) j l = sets-before (set tb at v) (suc at) vs j (omega arith) ∙ getD-set-other tb at j v 0 (λ e. omega arith)
+
+sets-within : (tb : List ℕ) (at : ℕ) (vs : List ℕ) (j : ℕ) → at + length vs ≤ length tb → j < length vs → getD (sets tb at vs) (at + j) 0 ≡ getD vs j 0
+sets-within tb at [] j h l = absurd (omega arith)
+sets-within tb at (v ∷ vs) zero h l =
+    let e : at + 0 ≡ at = omega arith in
+    ap (λ (i : ℕ). getD (sets (set tb at v) (suc at) vs) i 0) e ∙ sets-before (set tb at v) (suc at) vs at (omega arith) ∙ getD-set-same tb at v 0 (omega arith)
+sets-within tb at (v ∷ vs) (suc j) h l =
+    let e : at + suc j ≡ suc at + j = omega arith in
+    ap (λ (i : ℕ). getD (sets (set tb at v) (suc at) vs) i 0) e ∙ sets-within (set tb at v) (suc at) vs j (rw length-set (omega arith)) (omega arith)
+
+-- A ROW WRITTEN leaves the rows before as they were
+module _ (tb : List ℕ) (m k : ℕ) (vs : List ℕ) (long : length vs ≡ m) (few : m ≤ mostContexts) (fits : mostContexts * k + m ≤ length tb) where
+  pub row-before : (i : ℕ) → i < k → rowAt (sets tb (mostContexts * k) vs) m i ≡ rowAt tb m i
+  row-before i l =
+      let a = row-length tb m i (omega arith) in
+      let b = row-length (sets tb (mostContexts * k) vs) m i (rw length-sets (omega arith)) in
+      ext-getD 0 (rowAt (sets tb (mostContexts * k) vs) m i) (rowAt tb m i) (b ∙ sym a)
+      (λ j q. row-at (sets tb (mostContexts * k) vs) m i j (omega arith) ∙ sets-before tb (mostContexts * k) vs (mostContexts * i + j) (omega arith) ∙ sym (row-at tb m i j (omega arith)))
+
+  pub row-written : rowAt (sets tb (mostContexts * k) vs) m k ≡ vs
+  row-written =
+      let b = row-length (sets tb (mostContexts * k) vs) m k (rw length-sets fits) in
+      ext-getD 0 (rowAt (sets tb (mostContexts * k) vs) m k) vs (b ∙ sym long)
+      (λ j q. row-at (sets tb (mostContexts * k) vs) m k j (omega arith) ∙ sets-within tb (mostContexts * k) vs j (omega arith) (omega arith))
+
+-- OBSERVED: no row at first, and a row more
+pub observed-none : (x : Store) (w t c : List ℕ) (m : ℕ) (tb : List ℕ) → length tb ≡ 73984 → m ≤ mostContexts → Observed x w t 0 c m tb
+observed-none x w t c m tb l f = record { sized = record { long = l; few-t = omega arith; few-c = f }; rows = λ k a. absurd (omega arith) }
+
+pub observed-more : {x : Store} {w t : List ℕ} {k : ℕ} {c : List ℕ} {m : ℕ} {tb : List ℕ} → Observed x w t k c m tb → k < mostRules → m ≤ length c →
+    Observed x w t (k + 1) c m (sets tb (mostContexts * k) (answersOf x w (take m c) (getD t k 0)))
+observed-more {x} {w} {t} {k} {c} {m} {tb} o l h =
+    record { sized = record { long = length-sets tb (mostContexts * k) vs ∙ o .sized .long; few-t = omega arith; few-c = o .sized .few-c }; rows = rows }
+  where
+    vs : List ℕ
+    vs = answersOf x w (take m c) (getD t k 0)
+
+    long : length vs ≡ m
+    long = answers-length x w c m (getD t k 0) h
+
+    fits : mostContexts * k + m ≤ length tb
+    fits = let a = o .sized .long in let b = o .sized .few-c in omega arith
+
+    rows : (i : ℕ) → i < k + 1 → rowAt (sets tb (mostContexts * k) vs) m i ≡ answersOf x w (take m c) (getD t i 0)
+    rows i a =
+        by-equal i k (λ e. ap (rowAt (sets tb (mostContexts * k) vs) m) e ∙ row-written tb m k vs long (o .sized .few-c) fits ∙ ap (λ (j : ℕ). answersOf x w (take m c) (getD t j 0)) (sym e))
+        (λ e. row-before tb m k vs long (o .sized .few-c) fits i (omega arith) ∙ o .rows i (omega arith))

@@ -1,0 +1,40 @@
+-- The column of a record: for each context the row that it fills to. Assumes nothing: these are definitions.
+use mathlib.Core.Path.{_≡_}
+use mathlib.Core.Bool.{true}
+use mathlib.Core.List.{List}
+use Prim.Native.Nat.{ℕ, _-_, _≤_, _<_}
+use lib.ListN.{length, getD}
+use Rattle.model.specs.Limits.{mostRows}
+use Rattle.model.specs.Store.{Store, isContext, kidsAt, filledRow, framesOf}
+use Rattle.bank.specs.Rows.{answerIn}
+
+-- the rows beyond row 0 with a hole, in order
+pub record HoledRows (holes : List ℕ) (u : ℕ) (rows : List ℕ) (n : ℕ) : Type 0 where
+  pub long : length rows ≡ mostRows
+  pub few : n ≤ u
+  pub some : (p : ℕ) → p < n → 0 < getD rows p 0
+  pub within : (p : ℕ) → p < n → getD rows p 0 < u
+  pub marked : (p : ℕ) → p < n → getD holes (getD rows p 0) 0 ≡ 0 → ⊥
+  pub all : (i : ℕ) → 0 < i → i < u → (getD holes i 0 ≡ 0 → ⊥) → (p : ℕ) × (p < n) × (getD rows p 0 ≡ i)
+  pub order : (p q : ℕ) → p < q → q < n → getD rows p 0 < getD rows q 0
+
+-- the child with the hole, by the mark of its place
+abbrev pub holeKid : Store → (holes : List ℕ) → (row : ℕ) → ℕ
+holeKid x hs i = getD (kidsAt x i) (getD hs i 0 - 1) 0
+
+-- at each context the row that it fills to with a record; 0 where it is not stored
+pub record Column (x : Store) (row : ℕ) (filled : List ℕ) : Type 0 where
+  pub long : length filled ≡ mostRows
+  pub within : (i : ℕ) → isContext x i ≡ true → getD filled i 0 < length (x .nodes)
+  pub right : (i : ℕ) → isContext x i ≡ true → getD filled i 0 ≡ filledRow x (framesOf x i) row
+
+-- answers that T1 allows
+abbrev pub Answered : (words : List ℕ) → (u : ℕ) → Type 0
+Answered ws u = (i : ℕ) → i < u → answerIn ws i ≤ 2
+
+-- the first n of a list are contexts; used rows
+abbrev pub Contexts : Store → (rows : List ℕ) → (n : ℕ) → Type 0
+Contexts x c n = (j : ℕ) → j < n → isContext x (getD c j 0) ≡ true
+
+abbrev pub Used : (u : ℕ) → (rows : List ℕ) → (n : ℕ) → Type 0
+Used u t n = (k : ℕ) → k < n → getD t k 0 < u

@@ -1,0 +1,69 @@
+-- `undo::save` meets its contract. The invariant: the words before the i-th are saved.
+use mathlib.Core.Path.{_≡_, refl}
+use Prim.Native.Nat.{ℕ, _*_, _-_, _≤_, _<_}
+use native.Mathlib.Omega.{arith}
+use borrow.Author.Needs.{needs}
+use lib.ListN.{length}
+use Rattle.undo.specs.Saved.{SavedTo}
+use Rattle.undo.proofs.Laws.Words.{save-none, save-more, save-all}
+use Rattle.undo.proofs.save.Statement.{statement}
+use Rattle.undo.proofs.save.Tie as tie
+
+abbrev Inv-loop : tie.InvT-loop
+Inv-loop words used saved₀ i₀ saved i = SavedTo words used i saved
+
+abbrev μ-loop : tie.MeasureT-loop
+μ-loop words used saved₀ i₀ saved i = length words - i
+
+mul-i : tie.Need-mul-i Inv-loop μ-loop
+mul-i c = search needs
+
+loop-holds : tie.Need-loop-holds Inv-loop μ-loop
+loop-holds c = save-none (c .args .words .now) (c .args .used) (c .args .saved .now) (c .pre .1)
+
+mul-saved : tie.Need-mul-saved Inv-loop μ-loop
+mul-saved c = search needs
+
+shared-slice-read-saved : tie.Need-shared-slice-read-saved Inv-loop μ-loop
+shared-slice-read-saved c = search needs
+
+mul-saved-2 : tie.Need-mul-saved-2 Inv-loop μ-loop
+mul-saved-2 c = search needs
+
+element-write-saved : tie.Need-element-write-saved Inv-loop μ-loop
+element-write-saved c = search needs
+
+add-i : tie.Need-add-i Inv-loop μ-loop
+add-i c = search needs
+
+loop-less : tie.Need-loop-less Inv-loop μ-loop
+loop-less c = search needs
+
+loop-again : tie.Need-loop-again Inv-loop μ-loop
+loop-again c =
+    let s = c .before .before .before in
+    let l = c .before .before .loop in
+    save-more (s .args .words .now) (s .args .used) (l .i) (l .saved) (l .inv) (omega arith)
+
+returns : tie.Need-returns Inv-loop μ-loop
+returns c =
+    let s = c .before .before in
+    let l = c .before .loop in
+    save-all (s .args .words .now) (s .args .used) (l .i) (l .saved) (l .inv) (omega arith)
+
+pub save-spec : {M : Type 1} → statement M
+save-spec =
+    tie.close
+    (tie.spec
+    Inv-loop
+    μ-loop
+    mul-i
+    loop-holds
+    mul-saved
+    shared-slice-read-saved
+    mul-saved-2
+    element-write-saved
+    add-i
+    loop-less
+    loop-again
+    returns)

@@ -1,0 +1,30 @@
+// Refused means untouched (§5.3): the rows past the used ones belong to the host, so what they held is saved before a step and put back
+// where the step runs short.
+ghost use mathlib.Core.Path.{_≡_};
+ghost use Prim.Native.Nat.{_*_, _≤_};
+ghost use lib.ListN.{length};
+ghost use Rattle.undo.specs.Saved.{Saved, PutBack};
+
+// Saves the rows from `used` on.
+pub fn save(words: &[u32], used: u16, saved: &mut [u32; 98304])
+    requires { ⌜ (length (now words) ≤ 98304) × (length (now saved) ≡ 98304) ⌝ }
+    ensures { λ _. ⌜ Saved (now (words .entry)) used (now (saved .exit)) ⌝ }
+{
+    let mut i = 6 * used as usize;
+    while i < words.len() {
+        saved[i] = words[i];
+        i += 1;
+    }
+}
+
+// Puts them back.
+pub fn restore(words: &mut [u32], used: u16, saved: &[u32; 98304])
+    requires { ⌜ (length (now words) ≤ 98304) × (6 * used ≤ length (now words)) × (length (now saved) ≡ 98304) ⌝ }
+    ensures { λ _. ⌜ PutBack (now (words .entry)) used (now (saved .entry)) (now (words .exit)) ⌝ }
+{
+    let mut at = 6 * used as usize;
+    while at < words.len() {
+        words[at] = saved[at];
+        at += 1;
+    }
+}
