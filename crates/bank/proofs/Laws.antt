@@ -13,3 +13,4 @@ pub mod Filling
 pub mod ArrayStack
 pub mod Reading
 pub mod Storing
+pub mod Ways
