@@ -1,0 +1,9 @@
+pub mod Place
+pub mod Steps
+pub mod Reps
+pub mod Children
+pub mod Scan
+pub mod Descent
+pub mod Search
+pub mod Turns
+pub mod Walk
