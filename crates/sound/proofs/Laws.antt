@@ -1,0 +1,5 @@
+-- The laws, in reading order: a file leans on those above it.
+pub mod Prepared
+pub mod Hand
+pub mod Judged
+pub mod Looked

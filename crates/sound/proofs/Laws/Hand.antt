@@ -1,0 +1,53 @@
+-- T7, clause by clause: nothing in hand; no record; an answer missing; then the answer against the verdict.
+-- By rewriting the tests that have been made.
+use mathlib.Core.Path.{_≡_, refl, sym, ap, _∙_}
+use mathlib.Core.Bool.{Bool, true, false, _&&_, _||_, not, cond}
+use mathlib.Core.List.{List}
+use Prim.Native.Nat.{ℕ}
+use borrow.Author.Tests.{eq-eqb, ne-eqb}
+use lib.Dec.{eqb}
+use Rattle.model.specs.Automata.{acceptsRow}
+use Rattle.model.specs.Entry.{storeOf}
+use Rattle.bank.specs.Rows.{answerIn}
+use Rattle.roles.specs.Marked.{recordBy}
+use Rattle.hypothesis.specs.Rules.{hypothesis}
+use Rattle.sound.specs.Working.{handFits}
+
+and-false : (a : Bool) → a && false ≡ false
+and-false true = refl
+and-false false = refl
+
+and-true : (a : Bool) → a && true ≡ a
+and-true true = refl
+and-true false = refl
+
+module _ (ws ns : List ℕ) (u : ℕ) (s : List ℕ) (q : ℕ) (t : List ℕ) (n : ℕ) (reps hs : List ℕ) (h : ℕ) (b : Bool) where
+  abbrev test : (none record-row differs : Bool) → (missing : Bool) → Bool
+  test z r d y = z || (r && (d && not y))
+
+  abbrev accepted : Bool
+  accepted = acceptsRow (hypothesis ws ns u s q t n reps) (storeOf ws ns u) h
+
+  abbrev differs : Bool
+  differs = eqb (answerIn ws h) (cond accepted 1 2)
+
+  pub none-in-hand : h ≡ 0 → true ≡ handFits ws ns u s q t n reps hs h b
+  none-in-hand e = sym (ap (λ (z : Bool). test z (recordBy hs u h) differs b) (eq-eqb h 0 e))
+
+  module _ (z : h ≡ 0 → ⊥) where
+    pub no-record : recordBy hs u h ≡ false → false ≡ handFits ws ns u s q t n reps hs h b
+    no-record e = sym (λ i. test (ne-eqb h 0 z i) (e i) differs b)
+
+    pub answer-missing : b ≡ true → false ≡ handFits ws ns u s q t n reps hs h b
+    answer-missing e =
+        sym ((λ i. test (ne-eqb h 0 z i) (recordBy hs u h) differs (e i)) ∙ ap (λ (y : Bool). recordBy hs u h && y) (and-false differs) ∙ and-false (recordBy hs u h))
+
+    module _ (r : recordBy hs u h ≡ true) (m : b ≡ false) where
+      compared : differs ≡ handFits ws ns u s q t n reps hs h b
+      compared = sym ((λ i. test (ne-eqb h 0 z i) (r i) differs (m i)) ∙ and-true differs)
+
+      pub hand-accepted : acceptsRow (hypothesis ws ns u s q t n reps) (storeOf ws ns u) h ≡ true → {v : ℕ} → v ≡ answerIn ws h → eqb v 1 ≡ handFits ws ns u s q t n reps hs h b
+      hand-accepted e p = (λ i. eqb (p i) (cond (sym e i) 1 2)) ∙ compared
+
+      pub hand-rejected : acceptsRow (hypothesis ws ns u s q t n reps) (storeOf ws ns u) h ≡ false → {v : ℕ} → v ≡ answerIn ws h → eqb v 2 ≡ handFits ws ns u s q t n reps hs h b
+      hand-rejected e p = (λ i. eqb (p i) (cond (sym e i) 1 2)) ∙ compared

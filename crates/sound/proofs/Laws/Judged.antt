@@ -1,0 +1,155 @@
+-- T4's last clause and T5 to T8 by what has been worked out are model's; and so the two parts make the soundness test.
+-- The table of answers, the places of S, the marks and the hypothesis say of the tables given what the definitions say.
+use mathlib.Core.Path.{_≡_, refl, sym, ap, subst, _∙_}
+use mathlib.Core.Bool.{Bool, true, false, _&&_, _||_, not, cond, true≢false}
+use mathlib.Core.List.{List, map}
+use Prim.Native.Nat.{ℕ, _+_, _≤_, _<_}
+use native.Mathlib.Omega.{arith}
+use borrow.Author.Tests.{ltb-true}
+use lib.Dec.{ltb, leb, eqb}
+use lib.ListN.{length, getD, take}
+use lib.Seq.{length-take-le}
+use Rattle.model.specs.Limits.{mostRows}
+use Rattle.model.specs.Base.{Distinct}
+use Rattle.model.specs.Store.{used, isRecord}
+use Rattle.model.specs.Automata.{acceptsRow}
+use Rattle.model.specs.Table.{Tables, size, answerAt, answersOf, isMissing, automatonOf}
+use Rattle.model.specs.Sound.{isT1, isT2, isT3, isT4, contextsFit, contextsFew, isT5, isT6, isT7, isT8, isSound, verdictDiffers}
+use Rattle.model.specs.TableFacts.{Shaped, Held}
+use Rattle.model.specs.Entry.{storeOf, answersIn}
+use Rattle.model.proofs.Laws.Tests.{both-true, and-left, and-right}
+use Rattle.model.proofs.Laws.ReflectTable.{held-of, known-of, shaped-of}
+use Rattle.bank.specs.Rows.{answerIn}
+use Rattle.bank.specs.Ready.{Ready}
+use Rattle.bank.proofs.Laws.Words.{used-of, answer-in}
+use Rattle.table.specs.Answers.{gapFrom, isOpen}
+use Rattle.table.proofs.Laws.Tied.{missing-tied}
+use Rattle.table.proofs.Laws.Judged.{yes-tied, differ-tied, once-tied}
+use Rattle.roles.specs.Marked.{recordBy}
+use Rattle.roles.proofs.Laws.Marked.{record-ready}
+use Rattle.hypothesis.specs.Rules.{hypothesis, Ruled}
+use Rattle.hypothesis.proofs.Laws.Tied.{Covers, covers-shaped, RepsOf, reps-tied, ruled-tied, hypothesis-tied}
+use Rattle.bank.specs.Pass.{holeBy}
+use Rattle.observe.proofs.Laws.Parts.{and-assoc}
+use Rattle.observe.specs.Given.{given, rolesFit, fewFit, tableFits, questionFits}
+use Rattle.sound.specs.Working.{Arrays, Working, preparedFit, judgedFit, handFits}
+use Rattle.sound.proofs.Laws.Prepared.{two, three, four}
+
+and-false : (a : Bool) → a && false ≡ false
+and-false true = refl
+and-false false = refl
+
+module _ {ws ns : List ℕ} {u : ℕ} {s : List ℕ} {q : ℕ} {t : List ℕ} {n : ℕ} {c : List ℕ} {m : ℕ} {holes head next mix table places reps : List ℕ} (a : Arrays s q t n c m)
+    (w : Working ws ns u s q t n c m holes head next mix table places reps) where
+  long-s : length (take q s) ≡ q
+  long-s = length-take-le q s (omega (arith, a .s-long, a .few-s))
+
+  long-t : length (take n t) ≡ n
+  long-t = length-take-le n t (omega (arith, a .t-long, a .few-t))
+
+  long-c : length (take m c) ≡ m
+  long-c = length-take-le m c (omega (arith, a .c-long, a .few-c))
+
+  q-s : q ≤ length s
+  q-s = omega (arith, a .s-long, a .few-s)
+
+  q-places : q ≤ length places
+  q-places = omega (arith, w .placing .long, w .placing .few)
+
+  n-t : n ≤ length t
+  n-t = omega (arith, a .t-long, a .few-t)
+
+  small : used (storeOf ws ns u) ≤ mostRows
+  small = omega (arith, used-of ws ns u, w .ready .finding .few)
+
+  pub missing-is : (h o : ℕ) (z : Bool) → isOpen (gapFrom table m 0 n) ≡ isMissing (given ws ns u s q t n c m h o z)
+  missing-is h o z = missing-tied (w .observed) n-t
+
+  -- T4's last clause, T5 and T6
+  few-is : (h o : ℕ) (z : Bool) (b : Bool) → b ≡ isMissing (given ws ns u s q t n c m h o z) → fewFit q n m b ≡ contextsFew (given ws ns u s q t n c m h o z)
+  few-is h o z b e =
+      let k : q + n ≡ length (take q s) + length (take n t) = omega (arith, long-s, long-t) in
+      λ i. e i || leb (sym long-c i) (cond (eqb (k i) 0) 1 (k i))
+
+  pub table-is : (h o : ℕ) (z : Bool) (b : Bool) → b ≡ isMissing (given ws ns u s q t n c m h o z) →
+      tableFits table places q n m b ≡ contextsFew (given ws ns u s q t n c m h o z) && (isT5 (given ws ns u s q t n c m h o z) && isT6 (given ws ns u s q t n c m h o z))
+  table-is h o z b e =
+      let d = differ-tied (w .observed) n-t s q places (w .placed) q-s q-places in
+      let y = yes-tied (w .observed) n-t in
+      let f = once-tied (w .observed) n-t s q places (w .placed) q-s q-places in
+      λ i. few-is h o z b e i && ((d i && y i) && (e i || f i))
+
+  -- T8
+  pub question-is : (h o z : ℕ) (b : Bool) → b ≡ isMissing (given ws ns u s q t n c m h o (eqb z 1)) → questionFits ws holes u h o z b ≡ isT8 (given ws ns u s q t n c m h o (eqb z 1))
+  question-is h o z b e = go (recordBy holes u o) refl
+    where
+      go : (k : Bool) → recordBy holes u o ≡ k → questionFits ws holes u h o z b ≡ isT8 (given ws ns u s q t n c m h o (eqb z 1))
+      go true r =
+          let l = ltb-true o u (and-left (ltb o u) (not (holeBy holes o)) r) in
+          let v = answer-in u o ws l in
+          (λ i. cond (eqb o 0) (eqb h 0 && not (e i)) (record-ready (w .ready) o i && (eqb (sym v i) 0 && not (eqb z 1)))) ∙
+          ap (cond (eqb o 0) (eqb h 0 && not (isMissing (given ws ns u s q t n c m h o (eqb z 1))))) (and-assoc (isRecord (storeOf ws ns u) o) (eqb (answerAt (answersIn u ws) o) 0) (not (eqb z 1)))
+      go false r =
+          let f : isRecord (storeOf ws ns u) o ≡ false = sym (record-ready (w .ready) o) ∙ r in
+          (λ i. cond (eqb o 0) (eqb h 0 && not (e i)) (r i && (eqb (answerIn ws o) 0 && not (eqb z 1)))) ∙
+          sym (λ i. cond (eqb o 0) (eqb h 0 && not (isMissing (given ws ns u s q t n c m h o (eqb z 1)))) ((f i && eqb (answerAt (answersIn u ws) o) 0) && not (eqb z 1)))
+
+  -- T7, where T1 to T6 hold
+  module _ (p : preparedFit (given ws ns u s q t n c m 0 0 false) ≡ true) (h o : ℕ) (z : Bool)
+      (f : contextsFew (given ws ns u s q t n c m h o z) && (isT5 (given ws ns u s q t n c m h o z) && isT6 (given ws ns u s q t n c m h o z)) ≡ true) where
+    abbrev X : Tables
+    X = given ws ns u s q t n c m h o z
+
+    roles : rolesFit (given ws ns u s q t n c m 0 0 false) ≡ true
+    roles = and-right (isT1 X) (rolesFit (given ws ns u s q t n c m 0 0 false)) p
+
+    module _ (e : isMissing (given ws ns u s q t n c m h o z) ≡ false) where
+      covers : Covers (storeOf ws ns u) (answersOf (storeOf ws ns u) (answersIn u ws) (take m c)) (take q s) (take n t)
+      covers =
+          let held = held-of X (two ws ns u s q t n c m a roles) (three ws ns u s q t n c m a roles) (four ws ns u s q t n c m a roles) (and-left (isT5 X) (isT6 X) (and-right (contextsFew X) (isT5 X && isT6 X) f)) in
+          covers-shaped (w .ready .good) (shaped-of X (held .0) (known-of X e) (and-right (isT5 X) (isT6 X) (and-right (contextsFew X) (isT5 X && isT6 X) f))) (held .0 .one) (held .1 .few-s)
+
+      reps-are : RepsOf (answersOf (storeOf ws ns u) (answersIn u ws) (take m c)) (take q s) (take n t) reps
+      reps-are = reps-tied (w .observed) s q places (w .placed) q-s q-places n-t (w .reps-by)
+
+      pub ruled : Ruled (storeOf ws ns u) (take q s) (take n t) reps
+      ruled = ruled-tied covers reps-are small
+
+      pub hypothesis-is : hypothesis ws ns u s q t n reps ≡ automatonOf (given ws ns u s q t n c m h o z)
+      hypothesis-is = hypothesis-tied ws ns u s q t n (take m c) covers reps-are small h o z
+
+    abbrev verdict : Bool → Bool
+    verdict y = eqb h 0 || y
+
+    pub hand-is : (b : Bool) → b ≡ isMissing (given ws ns u s q t n c m h o z) → handFits ws ns u s q t n reps holes h b ≡ isT7 (given ws ns u s q t n c m h o z)
+    hand-is true e =
+        ap (λ (y : Bool). verdict (recordBy holes u h && y)) (and-false (eqb (answerIn ws h) (cond (acceptsRow (hypothesis ws ns u s q t n reps) (storeOf ws ns u) h) 1 2))) ∙
+        ap verdict (and-false (recordBy holes u h)) ∙
+        sym (ap (λ (y : Bool). verdict ((isRecord (storeOf ws ns u) h && verdictDiffers X h) && not y)) (sym e) ∙ ap verdict (and-false (isRecord (storeOf ws ns u) h && verdictDiffers X h)))
+    hand-is false e = go (recordBy holes u h) refl
+      where
+        go : (k : Bool) → recordBy holes u h ≡ k → handFits ws ns u s q t n reps holes h false ≡ isT7 (given ws ns u s q t n c m h o z)
+        go true r =
+            let l = ltb-true h u (and-left (ltb h u) (not (holeBy holes h)) r) in
+            let v = answer-in u h ws l in
+            (λ i. verdict (record-ready (w .ready) h i && (eqb (sym v i) (cond (acceptsRow (hypothesis-is (sym e) i) (storeOf ws ns u) h) 1 2) && not (e i)))) ∙
+            ap verdict (and-assoc (isRecord (storeOf ws ns u) h) (verdictDiffers X h) (not (isMissing X)))
+        go false r =
+            let g : isRecord (storeOf ws ns u) h ≡ false = sym (record-ready (w .ready) h) ∙ r in
+            ap (λ (y : Bool). verdict (y && (eqb (answerIn ws h) (cond (acceptsRow (hypothesis ws ns u s q t n reps) (storeOf ws ns u) h) 1 2) && not false))) r ∙
+            sym (ap (λ (y : Bool). verdict ((y && verdictDiffers X h) && not (isMissing X))) g)
+
+-- THE TWO PARTS make the soundness test
+pub sound-parts : (x : Tables) → preparedFit x && judgedFit x ≡ isSound x
+sound-parts x = go (isT1 x) (isT2 x) (isT3 x) (contextsFit x) (contextsFew x) (isT5 x) (isT6 x) (isT7 x) (isT8 x)
+  where
+    go : (a b c d e f g h i : Bool) → (a && (b && (c && d))) && ((e && (f && g)) && (h && i)) ≡ ((((((a && b) && c) && (d && e)) && f) && g) && h) && i
+    go true true true true true true true true i = refl
+    go true true true true true true true false i = refl
+    go true true true true true true false h i = refl
+    go true true true true true false g h i = refl
+    go true true true true false f g h i = refl
+    go true true true false e f g h i = refl
+    go true true false d e f g h i = refl
+    go true false c d e f g h i = refl
+    go false b c d e f g h i = refl

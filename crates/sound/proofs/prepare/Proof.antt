@@ -1,0 +1,68 @@
+-- `sound::prepare` meets its contract: T1, then the roles of rows; then what has been worked out is as Working has it.
+use mathlib.Core.Path.{_≡_, refl, sym, ap, subst, _∙_}
+use mathlib.Core.Bool.{Bool, true, false, _&&_, true≢false}
+use native.Mathlib.Omega.{arith}
+use borrow.Author.Tests.{not-true, not-false}
+use borrow.Author.Needs.{needs}
+use Rattle.model.proofs.Laws.Tests.{true-both}
+use Rattle.table.proofs.Laws.Rows.{sized-whole}
+use Rattle.roles.proofs.Laws.Scan.{stops, goes-on}
+use Rattle.sound.proofs.Laws.Prepared.{t1-answered, t-one, s-in-t, t-used, c-contexts}
+use Rattle.sound.proofs.prepare.Statement.{statement}
+use Rattle.sound.proofs.prepare.Tie as tie
+
+t1-requires : tie.Need-t1-requires
+t1-requires c κs = search needs
+
+returns : tie.Need-returns
+returns c = (stops _ _ (sym (c .before .t1 .ensures .0) ∙ not-true (c .before .t1 .result) (c .if1 .taken)), λ e. absurd (true≢false (sym e)))
+
+roles-fit-requires : tie.Need-roles-fit-requires
+roles-fit-requires c κs =
+    let s = c .before .before .before .before .before .before .before .before .before .before .before .before in
+    let a = s .pre .1 in
+    ((c .before .before .before .before .before .t1 .ensures .1 (not-false (c .before .before .before .before .before .t1 .result) (c .before .before .before .before .if1 .left))), a .s-long, a .few-s, a .t-long, a .few-t, a .c-long, a .few-c)
+
+returns-2 : tie.Need-returns-2
+returns-2 c =
+    (sym (sym (c .before .roles-fit .ensures) ∙ not-true (c .before .roles-fit .result) (c .if2 .taken)) ∙ goes-on _ _ (sym (c .before .before .before .before .before .before .before .t1 .ensures .0) ∙ not-false (c .before .before .before .before .before .before .before .t1 .result) (c .before .before .before .before .before .before .if1 .left)), λ e. absurd (true≢false (sym e)))
+
+observe-requires : tie.Need-observe-requires
+observe-requires c κs =
+    let s = c .before .before .before .before .before .before .before .before .before .before .before .before .before .before .before .before .before .before .before in
+    let a = s .pre .1 in
+    let f = (sym (c .before .before .before .before .before .before .roles-fit .ensures) ∙ not-false (c .before .before .before .before .before .before .roles-fit .result) (c .before .before .before .before .before .if2 .left)) in
+    ((c .before .before .before .before .before .before .before .before .before .before .before .before .t1 .ensures .1 (not-false (c .before .before .before .before .before .before .before .before .before .before .before .before .t1 .result) (c .before .before .before .before .before .before .before .before .before .before .before .if1 .left))), t1-answered (s .args .words .now) (s .args .counts .now) (s .args .used) (s .args .s .now) (s .args .states) (s .args .t .now) (s .args .rules) (s .args .c .now) (s .args .contexts) (sym (c .before .before .before .before .before .before .before .before .before .before .before .before .t1 .ensures .0) ∙ not-false (c .before .before .before .before .before .before .before .before .before .before .before .before .t1 .result) (c .before .before .before .before .before .before .before .before .before .before .before .if1 .left)), t-used (s .args .words .now) (s .args .counts .now) (s .args .used) (s .args .s .now) (s .args .states) (s .args .t .now) (s .args .rules) (s .args .c .now) (s .args .contexts) a f, a .t-long, a .few-t, c-contexts (s .args .words .now) (s .args .counts .now) (s .args .used) (s .args .s .now) (s .args .states) (s .args .t .now) (s .args .rules) (s .args .c .now) (s .args .contexts) a f, a .c-long, a .few-c, s .pre .2 .table-long)
+
+find-places-requires : tie.Need-find-places-requires
+find-places-requires c κs =
+    let s = c .before .before .before .before .before .before .before .before .before .before .before .before .before .before .before .before .before .before .before .before .before in
+    let a = s .pre .1 in
+    (a .s-long, a .few-s, a .t-long, a .few-t, s .pre .2 .places-long, s-in-t (s .args .words .now) (s .args .counts .now) (s .args .used) (s .args .s .now) (s .args .states) (s .args .t .now) (s .args .rules) (s .args .c .now) (s .args .contexts) a (sym (c .before .before .before .before .before .before .before .before .roles-fit .ensures) ∙ not-false (c .before .before .before .before .before .before .before .before .roles-fit .result) (c .before .before .before .before .before .before .before .if2 .left)))
+
+find-reps-requires : tie.Need-find-reps-requires
+find-reps-requires c κs =
+    let s = c .before .before .before .before .before .before .before .before .before .before .before .before .before .before .before .before .before .before .before .before .before .before .before .before .before in
+    let a = s .pre .1 in
+    let f = (sym (c .before .before .before .before .before .before .before .before .before .before .before .before .roles-fit .ensures) ∙ not-false (c .before .before .before .before .before .before .before .before .before .before .before .before .roles-fit .result) (c .before .before .before .before .before .before .before .before .before .before .before .if2 .left)) in
+    let p = c .before .before .before .find-places .ensures .0 in
+    (sized-whole (c .before .before .before .before .before .observe .ensures .sized), a .few-s, p .long, p .within, a .s-long, a .t-long, a .few-t, λ k l. omega (arith, t-used (s .args .words .now) (s .args .counts .now) (s .args .used) (s .args .s .now) (s .args .states) (s .args .t .now) (s .args .rules) (s .args .c .now) (s .args .contexts) a f k l, (c .before .before .before .before .before .before .before .before .before .before .before .before .before .before .before .before .before .before .t1 .ensures .1 (not-false (c .before .before .before .before .before .before .before .before .before .before .before .before .before .before .before .before .before .before .t1 .result) (c .before .before .before .before .before .before .before .before .before .before .before .before .before .before .before .before .before .if1 .left))) .finding .few), t-one (s .args .words .now) (s .args .counts .now) (s .args .used) (s .args .s .now) (s .args .states) (s .args .t .now) (s .args .rules) (s .args .c .now) (s .args .contexts) a f, s .pre .2 .reps-long)
+
+returns-3 : tie.Need-returns-3
+returns-3 c = (
+  sym (true-both _ _ (sym (c .before .before .before .before .before .before .before .before .before .before .before .before .before .before .before .before .before .before .before .t1 .ensures .0) ∙ not-false (c .before .before .before .before .before .before .before .before .before .before .before .before .before .before .before .before .before .before .before .t1 .result) (c .before .before .before .before .before .before .before .before .before .before .before .before .before .before .before .before .before .before .if1 .left)) (sym (c .before .before .before .before .before .before .before .before .before .before .before .before .before .roles-fit .ensures) ∙ not-false (c .before .before .before .before .before .before .before .before .before .before .before .before .before .roles-fit .result) (c .before .before .before .before .before .before .before .before .before .before .before .before .if2 .left))),
+  λ e. record { ready = (c .before .before .before .before .before .before .before .before .before .before .before .before .before .before .before .before .before .before .before .t1 .ensures .1 (not-false (c .before .before .before .before .before .before .before .before .before .before .before .before .before .before .before .before .before .before .before .t1 .result) (c .before .before .before .before .before .before .before .before .before .before .before .before .before .before .before .before .before .before .if1 .left))); observed = c .before .before .before .before .before .before .observe .ensures; placing = c .before .before .before .before .find-places .ensures .0; placed = c .before .before .before .before .find-places .ensures .1; reps-by = c .find-reps .ensures },
+)
+
+pub prepare-spec : {M : Type 1} → statement M
+prepare-spec =
+    tie.close
+    (tie.spec
+    t1-requires
+    returns
+    roles-fit-requires
+    returns-2
+    observe-requires
+    find-places-requires
+    find-reps-requires
+    returns-3)

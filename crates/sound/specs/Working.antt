@@ -1,0 +1,57 @@
+-- The soundness test in its parts (§2.3), and what it leaves for a step to work with. Assumes nothing: these are definitions.
+use mathlib.Core.Path.{_≡_}
+use mathlib.Core.Bool.{Bool, _&&_, _||_, not, cond}
+use mathlib.Core.List.{List}
+use Prim.Native.Nat.{ℕ, _≤_}
+use lib.Dec.{eqb}
+use lib.ListN.{length, take}
+use Rattle.model.specs.Limits.{mostRows}
+use Rattle.model.specs.Automata.{acceptsRow}
+use Rattle.model.specs.Table.{Tables}
+use Rattle.model.specs.Sound.{isT1, contextsFew, isT5, isT6, isT7, isT8}
+use Rattle.model.specs.Entry.{storeOf, answersIn}
+use Rattle.bank.specs.Rows.{answerIn}
+use Rattle.bank.specs.Ready.{Ready}
+use Rattle.table.specs.Answers.{Observed, Placing, Placed}
+use Rattle.roles.specs.Marked.{recordBy}
+use Rattle.hypothesis.specs.Rules.{RepsBy, hypothesis}
+use Rattle.observe.specs.Given.{rolesFit}
+
+-- the run's lists in their arrays
+pub record Arrays (s : List ℕ) (q : ℕ) (t : List ℕ) (n : ℕ) (c : List ℕ) (m : ℕ) : Type 0 where
+  pub s-long : length s ≡ 32
+  pub few-s : q ≤ 32
+  pub t-long : length t ≡ 256
+  pub few-t : n ≤ 256
+  pub c-long : length c ≡ 289
+  pub few-c : m ≤ 289
+
+-- room to work in
+pub record Room (holes head next mix table places reps : List ℕ) : Type 0 where
+  pub holes-long : length holes ≡ mostRows
+  pub head-long : length head ≡ mostRows
+  pub next-long : length next ≡ mostRows
+  pub mix-long : length mix ≡ 5
+  pub table-long : length table ≡ 73984
+  pub places-long : length places ≡ 32
+  pub reps-long : length reps ≡ mostRows
+
+-- the index, the table of answers, S by its places in T, the representative of each transition
+pub record Working (words counts : List ℕ) (u : ℕ) (s : List ℕ) (q : ℕ) (t : List ℕ) (n : ℕ) (c : List ℕ) (m : ℕ) (holes head next mix table places reps : List ℕ) : Type 0 where
+  pub ready : Ready words counts u holes head next mix
+  pub observed : Observed (storeOf words counts u) (answersIn u words) t n c m table
+  pub placing : Placing places q
+  pub placed : Placed t n s q places
+  pub reps-by : RepsBy table m (take q places) (take q s) (take n t) reps
+
+-- T1, T2, T3, and T4 but for its last clause; then the rest
+abbrev pub preparedFit : Tables → Bool
+preparedFit x = isT1 x && rolesFit x
+
+abbrev pub judgedFit : Tables → Bool
+judgedFit x = (contextsFew x && (isT5 x && isT6 x)) && (isT7 x && isT8 x)
+
+-- T7 by the marks of holes and the hypothesis
+abbrev pub handFits : (words counts : List ℕ) → (u : ℕ) → (s : List ℕ) → (q : ℕ) → (t : List ℕ) → (n : ℕ) → (reps holes : List ℕ) → (hand : ℕ) → (missing : Bool) → Bool
+handFits ws ns u s q t n reps hs h b =
+    eqb h 0 || (recordBy hs u h && (eqb (answerIn ws h) (cond (acceptsRow (hypothesis ws ns u s q t n reps) (storeOf ws ns u) h) 1 2) && not b))
