@@ -1,4 +1,5 @@
 pub mod Words
+pub mod Finding
 pub mod Chains
 pub mod Alphabet
 pub mod Kids

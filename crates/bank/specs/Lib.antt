@@ -2,4 +2,5 @@ pub mod Rows
 pub mod Index
 pub mod Ready
 pub mod Pass
+pub mod Adding
 pub mod Listed

@@ -1,12 +1,17 @@
 // Rows added where there are none: for a context filled, and for a listed record (§4.4). Rows running out is an answer.
 ghost use mathlib.Core.Path.{_≡_};
-ghost use Prim.Native.Nat.{_<_};
-ghost use lib.ListN.{length};
-ghost use Rattle.model.specs.Store.{symbolAt, filledKids, rowFor, fill as fillOf};
-ghost use Rattle.model.specs.Facts.{FrameFits, Fits};
+ghost use mathlib.Core.List.{List};
+ghost use Prim.Native.Nat.{ℕ, _<_};
+ghost use lib.ListN.{length, set};
+ghost use Rattle.model.specs.Store.{rowFor, fill as fillOf};
+ghost use Rattle.model.specs.Facts.{Fits};
 ghost use Rattle.model.specs.Entry.{storeOf};
-ghost use Rattle.bank.specs.Ready.{Ready, Came, frameAt, pathOf, PlacesAsked, kidsOf};
+ghost use Rattle.bank.specs.Rows.{symbolIn, placesIn};
+ghost use Rattle.bank.specs.Index.{findIn};
+ghost use Rattle.bank.specs.Ready.{Ready, Came, pathOf, PlacesAsked, kidsOf};
+ghost use Rattle.bank.specs.Adding.{Lent, holeAbove, Put, Under, FramesAsked};
 use crate::index;
+use crate::pass;
 use crate::rows;
 use model::Row;
 
@@ -36,6 +41,24 @@ pub fn row_for(
     if found.0 != 0 {
         return Grown::At(found, used);
     }
+    add_row(words, used, holes, head, next, mix, symbol, places, hole)
+}
+
+// A row that no used one is equal to, written behind them, marked and entered; or there is no room for it.
+fn add_row(
+    words: &mut [u32],
+    used: u16,
+    holes: &mut [u8; 16384],
+    head: &mut [u16; 16384],
+    next: &mut [u16; 16384],
+    mix: &[u32; 5],
+    symbol: u32,
+    places: [u32; 4],
+    hole: u8,
+) -> Grown
+    requires { ⌜ Lent (now words) used (now holes) (now head) (now next) (now mix) × (findIn (now words) used symbol places ≡ 0) ⌝ }
+    ensures { λ r. ⌜ Put (now (words .entry)) used (now (holes .entry)) (now (head .entry)) (now (next .entry)) (now (mix .entry)) symbol places hole r (now (words .exit)) (now (holes .exit)) (now (head .exit)) (now (next .exit)) ⌝ }
+{
     let n = used as usize;
     if words.len() < 6 * n + 6 {
         return Grown::Full;
@@ -63,23 +86,46 @@ pub fn fill(
     ensures { λ r. ⌜ Came (now (words .entry)) (now (counts .entry)) used (fillOf (storeOf (now (words .entry)) (now (counts .entry)) used) (pathOf (now (down .entry)) (storeOf (now (words .entry)) (now (counts .entry)) used) (row .0)) (with .0)) r (now (words .exit)) (now (holes .exit)) (now (head .exit)) (now (next .exit)) (now (mix .entry)) ⌝ }
 {
     let i = row.0 as usize;
-    let code = down[i];
-    if code == 0 {
+    if down[i] == 0 {
         return Grown::At(with, used);
     }
-    let k = code as usize - 1;
+    fill_frames(words, down, row, with, used, holes, head, next, mix)
+}
+
+// The frames from a row whose entry names a place: the innermost filled with `with`, each other one with what those below it came to.
+// A level takes 112 bytes of stack: no counts are passed, the parameters that only the way down needs come first, where they are in registers,
+// and two calls of `above` keep that out of line.
+fn fill_frames(
+    words: &mut [u32],
+    down: &[u8; 16384],
+    row: Row,
+    with: Row,
+    used: u16,
+    holes: &mut [u8; 16384],
+    head: &mut [u16; 16384],
+    next: &mut [u16; 16384],
+    mix: &[u32; 5],
+) -> Grown
+    requires { ⌜ Under (λ (counts : List ℕ). FramesAsked (now words) counts used (now holes) (now head) (now next) (now mix) (now down) (row .0) (with .0)) ⌝ }
+    ensures { λ r. ⌜ ((counts : List ℕ) → FramesAsked (now (words .entry)) counts used (now (holes .entry)) (now (head .entry)) (now (next .entry)) (now (mix .entry)) (now (down .entry)) (row .0) (with .0) → Came (now (words .entry)) counts used (fillOf (storeOf (now (words .entry)) counts used) (pathOf (now (down .entry)) (storeOf (now (words .entry)) counts used) (row .0)) (with .0)) r (now (words .exit)) (now (holes .exit)) (now (head .exit)) (now (next .exit)) (now (mix .entry))) ⌝ }
+{
+    let i = row.0 as usize;
+    let k = down[i] as usize - 1;
     let kid = rows::kid_of(words, row, k);
-    let at = Row(kid as u16);
-    match fill(words, counts, used, holes, head, next, mix, down, at, with) {
-        Grown::Full => Grown::Full,
-        Grown::At(j, n) => above(words, counts, n, holes, head, next, mix, row, k, j),
+    if down[kid as usize] == 0 {
+        return above(words, used, holes, head, next, mix, row, k, with);
     }
+    let at = Row(kid as u16);
+    let mut grown = fill_frames(words, down, at, with, used, holes, head, next, mix);
+    if let Grown::At(j, n) = grown {
+        grown = above(words, n, holes, head, next, mix, row, k, j);
+    }
+    grown
 }
 
 // The row that is `row` but for the child at a place, found or added.
 fn above(
     words: &mut [u32],
-    counts: &[u8],
     used: u16,
     holes: &mut [u8; 16384],
     head: &mut [u16; 16384],
@@ -89,30 +135,19 @@ fn above(
     place: usize,
     kid: Row,
 ) -> Grown
-    requires { ⌜ Ready (now words) (now counts) used (now holes) (now head) (now next) (now mix) × (row .0 < used) × (kid .0 < used) × FrameFits (storeOf (now words) (now counts) used) (frameAt (storeOf (now words) (now counts) used) (row .0) place) ⌝ }
-    ensures { λ r. ⌜ Came (now (words .entry)) (now (counts .entry)) used (rowFor (storeOf (now (words .entry)) (now (counts .entry)) used) (symbolAt (storeOf (now (words .entry)) (now (counts .entry)) used) (row .0)) (filledKids (frameAt (storeOf (now (words .entry)) (now (counts .entry)) used) (row .0) place) (kid .0))) r (now (words .exit)) (now (holes .exit)) (now (head .exit)) (now (next .exit)) (now (mix .entry)) ⌝ }
+    requires { ⌜ Lent (now words) used (now holes) (now head) (now next) (now mix) × (row .0 < used) × (place < 4) × (kid .0 < used) ⌝ }
+    ensures { λ r. ⌜ Put (now (words .entry)) used (now (holes .entry)) (now (head .entry)) (now (next .entry)) (now (mix .entry)) (symbolIn (now (words .entry)) (row .0)) (set (placesIn (now (words .entry)) (row .0)) place (kid .0)) (holeAbove (now (holes .entry)) (kid .0) place) r (now (words .exit)) (now (holes .exit)) (now (head .exit)) (now (next .exit)) ⌝ }
 {
     let symbol = rows::symbol_of(words, row);
     let mut places = rows::places_of(words, row);
-    let j = kid.0;
-    places[place] = j as u32;
+    places[place] = kid.0 as u32;
     let mut hole = 0;
-    if j == 0 {
-        hole = (place + 1) as u8;
+    if pass::has_hole(holes, kid) {
+        hole = place as u8 + 1;
     }
-    if holes[j as usize] != 0 {
-        hole = (place + 1) as u8;
+    let found = index::find(words, used, head, next, mix, symbol, places);
+    if found.0 != 0 {
+        return Grown::At(found, used);
     }
-    row_for(
-        words,
-        counts,
-        used,
-        holes,
-        head,
-        next,
-        mix,
-        symbol,
-        places,
-        hole,
-    )
+    add_row(words, used, holes, head, next, mix, symbol, places, hole)
 }

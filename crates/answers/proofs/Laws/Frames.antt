@@ -1,26 +1,28 @@
 -- A context in a store that is ready, one step down: its frame around the hole child, then the frames of that child.
 -- The mark of a row names the first child with a hole, which is where the way down to the hole goes.
 use mathlib.Core.Path.{_≡_, refl, sym, ap, subst, _∙_}
-use mathlib.Core.Bool.{Bool, true, false, cond, true≢false}
+use mathlib.Core.Bool.{Bool, true, false, not, cond, true≢false}
 use mathlib.Core.List.{List, [], _∷_}
 use Prim.Native.Nat.{ℕ, zero, suc, _-_, _<_}
 use native.Mathlib.Omega.{arith}
-use lib.Dec.{ltb}
+use lib.Dec.{ltb, eqb}
 use borrow.Author.Tests.{ltb-true, eq-eqb, ne-eqb}
 use lib.ListN.{getD, take, drop, set}
 use Rattle.model.specs.Base.{Below, none-below, one-below}
 use Rattle.model.specs.Store.{Store, Split, there, push, splitAt, Spot, Frame, downBy, downFrom, used, symbolAt, kidsAt, hasHole, isContext, padded, filledKids, findRow, nextRow, filledRow, framesOf}
 use Rattle.model.specs.Facts.{Good, FrameFits, Fits}
 use Rattle.model.specs.Entry.{storeOf}
-use Rattle.model.proofs.Laws.Tests.{both-true}
+use Rattle.model.proofs.Laws.Tests.{both-true, or-right}
 use Rattle.model.proofs.Laws.Fold.{earlier}
 use Rattle.model.proofs.Laws.Down.{down-fuel, context-fits}
 use Rattle.bank.specs.Rows.{symbolIn, kidIn, placesIn}
 use Rattle.bank.specs.Index.{findIn}
 use Rattle.bank.specs.Ready.{oneFurther, placeCode, Ready, frameAt}
-use Rattle.bank.proofs.Laws.Words.{used-of, symbol-in, found-in}
+use Rattle.bank.proofs.Laws.Words.{used-of, symbol-in}
+use Rattle.bank.proofs.Laws.Finding.{found-in}
 use Rattle.bank.proofs.Laws.Chains.{by-equal}
-use Rattle.bank.proofs.Laws.Above.{marked, unmarked, frame-four, above-kids, above-asks}
+use Rattle.bank.proofs.Laws.Above.{frame-four, above-kids, above-asks}
+use Rattle.bank.proofs.Laws.T1.{hole-ready}
 use Rattle.bank.proofs.Laws.Paths.{fits-head, kid-before, kid-word}
 use Rattle.answers.specs.Columns.{holeKid}
 
@@ -64,7 +66,7 @@ module _ {ws ns : List ℕ} {n : ℕ} {hs he ne m : List ℕ} (r : Ready ws ns n
   split = code-split (hasHole x) (kidsAt x i) place (sym (r .holed i l) ∙ omega arith)
 
   pub context-marked : hasHole (storeOf ws ns n) i ≡ true
-  context-marked = marked r i l z
+  context-marked = sym (hole-ready r i l) ∙ or-right (eqb i 0) (ap not (ne-eqb (getD hs i 0) 0 z))
 
   -- its frame around the hole fits
   down-one : downFrom (hasHole (storeOf ws ns n)) (suc i) (storeOf ws ns n) i .around ≡
@@ -107,7 +109,7 @@ module _ {ws ns : List ℕ} {n : ℕ} {hs he ne m : List ℕ} (r : Ready ws ns n
   module _ (j : ℕ) (v : j < n) (some : j ≡ 0 → ⊥) (a : ℕ) (ps : List ℕ) (p : a ≡ symbolIn ws i) (s : ps ≡ placesIn ws i) where
     next-found : nextRow (storeOf ws ns n) (frameAt (storeOf ws ns n) i (getD hs i 0 - 1)) j ≡ findIn ws n a (set ps (getD hs i 0 - 1) j)
     next-found =
-        let q = above-asks r i place j l v frame-fits (cond (hasHole x j) (suc place) 0) refl .unused in
+        let q = above-asks r i place j l v frame-fits .unused in
         let k = above-kids r i place j l v frame-fits in
         let e = q ∙ ap padded k in
         ap (λ (b : Bool). cond b 0 (findRow x (symbolAt x i) (filledKids (frameAt x i place) j))) (ne-eqb j 0 some) ∙
@@ -129,4 +131,4 @@ module _ (x : Store) (i : ℕ) (c : isContext x i ≡ true) where
   context-hole = both-true (ltb i (used x)) (hasHole x i) c .1
 
 pub hole-marked : {ws ns : List ℕ} {n : ℕ} {hs he ne m : List ℕ} → Ready ws ns n hs he ne m → (i : ℕ) → i < n → (i ≡ 0 → ⊥) → hasHole (storeOf ws ns n) i ≡ true → getD hs i 0 ≡ 0 → ⊥
-hole-marked r i l z h e = true≢false (sym h ∙ unmarked r i l z e)
+hole-marked {hs = hs} r i l z h e = true≢false (sym h ∙ sym (hole-ready r i l) ∙ rw (ne-eqb i 0 z, eq-eqb (getD hs i 0) 0 e) refl)

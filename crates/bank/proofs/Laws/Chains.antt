@@ -12,7 +12,8 @@ use lib.Seq.{getD-set-same, getD-set-other}
 use Rattle.model.specs.Limits.{rowWidth, mostRows}
 use Rattle.bank.specs.Rows.{symbolIn, placesIn, Within}
 use Rattle.bank.specs.Index.{bucketOf, bucketAt, Indexed, NoTwins, Finding, findIn}
-use Rattle.bank.proofs.Laws.Words.{SameRows, symbol-kept, places-kept, bucket-kept, absent-in, find-none, find-is}
+use Rattle.bank.proofs.Laws.Words.{SameRows, symbol-kept, places-kept, bucket-kept}
+use Rattle.bank.proofs.Laws.Finding.{absent-in, find-none, find-is}
 
 pub by-equal : {A : Type 0} (i j : ℕ) → (i ≡ j → A) → ((i ≡ j → ⊥) → A) → A
 by-equal {A} i j f g = go (eqb i j) refl

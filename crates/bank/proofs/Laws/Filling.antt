@@ -1,21 +1,23 @@
--- Filling along an array of places: what the fill from the child came to, the row above asked for, and what that comes to.
+-- Filling along an array of places: what the fill from the child came to, the row above put, and what that comes to.
 -- The store built so far extends the first, so rows and frames of the first stand in it as they were.
 use mathlib.Core.Path.{_≡_, refl, sym, ap, subst, _∙_}
 use mathlib.Core.List.{List, _∷_}
 use Prim.Native.Nat.{ℕ, suc, _-_, _<_}
 use native.Mathlib.Omega.{arith}
-use lib.ListN.{getD, take, drop}
+use lib.ListN.{getD, set, take, drop}
 use Rattle.model.specs.Store.{Store, Frame, frame, Built, full, built, used, symbolAt, kidsAt, filledKids, rowFor, thenBuild, fill}
 use Rattle.model.specs.Facts.{Good, FrameFits, Fits, Filled}
 use Rattle.model.specs.Entry.{storeOf}
 use Rattle.model.proofs.Laws.Rows.{kids-ext, symbol-ext}
 use Rattle.model.proofs.Laws.Fill.{fill-is, frame-ext, frame-asks}
 use Rattle.bank.specs.declared.add.Grown.{Grown}
-use Rattle.bank.specs.Rows.{kidIn}
+use Rattle.bank.specs.Rows.{symbolIn, kidIn, placesIn}
 use Rattle.bank.specs.Ready.{Ready, grownRow, frameAt, pathOf}
+use Rattle.bank.specs.Adding.{Lent, holeAbove, Put, FramesAsked}
 use Rattle.bank.proofs.Laws.Words.{used-of}
 use Rattle.bank.proofs.Laws.Coming.{Comes, comes-by, comes-same, comes-row, Stage, stage, not-full}
-use Rattle.bank.proofs.Laws.Above.{frame-four}
+use Rattle.bank.proofs.Laws.Adding.{lent-of}
+use Rattle.bank.proofs.Laws.Above.{frame-four, above-comes}
 use Rattle.bank.proofs.Laws.Paths.{fits-head, fits-tail, path-none, path-step, kid-before, kid-word}
 
 -- the store that some frames were filled into
@@ -89,72 +91,82 @@ full-on {ws} {ns} {n} {b} {c} {vs} {hs} {he} {ne} {m} f d = go b refl d
     go full e k = comes-by (f e) (record { came = k .came })
     go (built i y) e k = let p = k .came .0 in let z : _≡_ {A = ℕ} 0 1 = cc in absurd (omega arith)
 
--- THE INNERMOST END: a row whose entry names no place
-pub fill-ends : {ws ns : List ℕ} {n : ℕ} {hs he ne m : List ℕ} → Ready ws ns n hs he ne m → (ds : List ℕ) (row i : ℕ) → getD ds row 0 ≡ 0 →
+-- NO FRAME: a row whose entry names no place
+pub fill-none : {ws ns : List ℕ} {n : ℕ} {hs he ne m : List ℕ} → Ready ws ns n hs he ne m → (ds : List ℕ) (row i : ℕ) → getD ds row 0 ≡ 0 →
     Comes ws ns n (fill (storeOf ws ns n) (pathOf ds (storeOf ws ns n) row) i) (grownRow i n) ws hs he ne m
 unfolding fill
-fill-ends {ws} {ns} {n} r ds row i e = comes-by (ap (λ (fs : List Frame). fill (storeOf ws ns n) fs i) (path-none ds (storeOf ws ns n) (r .good) row e)) (comes-same r i)
+fill-none {ws} {ns} {n} r ds row i e = comes-by (ap (λ (fs : List Frame). fill (storeOf ws ns n) fs i) (path-none ds (storeOf ws ns n) (r .good) row e)) (comes-same r i)
 
--- ONE STEP: a row whose entry names a place, which is that of a child
-module _ {ws ns : List ℕ} {n : ℕ} {hs₀ he₀ ne₀ m : List ℕ} (o : Ready ws ns n hs₀ he₀ ne₀ m) (ds : List ℕ) (row : ℕ) (l : row < n) (z : getD ds row 0 ≡ 0 → ⊥)
-    (f : Fits (storeOf ws ns n) (pathOf ds (storeOf ws ns n) row)) where
+-- FRAMES from a row whose entry names a place, which is that of a child
+module _ {ws ns : List ℕ} {n : ℕ} {hs he ne m ds : List ℕ} {row i : ℕ} (q : FramesAsked ws ns n hs he ne m ds row i) where
   low : row < used (storeOf ws ns n)
-  low = omega (arith, used-of ws ns n)
+  low = omega (arith, used-of ws ns n, q .row-used)
 
   step : pathOf ds (storeOf ws ns n) row ≡ frameAt (storeOf ws ns n) row (getD ds row 0 - 1) ∷ pathOf ds (storeOf ws ns n) (getD (kidsAt (storeOf ws ns n) row) (getD ds row 0 - 1) 0)
-  step = path-step ds (storeOf ws ns n) (o .good) row low z f
+  step = path-step ds (storeOf ws ns n) (q .ready .good) row low (q .named) (q .fits)
 
   both : Fits (storeOf ws ns n) (frameAt (storeOf ws ns n) row (getD ds row 0 - 1) ∷ pathOf ds (storeOf ws ns n) (getD (kidsAt (storeOf ws ns n) row) (getD ds row 0 - 1) 0))
-  both = subst (λ (fs : List Frame). Fits (storeOf ws ns n) fs) step f
+  both = subst (λ (fs : List Frame). Fits (storeOf ws ns n) fs) step (q .fits)
 
   frame-fits : FrameFits (storeOf ws ns n) (frameAt (storeOf ws ns n) row (getD ds row 0 - 1))
   frame-fits = fits-head both
 
   pub down-four : getD ds row 0 - 1 < 4
-  down-four = frame-four (storeOf ws ns n) (o .good) row (getD ds row 0 - 1) low frame-fits
+  down-four = frame-four (storeOf ws ns n) (q .ready .good) row (getD ds row 0 - 1) low frame-fits
 
   module _ (kid : ℕ) (e : kid ≡ kidIn ws row (getD ds row 0 - 1)) where
     kid-is : kid ≡ getD (kidsAt (storeOf ws ns n) row) (getD ds row 0 - 1) 0
-    kid-is = e ∙ sym (kid-word ws ns n row (getD ds row 0 - 1) (o .finding .room) l (o .good) frame-fits)
+    kid-is = e ∙ sym (kid-word ws ns n row (getD ds row 0 - 1) (q .ready .finding .room) (q .row-used) (q .ready .good) frame-fits)
 
     pub down-falls : kid < row
-    down-falls = let k = kid-before ds (storeOf ws ns n) (o .good) row (getD ds row 0 - 1) low frame-fits in omega (arith, kid-is)
+    down-falls = let k = kid-before ds (storeOf ws ns n) (q .ready .good) row (getD ds row 0 - 1) low frame-fits in omega (arith, kid-is)
 
-    pub down-fits : Fits (storeOf ws ns n) (pathOf ds (storeOf ws ns n) kid)
-    down-fits = subst (λ (k : ℕ). Fits (storeOf ws ns n) (pathOf ds (storeOf ws ns n) k)) (sym kid-is) (fits-tail both)
+    kid-fits : Fits (storeOf ws ns n) (pathOf ds (storeOf ws ns n) kid)
+    kid-fits = subst (λ (k : ℕ). Fits (storeOf ws ns n) (pathOf ds (storeOf ws ns n) k)) (sym kid-is) (fits-tail both)
+
+    pub down-asked : (getD ds kid 0 ≡ 0 → ⊥) → FramesAsked ws ns n hs he ne m ds kid i
+    down-asked z =
+        record {
+          ready = q .ready;
+          places-long = q .places-long;
+          row-used = omega (arith, down-falls, q .row-used);
+          with-used = q .with-used;
+          named = z;
+          fits = kid-fits;
+        }
 
     path-is : pathOf ds (storeOf ws ns n) row ≡ frameAt (storeOf ws ns n) row (getD ds row 0 - 1) ∷ pathOf ds (storeOf ws ns n) kid
     path-is = step ∙ ap (λ (k : ℕ). frameAt (storeOf ws ns n) row (getD ds row 0 - 1) ∷ pathOf ds (storeOf ws ns n) k) (sym kid-is)
 
     -- rows ran out inside
-    full-above : (i : ℕ) → fill (storeOf ws ns n) (pathOf ds (storeOf ws ns n) kid) i ≡ full → fill (storeOf ws ns n) (pathOf ds (storeOf ws ns n) row) i ≡ full
+    full-above : fill (storeOf ws ns n) (pathOf ds (storeOf ws ns n) kid) i ≡ full → fill (storeOf ws ns n) (pathOf ds (storeOf ws ns n) row) i ≡ full
     unfolding fill
-    full-above i p =
+    full-above p =
         let h : Frame = frameAt (storeOf ws ns n) row (getD ds row 0 - 1) in
         ap (λ (fs : List Frame). fill (storeOf ws ns n) fs i) path-is ∙ ap (λ (b : Built). thenBuild b (λ (j : ℕ) (y : Store). rowFor y (h .symbol) (filledKids h j))) p
 
-    pub up-full : (i : ℕ) {vs hs he ne : List ℕ} → Comes ws ns n (fill (storeOf ws ns n) (pathOf ds (storeOf ws ns n) kid) i) Grown.Full vs hs he ne m →
-        Comes ws ns n (fill (storeOf ws ns n) (pathOf ds (storeOf ws ns n) row) i) Grown.Full vs hs he ne m
-    up-full i c = full-on (full-above i) c
+    pub up-full : {vs hs' he' ne' : List ℕ} → Comes ws ns n (fill (storeOf ws ns n) (pathOf ds (storeOf ws ns n) kid) i) Grown.Full vs hs' he' ne' m →
+        Comes ws ns n (fill (storeOf ws ns n) (pathOf ds (storeOf ws ns n) row) i) Grown.Full vs hs' he' ne' m
+    up-full c = full-on full-above c
 
-    -- the fill from the child came to a row
-    module _ {i : ℕ} (b : i < n) {j u : ℕ} {ws' hs he ne : List ℕ} (c : Comes ws ns n (fill (storeOf ws ns n) (pathOf ds (storeOf ws ns n) kid) i) (grownRow j u) ws' hs he ne m) where
-      inside : Reached ws ns n (pathOf ds (storeOf ws ns n) kid) i j u ws' hs he ne m
-      inside = reached ws ns n (pathOf ds (storeOf ws ns n) kid) i (o .good) down-fits b c
+    -- what is below came to a row: the row above put
+    module _ {j u : ℕ} {ws' hs' he' ne' : List ℕ} (c : Comes ws ns n (fill (storeOf ws ns n) (pathOf ds (storeOf ws ns n) kid) i) (grownRow j u) ws' hs' he' ne' m) where
+      inside : Reached ws ns n (pathOf ds (storeOf ws ns n) kid) i j u ws' hs' he' ne' m
+      inside = reached ws ns n (pathOf ds (storeOf ws ns n) kid) i (q .ready .good) kid-fits (q .with-used) c
 
-      pub up-ready : Ready ws' ns u hs he ne m
-      up-ready = inside .stands .ready
+      pub up-lent : Lent ws' u hs' he' ne' m
+      up-lent = lent-of (inside .stands .ready)
 
       pub up-row : row < u
-      up-row = next-row (o .good) inside row (getD ds row 0 - 1) l frame-fits
+      up-row = next-row (q .ready .good) inside row (getD ds row 0 - 1) (q .row-used) frame-fits
 
       pub up-kid : j < u
-      up-kid = next-kid (o .good) inside row (getD ds row 0 - 1) l frame-fits
+      up-kid = next-kid (q .ready .good) inside row (getD ds row 0 - 1) (q .row-used) frame-fits
 
-      pub up-fits : FrameFits (storeOf ws' ns u) (frameAt (storeOf ws' ns u) row (getD ds row 0 - 1))
-      up-fits = next-fits (o .good) inside row (getD ds row 0 - 1) l frame-fits
-
-      pub up-comes : {r : Grown} {vs hs' he' ne' : List ℕ} →
-          Comes ws' ns u (rowFor (storeOf ws' ns u) (symbolAt (storeOf ws' ns u) row) (filledKids (frameAt (storeOf ws' ns u) row (getD ds row 0 - 1)) j)) r vs hs' he' ne' m →
-          Comes ws ns n (fill (storeOf ws ns n) (pathOf ds (storeOf ws ns n) row) i) r vs hs' he' ne' m
-      up-comes d = comes-by (ap (λ (fs : List Frame). fill (storeOf ws ns n) fs i) path-is) (next-comes (o .good) inside row (getD ds row 0 - 1) l frame-fits d)
+      pub up-comes : {r : Grown} {vs hs'' he'' ne'' : List ℕ} →
+          Put ws' u hs' he' ne' m (symbolIn ws' row) (set (placesIn ws' row) (getD ds row 0 - 1) j) (holeAbove hs' j (getD ds row 0 - 1)) r vs hs'' he'' ne'' →
+          Comes ws ns n (fill (storeOf ws ns n) (pathOf ds (storeOf ws ns n) row) i) r vs hs'' he'' ne'' m
+      up-comes p =
+          comes-by (ap (λ (fs : List Frame). fill (storeOf ws ns n) fs i) path-is)
+          (next-comes (q .ready .good) inside row (getD ds row 0 - 1) (q .row-used) frame-fits
+          (above-comes (inside .stands .ready) row (getD ds row 0 - 1) j up-row up-kid (next-fits (q .ready .good) inside row (getD ds row 0 - 1) (q .row-used) frame-fits) p))

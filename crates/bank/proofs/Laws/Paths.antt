@@ -15,6 +15,7 @@ use Rattle.model.proofs.Laws.Fold.{earlier}
 use Rattle.bank.specs.Rows.{symbolIn, kidIn, placesIn}
 use Rattle.bank.specs.Ready.{frameAt, pathBy, pathFrom, pathOf}
 use Rattle.bank.proofs.Laws.Words.{used-of, symbol-in, kids-in}
+use Rattle.bank.proofs.Laws.Kids.{place-at}
 use Rattle.bank.proofs.Laws.Above.{frame-some, frame-place, frame-four}
 
 -- a member of a list below a bound
@@ -60,13 +61,6 @@ module _ (ds : List ℕ) (x : Store) (g : Good x) where
       s ∙ ap (λ (fs : List Frame). frameAt x i (getD ds i 0 - 1) ∷ fs) (path-fuel i (suc (getD (kidsAt x i) (getD ds i 0 - 1) 0)) (getD (kidsAt x i) (getD ds i 0 - 1) 0) (omega arith) k (omega arith) (fits-tail h))
 
 -- a child among the words
-places-at : (ws : List ℕ) (i k : ℕ) → k < 4 → getD (placesIn ws i) k 0 ≡ kidIn ws i k
-places-at ws i zero h = refl
-places-at ws i (suc zero) h = refl
-places-at ws i (suc (suc zero)) h = refl
-places-at ws i (suc (suc (suc zero))) h = refl
-places-at ws i (suc (suc (suc (suc k)))) h = absurd (omega arith)
-
 pub kid-word : (ws ns : List ℕ) (n i k : ℕ) → rowWidth * n ≤ length ws → i < n → Good (storeOf ws ns n) → FrameFits (storeOf ws ns n) (frameAt (storeOf ws ns n) i k) →
     getD (kidsAt (storeOf ws ns n) i) k 0 ≡ kidIn ws i k
 kid-word ws ns n i k w l g q =
@@ -76,4 +70,4 @@ kid-word ws ns n i k w l g q =
     let e = kids-in ws ns n i l w in
     let s = ap (λ (b : ℕ). getD ns b 0) (symbol-in ws ns n i l) in
     let c : k < getD ns (symbolIn ws i) 0 = omega arith in
-    ap (λ (ks : List ℕ). getD ks k 0) e ∙ getD-take (getD ns (symbolIn ws i) 0) (placesIn ws i) k 0 c ∙ places-at ws i k (frame-four (storeOf ws ns n) g i k u q)
+    ap (λ (ks : List ℕ). getD ks k 0) e ∙ getD-take (getD ns (symbolIn ws i) 0) (placesIn ws i) k 0 c ∙ place-at ws i k (frame-four (storeOf ws ns n) g i k u q)

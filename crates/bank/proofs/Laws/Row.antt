@@ -36,7 +36,7 @@ code-any p (k ∷ ks) = go (p k) (placeCode p ks) (code-any p ks)
     go false zero h = h
     go false (suc m) h = ap not (ne-eqb (suc (suc m)) 0 (λ e. omega arith) ∙ sym (ne-eqb (suc m) 0 (λ e. omega arith))) ∙ h
 
-code-below : (p q : ℕ → Bool) (i : ℕ) → ((j : ℕ) → j < i → p j ≡ q j) → {ks : List ℕ} → Below i ks → placeCode p ks ≡ placeCode q ks
+pub code-below : (p q : ℕ → Bool) (i : ℕ) → ((j : ℕ) → j < i → p j ≡ q j) → {ks : List ℕ} → Below i ks → placeCode p ks ≡ placeCode q ks
 unfolding placeCode
 code-below p q i e none-below = refl
 code-below p q i e (one-below {k = k} l b) =

@@ -1,26 +1,19 @@
 -- Rows among the lent words: read as the store's nodes and answers, and written behind them with the rows before left as they were.
 -- By induction on the rows read, and at the seams of `++`.
 use mathlib.Core.Path.{_≡_, refl, sym, ap, _∙_}
-use mathlib.Core.Logic.{_≢_}
-use mathlib.Core.Bool.{Bool, true, false, _&&_}
 use mathlib.Core.List.{List, [], _∷_, _++_, append-assoc, append-nil}
 use Prim.Native.Nat.{ℕ, zero, suc, _+_, _*_, _-_, _/_, _≤_, _<_}
 use native.Mathlib.Omega.{arith}
-use lib.Dec.{ltb, eqb}
-use borrow.Author.Tests.{ltb-true, ltb-false, eqb-true, eq-eqb}
 use lib.ListN.{length, getD, set, take, drop, replicate, length-append, length-drop, length-replicate, take-append-drop}
 use lib.Seq.{getD-drop, getD-take, drop-drop, getD-append-add, sets-eq, length-sets, take-at, drop-at, length-take-le, ext-getD, drop-append-le}
 use Rattle.model.specs.Limits.{rowWidth, mostChildren}
-use Rattle.model.specs.Base.{over, same}
-use Rattle.model.specs.Store.{Node, Store, Extends, holeNode, node, padded, used, nodeAt, symbolAt, kidsAt, added, isNode, findPlaces}
+use Rattle.model.specs.Base.{over}
+use Rattle.model.specs.Store.{Node, Store, Extends, holeNode, node, padded, used, nodeAt, symbolAt, kidsAt, added}
 use Rattle.model.specs.Table.{answerAt}
-use Rattle.model.specs.Facts.{Good}
 use Rattle.model.specs.Entry.{nodesIn, answersIn, rowWords, storeOf}
-use Rattle.model.proofs.Laws.Tests.{both-true, true-both, same-eq, same-of}
 use Rattle.model.proofs.Laws.Lent.{FourPlaces, length-rowWords, nodesIn-rowWords, answersIn-rowWords, rowWords-same, length-nodesIn, length-answersIn}
-use Rattle.model.proofs.Laws.Rows.{found, absent}
 use Rattle.bank.specs.Rows.{symbolIn, answerIn, kidIn, placesIn, nodeIn, withRow, Within}
-use Rattle.bank.specs.Index.{bucketOf, bucketAt, NoTwins, findIn}
+use Rattle.bank.specs.Index.{bucketOf, bucketAt}
 use Rattle.bank.specs.Ready.{withRows}
 
 -- ROWS READ
@@ -88,43 +81,6 @@ row-stored ws i a ps h₀ h₁ h₂ h₃ h₄ h₅ =
     let e₄ : m + 4 ≡ suc (suc (suc (suc m))) = omega arith in
     let e₅ : m + 5 ≡ suc (suc (suc (suc (suc m)))) = omega arith in
     cc
-
--- A ROW COMPARED, test by test
-and-true : (b : Bool) → b && true ≡ b
-and-true true = refl
-and-true false = refl
-
-same-four : (x y z w : ℕ) (l : List ℕ) → length l ≡ 4 →
-    same (x ∷ y ∷ z ∷ w ∷ []) l ≡ eqb x (getD l 0 0) && (eqb y (getD l 1 0) && (eqb z (getD l 2 0) && eqb w (getD l 3 0)))
-unfolding same
-same-four x y z w [] h = absurd (omega arith)
-same-four x y z w (a ∷ []) h = absurd (omega arith)
-same-four x y z w (a ∷ b ∷ []) h = absurd (omega arith)
-same-four x y z w (a ∷ b ∷ c ∷ []) h = absurd (omega arith)
-same-four x y z w (a ∷ b ∷ c ∷ d ∷ []) h = ap (λ (t : Bool). eqb x a && (eqb y b && (eqb z c && t))) (and-true (eqb w d))
-same-four x y z w (a ∷ b ∷ c ∷ d ∷ e ∷ l) h = absurd (omega arith)
-
-abbrev pub Tested : (words : List ℕ) → (row symbol : ℕ) → (places : List ℕ) → (found : ℕ) → (kids : List ℕ) → Type 0
-Tested ws i a l s ks =
-    isNode a l (nodeIn ws i) ≡
-    eqb s a && (eqb (getD ks 0 0) (getD l 0 0) && (eqb (getD ks 1 0) (getD l 1 0) && (eqb (getD ks 2 0) (getD l 2 0) && eqb (getD ks 3 0) (getD l 3 0))))
-
-pub tests : (ws : List ℕ) (i a : ℕ) (l : List ℕ) (s : ℕ) (ks : List ℕ) → length l ≡ 4 → s ≡ symbolIn ws i → ks ≡ placesIn ws i → Tested ws i a l s ks
-tests ws i a l s ks h p q =
-    ap (λ (b : Bool). eqb (symbolIn ws i) a && b) (same-four (kidIn ws i 0) (kidIn ws i 1) (kidIn ws i 2) (kidIn ws i 3) l h) ∙
-    (λ t. eqb (sym p t) a && (eqb (getD (sym q t) 0 0) (getD l 0 0) && (eqb (getD (sym q t) 1 0) (getD l 1 0) &&
-    (eqb (getD (sym q t) 2 0) (getD l 2 0) && eqb (getD (sym q t) 3 0) (getD l 3 0)))))
-
-pub last-of-five : {p q r s : Bool} (t : Bool) → p ≡ true → q ≡ true → r ≡ true → s ≡ true → p && (q && (r && (s && t))) ≡ t
-last-of-five t a b c d = rw (a, b, c, d)
-
-pub is-row : (ws : List ℕ) (i a : ℕ) (ps : List ℕ) → isNode a ps (nodeIn ws i) ≡ true → (symbolIn ws i ≡ a) × (placesIn ws i ≡ ps)
-is-row ws i a ps e =
-    let p = both-true (eqb (symbolIn ws i) a) (same (placesIn ws i) ps) e in
-    (eqb-true (symbolIn ws i) a (p .0), same-eq (placesIn ws i) ps (p .1))
-
-pub row-is : (ws : List ℕ) (i a : ℕ) (ps : List ℕ) → symbolIn ws i ≡ a → placesIn ws i ≡ ps → isNode a ps (nodeIn ws i) ≡ true
-row-is ws i a ps p q = true-both (eqb (symbolIn ws i) a) (same (placesIn ws i) ps) (eq-eqb (symbolIn ws i) a p) (same-of (placesIn ws i) ps q)
 
 -- THE FIRST n ROWS, as they were
 abbrev pub SameRows : (words : List ℕ) → (n : ℕ) → (after : List ℕ) → Type 0
@@ -346,79 +302,3 @@ module _ (ws : List ℕ) (n a : ℕ) (ps : List ℕ) (within : Within ws n) wher
       let u : 6 * n + 6 ≡ 6 * used (added (storeOf ws ns n) a ks) = rw length-append (omega (arith, length-nodesIn n ws)) in
       let f : a ∷ 0 ∷ getD ps 0 0 ∷ getD ps 1 0 ∷ getD ps 2 0 ∷ getD ps 3 0 ∷ [] ≡ a ∷ 0 ∷ ps = ap (λ (l : List ℕ). a ∷ 0 ∷ l) (four-is ps l) in
       withRow-parts ∙ (λ t. take (6 * n) ws ++ (f ∙ sym r) t ++ drop (u t) ws)
-
--- THE ROW FOUND among the first n: by computation what the store finds; without twins the only one
-pub find-row : (ws ns : List ℕ) (n a : ℕ) (ps : List ℕ) → findIn ws n a ps ≡ findPlaces (storeOf ws ns n) a ps
-find-row ws ns n a ps = refl
-
-pub only-one : (ws : List ℕ) (n : ℕ) → NoTwins ws n → (i j : ℕ) → 0 < i → i < n → 0 < j → j < n → symbolIn ws i ≡ symbolIn ws j → placesIn ws i ≡ placesIn ws j → i ≡ j
-only-one ws n t i j z h y k p q = go (ltb i j) refl (ltb j i) refl
-  where
-    go : (b : Bool) → ltb i j ≡ b → (c : Bool) → ltb j i ≡ c → i ≡ j
-    go true e c f = absurd (t i j z (ltb-true i j e) k p q)
-    go false e true f = absurd (t j i y (ltb-true j i f) h (sym p) (sym q))
-    go false e false f = let a = ltb-false i j e in let b = ltb-false j i f in omega arith
-
-module _ (ws : List ℕ) (n : ℕ) (within : rowWidth * n ≤ length ws) where
-  at-drop : (m : ℕ) → getD (drop 1 (nodesIn n ws)) m holeNode ≡ nodeAt (storeOf ws [] n) (1 + m)
-  at-drop m = getD-drop 1 (nodesIn n ws) m holeNode
-
-  pub found-in : (a : ℕ) (ps : List ℕ) → findIn ws n a ps ≢ 0 → (findIn ws n a ps < n) × (symbolIn ws (findIn ws n a ps) ≡ a) × (placesIn ws (findIn ws n a ps) ≡ ps)
-  found-in a ps e =
-      let s = found a ps 1 (drop 1 (nodesIn n ws)) e in
-      let d = length-drop 1 (nodesIn n ws) in
-      let u = length-nodesIn n ws in
-      let j : findIn ws n a ps ≡ 1 + s .0 = s .2 in
-      let h : 1 + s .0 < n = omega (arith, s .1) in
-      let p = node-in ws [] n (1 + s .0) h within in (
-        omega (arith, h, j),
-        ap (symbolIn ws) j ∙ sym (ap (λ (r : Node). r .symbol) (at-drop (s .0) ∙ p)) ∙ s .3,
-        ap (placesIn ws) j ∙ sym (ap (λ (r : Node). r .kids) (at-drop (s .0) ∙ p)) ∙ s .4,
-      )
-
-  pub absent-in : (a : ℕ) (ps : List ℕ) → findIn ws n a ps ≡ 0 → (i : ℕ) → 0 < i → i < n → symbolIn ws i ≡ a → placesIn ws i ≡ ps → ⊥
-  absent-in a ps e zero z h p q = omega arith
-  absent-in a ps e (suc m) z h p q =
-      let u = length-nodesIn n ws in
-      let f : 1 + m ≡ suc m = omega arith in
-      let r = at-drop m ∙ ap (nodeAt (storeOf ws [] n)) f ∙ node-in ws [] n (suc m) h within in
-      absent a ps 1 (drop 1 (nodesIn n ws)) (omega arith) e m (rw length-drop (omega arith)) (ap (λ (r : Node). r .symbol) r ∙ p) (ap (λ (r : Node). r .kids) r ∙ q)
-
-  -- none has it: not found
-  pub find-none : (a : ℕ) (ps : List ℕ) → ((i : ℕ) → 0 < i → i < n → symbolIn ws i ≡ a → placesIn ws i ≡ ps → ⊥) → findIn ws n a ps ≡ 0
-  find-none a ps none = go (findIn ws n a ps) refl
-    where
-      go : (j : ℕ) → findIn ws n a ps ≡ j → findIn ws n a ps ≡ 0
-      go zero e = e
-      go (suc j) e =
-          let s = found-in a ps (λ p. omega (arith, p, e)) in
-          absurd (none (findIn ws n a ps) (omega (arith, e)) (s .0) (s .1) (s .2))
-
-  -- one has it, and there are no twins: it is found
-  pub find-is : NoTwins ws n → (i : ℕ) → 0 < i → i < n → findIn ws n (symbolIn ws i) (placesIn ws i) ≡ i
-  find-is t i z h = go (findIn ws n (symbolIn ws i) (placesIn ws i)) refl
-    where
-      go : (j : ℕ) → findIn ws n (symbolIn ws i) (placesIn ws i) ≡ j → findIn ws n (symbolIn ws i) (placesIn ws i) ≡ i
-      go zero e = absurd (absent-in (symbolIn ws i) (placesIn ws i) e i z h refl refl)
-      go (suc j) e =
-          let s = found-in (symbolIn ws i) (placesIn ws i) (λ p. omega (arith, p, e)) in
-          only-one ws n t (findIn ws n (symbolIn ws i) (placesIn ws i)) i (omega (arith, e)) (s .0) z h (s .1) (s .2)
-
--- NO TWINS of a good store
-pub no-twins : (ws ns : List ℕ) (n : ℕ) → rowWidth * n ≤ length ws → Good (storeOf ws ns n) → NoTwins ws n
-no-twins ws ns n l g i j z h k p q =
-    let u = used-of ws ns n in
-    let a = kids-in ws ns n i (omega arith) l in
-    let b = kids-in ws ns n j k l in
-    let c : kidsAt (storeOf ws ns n) i ≡ kidsAt (storeOf ws ns n) j = a ∙ (λ t. take (getD ns (p t) 0) (q t)) ∙ sym b in
-    let d = symbol-in ws ns n i (omega arith) ∙ p ∙ sym (symbol-in ws ns n j k) in
-    let e = g .twins i j z (omega arith) (omega arith) (omega arith) d c in
-    omega arith
-
--- and back: where unused places are 0, rows of one symbol and children are one
-pub twins-of : (ws ns : List ℕ) (n : ℕ) → rowWidth * n ≤ length ws → NoTwins ws n →
-    ((i : ℕ) → 0 < i → i < n → nodeAt (storeOf ws ns n) i .kids ≡ padded (kidsAt (storeOf ws ns n) i)) → (i j : ℕ) → 0 < i → i < n → 0 < j → j < n →
-    symbolAt (storeOf ws ns n) i ≡ symbolAt (storeOf ws ns n) j → kidsAt (storeOf ws ns n) i ≡ kidsAt (storeOf ws ns n) j → i ≡ j
-twins-of ws ns n l t pad i j z h y k p q =
-    only-one ws n t i j z h y k (sym (symbol-in ws ns n i h) ∙ p ∙ symbol-in ws ns n j k)
-    (sym (places-in ws ns n i h l) ∙ pad i z h ∙ ap padded q ∙ sym (pad j y k) ∙ places-in ws ns n j k l)

@@ -14,7 +14,8 @@ use Rattle.model.specs.Entry.{storeOf}
 use Rattle.bank.specs.Rows.{symbolIn, kidIn, placesIn, Within}
 use Rattle.bank.specs.Index.{findIn}
 use Rattle.bank.specs.Ready.{Ready, frameAt}
-use Rattle.bank.proofs.Laws.Words.{used-of, symbol-in, places-in, kids-in, found-in}
+use Rattle.bank.proofs.Laws.Words.{used-of, symbol-in, places-in, kids-in}
+use Rattle.bank.proofs.Laws.Finding.{found-in}
 use Rattle.bank.proofs.Laws.Paths.{below-at}
 
 places-at : (ws : List ℕ) (i k : ℕ) → k < 4 → getD (placesIn ws i) k 0 ≡ kidIn ws i k

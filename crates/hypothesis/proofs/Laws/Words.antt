@@ -13,7 +13,8 @@ use Rattle.model.specs.Entry.{storeOf}
 use Rattle.bank.specs.Rows.{symbolIn, kidIn, placesIn, Within}
 use Rattle.bank.specs.Index.{Finding, findIn}
 use Rattle.bank.specs.Ready.{Ready}
-use Rattle.bank.proofs.Laws.Words.{used-of, symbol-in, kids-in, found-in}
+use Rattle.bank.proofs.Laws.Words.{used-of, symbol-in, kids-in}
+use Rattle.bank.proofs.Laws.Finding.{found-in}
 use Rattle.bank.proofs.Laws.Chains.{by-equal}
 use Rattle.bank.proofs.Laws.Kids.{place-at}
 

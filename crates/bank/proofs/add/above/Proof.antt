@@ -1,34 +1,31 @@
--- `bank::add::above` meets its contract: what it asks of `row_for`, and what that comes to, are of the row with the child replaced.
--- The hole is at that place where the child is row 0 or marked, and nowhere else.
-use mathlib.Core.Path.{_≡_, sym, subst, _∙_}
-use mathlib.Core.Bool.{cond}
-use mathlib.Core.List.{List}
+-- `bank::add::above` meets its contract: symbol and places are read, the child is put in and its mark looked up; what is put is that row.
+-- Assumes nothing.
+use mathlib.Core.Path.{_≡_, sym, ap, _∙_}
 use mathlib.Core.Logic.{⊎-elim}
-use Prim.Native.Nat.{ℕ, suc, _<_}
-use native.Mathlib.Omega.{arith}
+use mathlib.Core.List.{List}
+use Prim.Native.Nat.{ℕ}
 use borrow.Author.Needs.{needs}
 use lib.ListN.{set}
-use Rattle.model.specs.Store.{hasHole}
-use Rattle.model.specs.Entry.{storeOf}
-use Rattle.bank.specs.Rows.{symbolIn}
-use Rattle.bank.specs.Ready.{PlacesAsked}
-use Rattle.bank.proofs.Laws.Above.{marked, unmarked, hole-first, hole-there, hole-nowhere, above-place, above-asks, above-came}
+use Rattle.bank.specs.Rows.{symbolIn, placesIn}
+use Rattle.bank.specs.Index.{findIn}
+use Rattle.bank.specs.Adding.{holeAbove, found}
+use Rattle.bank.proofs.Laws.Adding.{put-as, mark-there, mark-nowhere}
 use Rattle.bank.proofs.add.above.Statement.{statement}
 use Rattle.bank.proofs.add.above.Tie as tie
 
-small : (s : tie.Start) → s .args .place < 4
-small s = above-place (s .pre .0) (s .args .row .0) (s .args .place) (s .args .kid .0) (s .pre .1) (s .pre .2) (s .pre .3)
+abbrev start : tie.Joined1 → tie.Start
+start c = c .before .before .before .before .before .before .before .before .before
 
-hole-is : (c : tie.Joined2) →
-    c .if2 .hole ≡ cond (hasHole (storeOf (c .before .before .before .before .before .before .before .before .before .args .words .now) (c .before .before .before .before .before .before .before .before .before .args .counts .now) (c .before .before .before .before .before .before .before .before .before .args .used)) (c .before .before .before .before .before .before .before .before .before .args .kid .0)) (suc (c .before .before .before .before .before .before .before .before .before .args .place)) 0
-hole-is c =
-    let s = c .before .before .before .before .before .before .before .before .before in
-    let r = s .pre .0 in
-    let j = s .args .kid .0 in
-    let l = s .pre .2 in
-    ⊎-elim (λ w. hole-there (s .args .place) (marked r j l (w .0 .taken)) (w .1))
-    (λ w. ⊎-elim (λ v. hole-there (s .args .place) (hole-first r j l (v .0 .taken)) (w .1 ∙ v .1)) (λ v. hole-nowhere (s .args .place) (unmarked r j l (v .0 .left) (w .0 .left)) (w .1 ∙ v .1)) (c .before .before .if1 .came))
-    (c .if2 .came)
+symbol : (c : tie.Joined1) → c .before .before .before .before .before .before .symbol-of .result ≡ symbolIn (start c .args .words .now) (start c .args .row .0)
+symbol c = c .before .before .before .before .before .before .symbol-of .ensures
+
+places : (c : tie.Joined1) → set (c .before .before .before .before .places-of .result) (start c .args .place) (start c .args .kid .0) ≡ set (placesIn (start c .args .words .now) (start c .args .row .0)) (start c .args .place) (start c .args .kid .0)
+places c = ap (λ (ps : List ℕ). set ps (start c .args .place) (start c .args .kid .0)) (c .before .before .before .before .places-of .ensures)
+
+hole : (c : tie.Joined1) → c .if1 .hole ≡ holeAbove (start c .args .holes .now) (start c .args .kid .0) (start c .args .place)
+hole c =
+    let e = c .before .has-hole .ensures in
+    ⊎-elim (λ w. mark-there (start c .args .place) (sym e ∙ w .0 .taken) (w .1)) (λ w. mark-nowhere (start c .args .place) (sym e ∙ w .0 .left) (w .1)) (c .if1 .came)
 
 symbol-of-requires : tie.Need-symbol-of-requires
 symbol-of-requires c κs = search needs
@@ -40,48 +37,41 @@ cast-places : tie.Need-cast-places
 cast-places c = search needs
 
 mul-places : tie.Need-mul-places
-mul-places c = omega (arith, small (c .before .before .before .before .before .before))
+mul-places c = search needs
 
 array-write-places : tie.Need-array-write-places
-array-write-places c = small (c .before .before .before .before .before .before)
+array-write-places c = search needs
 
-add-hole : tie.Need-add-hole
-add-hole c = omega (arith, small (c .before .before .before .before .before .before .before))
+has-hole-requires : tie.Need-has-hole-requires
+has-hole-requires c κs = search needs
 
 cast-hole : tie.Need-cast-hole
-cast-hole c = omega (arith, small (c .before .before .before .before .before .before .before))
+cast-hole c = search needs
 
-cast-if2 : tie.Need-cast-if2
-cast-if2 c = search needs
+add-hole : tie.Need-add-hole
+add-hole c = search needs
 
-element-copy-out-if2 : tie.Need-element-copy-out-if2
-element-copy-out-if2 c = search needs
-
-add-hole-2 : tie.Need-add-hole-2
-add-hole-2 c = omega (arith, small (c .before .before .before .before .before .before .before .before .before))
-
-cast-hole-2 : tie.Need-cast-hole-2
-cast-hole-2 c = omega (arith, small (c .before .before .before .before .before .before .before .before .before))
-
-row-for-requires : tie.Need-row-for-requires
-row-for-requires c κs =
-    let s = c .before .before .before .before .before .before .before .before .before .before .before .before .before in
-    let x = storeOf (s .args .words .now) (s .args .counts .now) (s .args .used) in
-    let q = above-asks (s .pre .0) (s .args .row .0) (s .args .place) (s .args .kid .0) (s .pre .1) (s .pre .2) (s .pre .3) (c .before .before .before .before .if2 .hole) (hole-is (c .before .before .before .before)) in (
-      s .pre .0,
-      subst (λ (a : ℕ). PlacesAsked x a (set (c .before .before .before .before .before .before .before .places-of .result) (s .args .place) (s .args .kid .0)) (c .before .before .before .before .if2 .hole)) (sym (c .before .before .before .before .before .before .before .before .before .symbol-of .ensures))
-          (subst (λ (ps : List ℕ). PlacesAsked x (symbolIn (s .args .words .now) (s .args .row .0)) (set ps (s .args .place) (s .args .kid .0)) (c .before .before .before .before .if2 .hole)) (sym (c .before .before .before .before .before .before .before .places-of .ensures)) q),
-    )
+find-requires : tie.Need-find-requires
+find-requires c κs = search needs
 
 same-length : tie.Need-same-length
 same-length c = search needs
 
 returns : tie.Need-returns
 returns c =
-    let s = c .before .before .before .before .before .before .before .before .before .before .before .before .before .before .before .before in
-    let l = c .before .before .row-for .last in
-    above-came (s .pre .0) (s .args .row .0) (s .args .place) (s .args .kid .0) (s .pre .1) (s .pre .2) (s .pre .3) (c .before .before .before .before .before .before .before .before .before .before .before .before .symbol-of .result) (c .before .before .before .before .before .before .before .before .before .before .places-of .result)
-    (c .before .before .before .before .before .before .before .before .before .before .before .before .symbol-of .ensures) (c .before .before .before .before .before .before .before .before .before .before .places-of .ensures) (c .before .before .row-for .result) (l .0) (l .1 .1 .1 .0) (l .1 .1 .1 .1 .0) (l .1 .1 .1 .1 .1 .0) (c .before .before .row-for .ensures)
+    let d : tie.Joined1 = c .before .before .before .before .before .before in
+    found (c .before .before .find .ensures ∙ (λ t. findIn (start d .args .words .now) (start d .args .used) (symbol d t) (places d t))) (c .if2 .taken)
+
+add-row-requires : tie.Need-add-row-requires
+add-row-requires c κs = search needs
+
+same-length-2 : tie.Need-same-length-2
+same-length-2 c = search needs
+
+returns-2 : tie.Need-returns-2
+returns-2 c =
+    let d : tie.Joined1 = c .before .before .before .before .before .before .before .before .before .before .before .before .before in
+    put-as (symbol d) (places d) (hole d) (c .before .before .add-row .ensures)
 
 pub above-spec : {M : Type 1} → statement M
 above-spec =
@@ -92,12 +82,12 @@ above-spec =
     cast-places
     mul-places
     array-write-places
-    add-hole
+    has-hole-requires
     cast-hole
-    cast-if2
-    element-copy-out-if2
-    add-hole-2
-    cast-hole-2
-    row-for-requires
+    add-hole
+    find-requires
     same-length
-    returns)
+    returns
+    add-row-requires
+    same-length-2
+    returns-2)

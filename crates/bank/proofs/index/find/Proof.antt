@@ -5,7 +5,7 @@ use mathlib.Core.Bool.{true≢false}
 use Prim.Native.Nat.{ℕ, _<_}
 use native.Mathlib.Omega.{arith}
 use borrow.Author.Needs.{needs}
-use Rattle.bank.proofs.Laws.Words.{is-row, row-is}
+use Rattle.bank.proofs.Laws.Finding.{is-row, row-is}
 use Rattle.bank.proofs.Laws.Chains.{Walk, begins, goes-on, ends, hits}
 use Rattle.bank.proofs.index.find.Statement.{statement}
 use Rattle.bank.proofs.index.find.Tie as tie

@@ -6,7 +6,7 @@ use Prim.Native.Nat.{ℕ, _<_}
 use native.Mathlib.Omega.{arith}
 use borrow.Author.Needs.{needs}
 use Rattle.bank.specs.Index.{seen, gave-up}
-use Rattle.bank.proofs.Laws.Words.{is-row, row-is}
+use Rattle.bank.proofs.Laws.Finding.{is-row, row-is}
 use Rattle.bank.proofs.Laws.Chains.{Walk, begins, goes-on, ends, hits}
 use Rattle.bank.proofs.index.find_within.Statement.{statement}
 use Rattle.bank.proofs.index.find_within.Tie as tie

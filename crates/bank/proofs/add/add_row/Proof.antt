@@ -1,0 +1,68 @@
+-- `bank::add::add_row` meets its contract: without room nothing is written; else the row is written, marked and entered.
+-- The words with the row written keep the earlier rows, so the index may take it.
+use mathlib.Core.Path.{_≡_, sym, subst}
+use mathlib.Core.List.{List}
+use Prim.Native.Nat.{ℕ}
+use borrow.Author.Needs.{needs}
+use Rattle.bank.specs.Rows.{withRow, Within}
+use Rattle.bank.specs.Index.{Indexed}
+use Rattle.bank.specs.Adding.{no-room, written}
+use Rattle.bank.proofs.Laws.Words.{length-withRow}
+use Rattle.bank.proofs.Laws.Adding.{entered, fits-one}
+use Rattle.bank.proofs.add.add_row.Statement.{statement}
+use Rattle.bank.proofs.add.add_row.Tie as tie
+
+mul-if1 : tie.Need-mul-if1
+mul-if1 c = search needs
+
+add-if1 : tie.Need-add-if1
+add-if1 c = search needs
+
+returns : tie.Need-returns
+returns c = no-room (c .before .before .pre .1) (c .if1 .taken)
+
+write-row-requires : tie.Need-write-row-requires
+write-row-requires c κs = search needs
+
+element-write-holes : tie.Need-element-write-holes
+element-write-holes c = search needs
+
+enter-requires : tie.Need-enter-requires
+enter-requires c κs =
+    let s = c .before .before .before .before .before .before .before .before .before in
+    let w : Within (s .args .words .now) (s .args .used) = c .before .before .before .before .before .before .before .if1 .left in
+    let e : c .before .before .before .before .before .write-row .last .0 ≡ withRow (s .args .words .now) (s .args .used) (s .args .symbol) (s .args .places) = c .before .before .before .before .before .write-row .ensures in
+    let f = entered (s .pre .0) (s .args .symbol) (s .args .places) w in (
+      subst (λ (v : List ℕ). Within v (s .args .used)) (sym e) (rw length-withRow w),
+      f .mixing,
+      f .some,
+      fits-one (s .pre .0) w,
+      subst (λ (v : List ℕ). Indexed (s .args .mix .now) v (s .args .used) (s .args .head .now) (s .args .next .now)) (sym e) (f .indexed),
+      f .head-long,
+      f .next-long,
+    )
+
+add-t25 : tie.Need-add-t25
+add-t25 c = search needs
+
+same-length : tie.Need-same-length
+same-length c = search needs
+
+returns-2 : tie.Need-returns-2
+returns-2 c =
+    let i = c .enter .ensures in
+    written (c .before .before .before .before .before .before .before .before .before .before .pre .1) (c .before .before .before .before .before .before .before .before .if1 .left) (c .before .before .before .before .before .before .write-row .ensures) (i .0) (i .1) (i .2)
+
+pub add-row-spec : {M : Type 1} → statement M
+add-row-spec =
+    tie.close
+    (tie.spec
+    mul-if1
+    add-if1
+    returns
+    write-row-requires
+    element-write-holes
+    enter-requires
+    add-t25
+    same-length
+    returns-2)

@@ -1,0 +1,147 @@
+// Settling (§4.2, §4.3): the first unknown answer is asked; where none is unknown, S grows and the automaton is proposed.
+ghost use mathlib.Core.Path.{_≡_};
+ghost use mathlib.Core.Bool.{true, false};
+ghost use Prim.Native.Nat.{ℕ, _<_, _≤_};
+ghost use lib.ListN.{length, getD, take};
+ghost use Rattle.model.specs.Base.{over};
+ghost use Rattle.model.specs.Store.{hasHole, framesOf, fill};
+ghost use Rattle.model.specs.Steps.{settled};
+ghost use Rattle.model.specs.Entry.{storeOf, answersIn};
+ghost use Rattle.bank.specs.Ready.{Ready, Came};
+ghost use Rattle.table.specs.Answers.{Observed, gapFrom, rowsAt};
+ghost use Rattle.observe.specs.Given.{given};
+ghost use Rattle.settle.specs.Settled.{Settling, StepAs};
+use bank::add;
+use bank::add::Grown;
+use model::Row;
+use observe::judge;
+use table::Gap;
+
+// What a step came to: short of rows, states or rules; a question, with the rows then used; or a proposal, with the states then.
+pub enum Step {
+    NoRows,
+    NoStates,
+    NoRules,
+    Asks(Row, u16),
+    Proposes(u8),
+}
+
+// A context filled with a record: the marks of holes are the way down.
+pub fn fill_context(
+    words: &mut [u32],
+    counts: &[u8],
+    used: u16,
+    holes: &mut [u8; 16384],
+    head: &mut [u16; 16384],
+    next: &mut [u16; 16384],
+    mix: &[u32; 5],
+    context: Row,
+    with: Row,
+) -> Grown
+    requires { ⌜ Ready (now words) (now counts) used (now holes) (now head) (now next) (now mix) × (context .0 < used) × (hasHole (storeOf (now words) (now counts) used) (context .0) ≡ true) × (with .0 < used) ⌝ }
+    ensures { λ r. ⌜ Came (now (words .entry)) (now (counts .entry)) used (fill (storeOf (now (words .entry)) (now (counts .entry)) used) (framesOf (storeOf (now (words .entry)) (now (counts .entry)) used) (context .0)) (with .0)) r (now (words .exit)) (now (holes .exit)) (now (head .exit)) (now (next .exit)) (now (mix .entry)) ⌝ }
+{
+    let down = *holes;
+    add::fill(
+        words,
+        counts,
+        used,
+        holes,
+        head,
+        next,
+        mix,
+        &down,
+        context,
+        with,
+    )
+}
+
+// S as its places in T name it.
+fn write_states(t: &[u16; 256], places: &[u16; 32], states: usize, s: &mut [u16; 32])
+    requires { ⌜ (length (now t) ≡ 256) × (length (now places) ≡ 32) × (states ≤ 32) × (length (now s) ≡ 32) × ((i : ℕ) → i < states → getD (now places) i 0 < 256) ⌝ }
+    ensures { λ _. ⌜ now (s .exit) ≡ over (rowsAt (now (t .entry)) (take states (now (places .entry)))) (now (s .entry)) ⌝ }
+{
+    let mut i = 0;
+    while i < states {
+        let at = places[i] as usize;
+        s[i] = t[at];
+        i += 1;
+    }
+}
+
+// No answer is missing: S grows, and the automaton is proposed.
+fn propose(
+    words: &[u32],
+    counts: &[u8],
+    used: u16,
+    s: &mut [u16; 32],
+    states: usize,
+    t: &[u16; 256],
+    rules: usize,
+    c: &[u16; 289],
+    contexts: usize,
+    table: &[u8; 73984],
+) -> Step
+    requires { ⌜ Settling (now words) (now counts) used (now s) states (now t) rules (now c) contexts × Observed (storeOf (now words) (now counts) used) (answersIn used (now words)) (now t) rules (now c) contexts (now table) × (gapFrom (now table) contexts 0 rules ≡ Gap.Closed) ⌝ }
+    ensures { λ r. ⌜ StepAs (now (words .entry)) (now (counts .entry)) used (now (s .entry)) (settled (given (now (words .entry)) (now (counts .entry)) used (now (s .entry)) states (now (t .entry)) rules (now (c .entry)) contexts 0 0 false)) r (now (words .entry)) (now (s .exit)) ⌝ }
+{
+    let mut places = [0u16; 32];
+    judge::find_places(s, states, t, rules, &mut places);
+    let old = states as u8;
+    let grown = table::grow(table, rules, contexts, places, old);
+    let ok = grown.ok;
+    if !ok {
+        return Step::NoStates;
+    }
+    let then = grown.places;
+    let n = grown.states;
+    write_states(t, &then, n as usize, s);
+    Step::Proposes(n)
+}
+
+// The table of answers worked out, then the first unknown asked, or the automaton proposed.
+pub fn settle(
+    words: &mut [u32],
+    counts: &[u8],
+    used: u16,
+    holes: &mut [u8; 16384],
+    head: &mut [u16; 16384],
+    next: &mut [u16; 16384],
+    mix: &[u32; 5],
+    s: &mut [u16; 32],
+    states: usize,
+    t: &[u16; 256],
+    rules: usize,
+    c: &[u16; 289],
+    contexts: usize,
+    table: &mut [u8; 73984],
+) -> Step
+    requires { ⌜ Ready (now words) (now counts) used (now holes) (now head) (now next) (now mix) × Settling (now words) (now counts) used (now s) states (now t) rules (now c) contexts × (length (now table) ≡ 73984) ⌝ }
+    ensures { λ r. ⌜ StepAs (now (words .entry)) (now (counts .entry)) used (now (s .entry)) (settled (given (now (words .entry)) (now (counts .entry)) used (now (s .entry)) states (now (t .entry)) rules (now (c .entry)) contexts 0 0 false)) r (now (words .exit)) (now (s .exit)) ⌝ }
+{
+    answers::observe(
+        words,
+        counts,
+        used,
+        holes,
+        head,
+        next,
+        mix,
+        t,
+        rules,
+        c,
+        contexts,
+        table,
+    );
+    match table::first_unknown(table, rules, contexts) {
+        Gap::Closed => propose(words, counts, used, s, states, t, rules, c, contexts, table),
+        Gap::At(k, j) => {
+            let context = Row(c[j as usize]);
+            let with = Row(t[k as usize]);
+            match fill_context(words, counts, used, holes, head, next, mix, context, with) {
+                Grown::Full => Step::NoRows,
+                Grown::At(row, n) => Step::Asks(row, n),
+            }
+        }
+    }
+}

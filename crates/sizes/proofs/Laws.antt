@@ -1,0 +1,3 @@
+pub mod Cut
+pub mod Summed
+pub mod Passed
