@@ -1,5 +1,5 @@
-//! Times of bank's functions, as `crates/probe` exports them, beside the same work in Rust: each
-//! the least of several runs. docs/BENCHMARKS.md says what the lines mean.
+//! Times of bank's functions, as `crates/probe` exports them, beside the same work in Rust.
+//! docs/BENCHMARKS.md says what the lines mean.
 
 use harness::colliding::Crowd;
 use harness::hashed::Hashed;
@@ -10,15 +10,28 @@ use harness::sound;
 use std::hint::black_box;
 use std::time::{Duration, Instant};
 
-const RUNS: usize = 60;
+const RUNS: usize = 400;
 
 fn least(runs: usize, mut call: impl FnMut()) -> Duration {
-    let times = (0..runs).map(|_| {
-        let begin = Instant::now();
-        call();
-        begin.elapsed()
-    });
+    let times = (0..runs).map(|_| time(&mut call));
     times.min().unwrap_or_default()
+}
+
+fn time(mut call: impl FnMut()) -> Duration {
+    let begin = Instant::now();
+    call();
+    begin.elapsed()
+}
+
+/// How much longer one call takes than another: the median of differences of calls made in turn.
+fn longer(mut long: impl FnMut(), mut short: impl FnMut()) -> Duration {
+    let turn = |_| {
+        let short = time(&mut short);
+        time(&mut long).saturating_sub(short)
+    };
+    let mut times: Vec<Duration> = (0..RUNS).map(turn).collect();
+    times.sort();
+    times[RUNS / 2]
 }
 
 /// One line: bank's time, another's, and bank's as a part of the other's.
@@ -91,12 +104,10 @@ fn with_long_record() -> (Lent, Vec<u8>) {
 /// What looking for 1,023 rows more takes, a row.
 fn lookup_line() {
     let (lent, symbols) = with_long_record();
-    let long = least(RUNS, || {
-        black_box(probe::known(&lent, &symbols));
-    });
-    let short = least(RUNS, || {
-        black_box(probe::known(&lent, &symbols[..1]));
-    });
+    let bank = longer(
+        || _ = black_box(probe::known(&lent, &symbols)),
+        || _ = black_box(probe::known(&lent, &symbols[..1])),
+    );
     let read = Hashed::read(&lent).expect("a sound table");
     let top = probe::known(&lent, &symbols) as usize;
     let rows = top + 1 - 1_023..top + 1;
@@ -108,12 +119,7 @@ fn lookup_line() {
             black_box(read.find(black_box(node)));
         }
     });
-    line(
-        "a row looked up",
-        long.saturating_sub(short) / 1_023,
-        "HashMap",
-        hashed / 1_023,
-    );
+    line("a row looked up", bank / 1_023, "HashMap", hashed / 1_023);
 }
 
 /// A chain of contexts and a leaf, with all rows lent.
@@ -124,19 +130,27 @@ fn chain(length: usize) -> Lent {
 /// Filling without the pass before it. Rows that were added are past the used ones at the next run.
 fn fill_line(name: &str, lent: &Lent, context: u16, with: u16) {
     let mut words = lent.words.clone();
-    let whole = least(RUNS, || {
-        let reply = probe::fill_in(&mut words, &lent.counts, lent.used, context, with);
-        assert_eq!(reply.code, 1);
-    });
-    let passing = pass_time(RUNS, lent);
+    let mut marks = vec![0; ROWS_MAX];
+    let bank = longer(
+        || {
+            let reply = probe::fill_in(&mut words, &lent.counts, lent.used, context, with);
+            assert_eq!(reply.code, 1);
+        },
+        || {
+            black_box(probe::pass_into(
+                &lent.words,
+                &lent.counts,
+                lent.used,
+                &mut marks,
+            ));
+        },
+    );
     let hashed = (0..RUNS).map(|_| {
         let mut read = Hashed::read(lent).expect("a sound table");
-        let begin = Instant::now();
-        black_box(read.fill(context as u32, with as u32));
-        begin.elapsed()
+        time(|| _ = black_box(read.fill(context as u32, with as u32)))
     });
     let hashed = hashed.min().unwrap_or_default();
-    line(name, whole.saturating_sub(passing), "HashMap", hashed);
+    line(name, bank, "HashMap", hashed);
 }
 
 /// A full table in which all but 2,000 rows share a bucket under the multipliers of one try, and

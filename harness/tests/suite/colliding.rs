@@ -5,6 +5,17 @@ use harness::colliding::{Crowd, MIXES};
 use harness::lent::{Lent, ROW_WORDS};
 use harness::random::Random;
 
+/// The tables are made for the multipliers that bank has.
+#[test]
+fn multipliers_are_those_of_bank() {
+    let pass = include_str!("../../../crates/bank/src/pass.rt");
+    let index = include_str!("../../../crates/bank/src/index.rt");
+    for mix in MIXES {
+        assert!(pass.contains(&format!("{mix:?}")), "{mix:?}");
+    }
+    assert!(index.contains("sum % 2147483629 % 16384"));
+}
+
 /// The table passes, its rows are found, and a twin at its end is seen.
 fn holds(lent: &Lent) {
     assert!(compare::pass(lent));
