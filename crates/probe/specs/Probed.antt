@@ -23,7 +23,7 @@ isPassed ws ns n = sizeFits ws && isT1 (tables (storeOf ws ns n) (answersIn n ws
 pub record Shown (marks : List ℕ) (n : ℕ) (out : List ℕ) : Type 0 where
   pub same : (i : ℕ) → i < n → getD out i 0 ≡ getD marks i 0
 
--- WHERE T1 HOLDS, the places of holes as far as there is room for all
+-- WHERE T1 HOLDS, the places of holes, if there is room for all
 abbrev pub Marks : (words counts : List ℕ) → (used : ℕ) → (passed : Bool) → (out : List ℕ) → Type 0
 Marks ws ns n b out = b ≡ true → n ≤ length out → Holed (storeOf ws ns n) out n
 

@@ -1,7 +1,7 @@
 -- Along the places of holes the way down from a row is model's: the frames are those of the context.
 -- Each step goes to the first child with a hole, whose place is the row's entry.
-use mathlib.Core.Path.{_≡_, refl, sym, ap, _∙_}
-use mathlib.Core.Bool.{Bool, true, false, cond}
+use mathlib.Core.Path.{_≡_, refl, ap, _∙_}
+use mathlib.Core.Bool.{Bool, true}
 use mathlib.Core.List.{List, [], _∷_, _++_}
 use Prim.Native.Nat.{ℕ, zero, suc, _<_}
 use native.Mathlib.Omega.{arith}
@@ -12,7 +12,7 @@ use Rattle.model.specs.Facts.{Good, None, none-nil, none-cons}
 use Rattle.model.proofs.Laws.Lists.{below-split}
 use Rattle.model.proofs.Laws.Fold.{earlier}
 use Rattle.model.proofs.Laws.Down.{Splits, no-one, at-one, split-is}
-use Rattle.bank.specs.Ready.{placeCode, oneFurther, Holed, frameAt, pathBy, pathFrom, pathOf}
+use Rattle.bank.specs.Ready.{placeCode, Holed, pathBy, pathFrom, pathOf}
 use Rattle.bank.proofs.Laws.Above.{place-none}
 
 -- the place of the first with a property

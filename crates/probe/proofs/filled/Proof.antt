@@ -1,7 +1,6 @@
 -- `probe::filled` meets its contract: what is no context or no used row is refused, and the rest is the fill along the marks of holes.
 use mathlib.Core.Path.{_≡_, sym, _∙_}
-use mathlib.Core.Bool.{true, false}
-use native.Mathlib.Omega.{arith}
+use mathlib.Core.Bool.{true}
 use borrow.Author.Tests.{not-true, not-false}
 use borrow.Author.Needs.{needs}
 use Rattle.model.specs.Store.{hasHole}

@@ -3,7 +3,6 @@ use mathlib.Core.Path.{_≡_, sym, _∙_}
 use mathlib.Core.Bool.{true, false}
 use borrow.Author.Tests.{not-true, not-false}
 use borrow.Author.Needs.{needs}
-use Rattle.bank.specs.Index.{findIn}
 use Rattle.bank.specs.Ready.{Ready}
 use Rattle.probe.specs.Probed.{isPassed}
 use Rattle.probe.proofs.Laws.Said.{number-not, number-so}
