@@ -1,0 +1,35 @@
+-- `probe::passes` meets its contract: T1 decides behind the test of the size, and leaves index and holes ready.
+use mathlib.Core.Path.{_≡_, sym, _∙_}
+use mathlib.Core.Bool.{true, true≢false}
+use borrow.Author.Tests.{not-true, not-false}
+use borrow.Author.Needs.{needs}
+use Rattle.model.specs.Entry.{sizeFits}
+use Rattle.probe.proofs.Laws.Sizes.{not-sized, sized}
+use Rattle.probe.proofs.passes.Statement.{statement}
+use Rattle.probe.proofs.passes.Tie as tie
+
+size-fits-requires : tie.Need-size-fits-requires
+size-fits-requires c κs = search needs
+
+fits : (c : tie.Else1) → sizeFits (c .before .before .before .before .args .words .now) ≡ true
+fits c = sym (c .before .size-fits .ensures) ∙ not-false _ (c .if1 .left)
+
+returns : tie.Need-returns
+returns c =
+    let s = c .before .before .before .before in
+    (not-sized (s .args .words .now) (s .args .counts .now) (s .args .used) (sym (c .before .size-fits .ensures) ∙ not-true _ (c .if1 .taken)), λ f. absurd (true≢false (sym f)))
+
+t1-requires : tie.Need-t1-requires
+t1-requires c κs =
+    let d = c .before .before .before .before in
+    let p = d .before .before .before .before .pre in
+    (fits d, p .0, p .1, p .2, p .3)
+
+returns-2 : tie.Need-returns-2
+returns-2 c =
+    let d = c .before .before .before .before .before in
+    let s = d .before .before .before .before in
+    (c .t1 .ensures .0 ∙ sized (s .args .words .now) (s .args .counts .now) (s .args .used) (fits d), c .t1 .ensures .1)
+
+pub passes-spec : {M : Type 1} → statement M
+passes-spec = tie.close (tie.spec size-fits-requires returns t1-requires returns-2)

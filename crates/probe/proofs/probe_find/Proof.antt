@@ -1,0 +1,44 @@
+-- `probe::probe_find` meets its contract: where T1 holds the index finds.
+use mathlib.Core.Path.{_≡_, sym, _∙_}
+use mathlib.Core.Bool.{true, false}
+use borrow.Author.Tests.{not-true, not-false}
+use borrow.Author.Needs.{needs}
+use Rattle.bank.specs.Ready.{Ready}
+use Rattle.probe.specs.Probed.{isPassed}
+use Rattle.probe.proofs.Laws.Said.{number-not, number-so}
+use Rattle.probe.proofs.probe_find.Statement.{statement}
+use Rattle.probe.proofs.probe_find.Tie as tie
+
+-- T1 and its marks, past the test
+abbrev start : tie.After-passes → tie.Start
+start c = c .before .before .before .before .before .before .before
+
+passed : (c : tie.Else1) → isPassed (start (c .before) .args .words .now) (start (c .before) .args .counts .now) (start (c .before) .args .used) ≡ true
+passed c = sym (c .before .passes .ensures .0) ∙ not-false _ (c .if1 .left)
+
+ready : (c : tie.Else1) →
+    Ready (start (c .before) .args .words .now) (start (c .before) .args .counts .now) (start (c .before) .args .used) (c .before .passes .last .1 .1 .1 .0) (c .before .passes .last .1 .1 .1 .1 .0)
+    (c .before .passes .last .1 .1 .1 .1 .1 .0) (c .before .passes .last .1 .1 .1 .1 .1 .1 .0)
+ready c = c .before .passes .ensures .1 (not-false _ (c .if1 .left))
+
+failed : (c : tie.Then1) → isPassed (start (c .before) .args .words .now) (start (c .before) .args .counts .now) (start (c .before) .args .used) ≡ false
+failed c = sym (c .before .passes .ensures .0) ∙ not-true _ (c .if1 .taken)
+
+passes-requires : tie.Need-passes-requires
+passes-requires c κs = search needs
+
+returns : tie.Need-returns
+returns c = number-not _ (isPassed (start (c .before) .args .words .now) (start (c .before) .args .counts .now) (start (c .before) .args .used)) (failed c)
+
+find-requires : tie.Need-find-requires
+find-requires c κs = ready (c .before .before .before) .finding
+
+returns-2 : tie.Need-returns-2
+returns-2 c =
+    let d = c .before .before .before .before in
+    let s = start (d .before) in
+    number-so _ (isPassed (s .args .words .now) (s .args .counts .now) (s .args .used)) (passed d) (c .find .result .0) (c .find .ensures)
+
+pub probe-find-spec : {M : Type 1} → statement M
+probe-find-spec =
+    tie.close (tie.spec passes-requires returns find-requires returns-2)

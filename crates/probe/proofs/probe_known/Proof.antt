@@ -1,0 +1,77 @@
+-- `probe::probe_known` meets its contract: where T1 holds and the record has no fault it parses, and its row is looked up.
+use mathlib.Core.Path.{_≡_, sym, _∙_}
+use mathlib.Core.Bool.{true, false}
+use borrow.Author.Tests.{not-true, not-false}
+use borrow.Author.Needs.{needs}
+use borrow.Author.Tests.{eq-eqb, ne-eqb}
+use Rattle.model.specs.Terms.{recordFault}
+use Rattle.model.proofs.Laws.Trees.{recordFault-parses}
+use Rattle.bank.specs.Ready.{Ready}
+use Rattle.probe.specs.Probed.{isPassed, isListed}
+use Rattle.probe.proofs.Laws.Said.{number-before, number-between, number-behind}
+use Rattle.probe.proofs.probe_known.Statement.{statement}
+use Rattle.probe.proofs.probe_known.Tie as tie
+
+-- T1 and its marks, past the test
+abbrev start : tie.After-passes → tie.Start
+start c = c .before .before .before .before .before .before .before .before
+
+passed : (c : tie.Else1) → isPassed (start (c .before) .args .words .now) (start (c .before) .args .counts .now) (start (c .before) .args .used) ≡ true
+passed c = sym (c .before .passes .ensures .0) ∙ not-false _ (c .if1 .left)
+
+ready : (c : tie.Else1) →
+    Ready (start (c .before) .args .words .now) (start (c .before) .args .counts .now) (start (c .before) .args .used) (c .before .passes .last .1 .1 .1 .0) (c .before .passes .last .1 .1 .1 .1 .0)
+    (c .before .passes .last .1 .1 .1 .1 .1 .0) (c .before .passes .last .1 .1 .1 .1 .1 .1 .0)
+ready c = c .before .passes .ensures .1 (not-false _ (c .if1 .left))
+
+failed : (c : tie.Then1) → isPassed (start (c .before) .args .words .now) (start (c .before) .args .counts .now) (start (c .before) .args .used) ≡ false
+failed c = sym (c .before .passes .ensures .0) ∙ not-true _ (c .if1 .taken)
+
+passes-requires : tie.Need-passes-requires
+passes-requires c κs = search needs
+
+-- the record, past its test
+faultless : (c : tie.Else2) → recordFault (start (c .before .before .before) .args .counts .now) (start (c .before .before .before) .args .symbols .now) ≡ 0
+faultless c = sym (c .before .record-fault .ensures) ∙ c .if2 .left
+
+returns : tie.Need-returns
+returns c =
+    let s = start (c .before) in
+    number-before _ (isPassed (s .args .words .now) (s .args .counts .now) (s .args .used)) (isListed (s .args .counts .now) (s .args .symbols .now)) (failed c)
+
+record-fault-requires : tie.Need-record-fault-requires
+record-fault-requires c κs = search needs
+
+returns-2 : tie.Need-returns-2
+returns-2 c =
+    let d = c .before .before in
+    let s = start (d .before) in
+    number-between _ (isPassed (s .args .words .now) (s .args .counts .now) (s .args .used)) (isListed (s .args .counts .now) (s .args .symbols .now)) (passed d)
+    (ne-eqb (recordFault (s .args .counts .now) (s .args .symbols .now)) 0 (λ e. c .if2 .taken (c .before .record-fault .ensures ∙ e)))
+
+known-row-requires : tie.Need-known-row-requires
+known-row-requires c κs =
+    let e = c .before .before .before .before in
+    let d = e .before .before in
+    let s = start (d .before) in
+    let p = recordFault-parses (s .args .counts .now) (s .args .symbols .now) (faultless e) in
+    (ready d, p .0, p .2)
+
+returns-3 : tie.Need-returns-3
+returns-3 c =
+    let e = c .before .before .before .before .before in
+    let d = e .before .before in
+    let s = start (d .before) in
+    number-behind _ (isPassed (s .args .words .now) (s .args .counts .now) (s .args .used)) (isListed (s .args .counts .now) (s .args .symbols .now)) (passed d)
+    (eq-eqb (recordFault (s .args .counts .now) (s .args .symbols .now)) 0 (faultless e)) (c .known-row .result .0) (c .known-row .ensures)
+
+pub probe-known-spec : {M : Type 1} → statement M
+probe-known-spec =
+    tie.close
+    (tie.spec
+    passes-requires
+    returns
+    record-fault-requires
+    returns-2
+    known-row-requires
+    returns-3)

@@ -1,0 +1,60 @@
+-- `probe::show` meets its contract. The invariant: the entries passed are copied, and the size stays.
+use mathlib.Core.Path.{_≡_, refl, subst}
+use Prim.Native.Nat.{ℕ, _-_, _≤_}
+use native.Mathlib.Omega.{arith}
+use lib.ListN.{length, length-set}
+use Rattle.probe.specs.Probed.{Shown}
+use Rattle.probe.proofs.Laws.Shown.{shown-none, shown-more}
+use Rattle.probe.proofs.show.Statement.{statement}
+use Rattle.probe.proofs.show.Tie as tie
+
+abbrev Inv-loop : tie.InvT-loop
+Inv-loop holes used marks₀ n i₀ marks i = (i ≤ used) × (length marks ≡ length marks₀) × Shown holes i marks
+
+abbrev μ-loop : tie.MeasureT-loop
+μ-loop holes used marks₀ n i₀ marks i = used - i
+
+loop-holds : tie.Need-loop-holds Inv-loop μ-loop
+loop-holds c = (omega arith, refl, shown-none (c .args .holes .now) (c .args .marks .now))
+
+element-copy-out-marks : tie.Need-element-copy-out-marks Inv-loop μ-loop
+element-copy-out-marks c = omega arith
+
+slice-write-marks : tie.Need-slice-write-marks Inv-loop μ-loop
+slice-write-marks c = omega arith
+
+add-i : tie.Need-add-i Inv-loop μ-loop
+add-i c = omega arith
+
+loop-less : tie.Need-loop-less Inv-loop μ-loop
+loop-less c = omega arith
+
+loop-again : tie.Need-loop-again Inv-loop μ-loop
+loop-again c =
+    let l = c .before .before .loop in
+    (omega arith, simp length-set (l .inv .1), shown-more (l .inv .2) (omega arith))
+
+same-length : tie.Need-same-length Inv-loop μ-loop
+same-length c = c .before .loop .inv .1
+
+returns : tie.Need-returns Inv-loop μ-loop
+returns c =
+    let l = c .before .loop in
+    let s = c .before .before .args in
+    let e : l .i ≡ s .used = omega arith in
+    subst (λ (k : ℕ). Shown (s .holes .now) k (l .marks)) e (l .inv .2)
+
+pub show-spec : {M : Type 1} → statement M
+show-spec =
+    tie.close
+    (tie.spec
+    Inv-loop
+    μ-loop
+    loop-holds
+    element-copy-out-marks
+    slice-write-marks
+    add-i
+    loop-less
+    loop-again
+    same-length
+    returns)

@@ -1,0 +1,77 @@
+//! Tables whose rows fall into few buckets under bank's multipliers (`crates/bank/src/index.rt`,
+//! `bucket`, and `crates/bank/src/pass.rt`, `mix_of`).
+
+use crate::lent::Lent;
+use crate::random::Random;
+use std::collections::HashSet;
+
+/// The multipliers of bank's tries, in their order. The last try has no bound on a chain.
+#[rustfmt::skip]
+pub const MIXES: [[u64; 5]; 8] = [
+    [499994353, 314606869, 217645199, 443834137, 125640277],
+    [389632747, 293736061, 482317931, 151372381, 519127069],
+    [267914297, 433494437, 102334157, 370248451, 165580143],
+    [402653189, 201326611, 100663319, 50331653, 25165843],
+    [350377541, 478905283, 188748719, 290182597, 413158511],
+    [231928237, 509203747, 143655607, 337190719, 465241489],
+    [275604547, 395933333, 180503471, 527824621, 246202447],
+    [361275253, 448258187, 209715263, 486539303, 119304647],
+];
+
+/// The symbol of every row but the leaves, which has four children.
+const PARENT: u32 = 60;
+const LEAVES: u32 = 60;
+
+fn bucket(mix: &[u64; 5], symbol: u32, places: [u32; 4]) -> u64 {
+    let products = places.iter().zip(&mix[1..]);
+    let sum: u64 = products.map(|(&place, factor)| place as u64 * factor).sum();
+    (symbol as u64 * mix[0] + sum) % 2_147_483_629 % 16_384
+}
+
+/// A table under construction: leaves, then rows that stand on the rows below `base`.
+pub struct Crowd {
+    random: Random,
+    pub lent: Lent,
+    base: usize,
+    places: HashSet<[u32; 4]>,
+}
+
+impl Crowd {
+    /// Leaves, and so many rows over them that children can be chosen among.
+    pub fn over(seed: u64, base: usize) -> Crowd {
+        let mut counts = vec![0; LEAVES as usize];
+        counts.push(4);
+        let mut crowd = Crowd {
+            random: Random::new(seed),
+            lent: Lent::with_hole(&counts),
+            base: LEAVES as usize + 1,
+            places: HashSet::new(),
+        };
+        for leaf in 0..LEAVES {
+            crowd.lent.push(leaf, 0, [0; 4]);
+        }
+        while (crowd.lent.used as usize) < base {
+            crowd.push_if(|_| true);
+        }
+        crowd.base = base;
+        crowd
+    }
+
+    /// Adds so many rows of bucket 0 under the multipliers of one try.
+    pub fn crowd(&mut self, mix: usize, rows: usize) {
+        let end = self.lent.used as usize + rows;
+        while (self.lent.used as usize) < end {
+            self.push_if(|places| bucket(&MIXES[mix], PARENT, places) == 0);
+        }
+    }
+
+    /// Draws children, and adds the row that has them if it is new and wanted.
+    fn push_if(&mut self, wanted: impl Fn([u32; 4]) -> bool) {
+        let base = self.base;
+        let places = [(); 4].map(|_| 1 + self.random.below(base - 1) as u32);
+        if wanted(places) && self.places.insert(places) {
+            let answer = self.random.below(3) as u32;
+            self.lent.push(PARENT, answer, places);
+        }
+    }
+}

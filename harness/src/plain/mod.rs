@@ -1,0 +1,10 @@
+//! What bank does, by plain means: clause by clause, recursion, linear search. Nothing here is
+//! made to be fast, and nothing is taken from bank's way of doing it.
+
+mod grow;
+mod listed;
+mod terms;
+
+pub use grow::{fill, store, Grown};
+pub use listed::{fault, known, Tree};
+pub use terms::{passes, Node, Terms};
