@@ -1,0 +1,38 @@
+-- `advance::advance` meets its contract: with nothing in hand the step is the settling of the tables, with a record in hand it is `in_hand`'s.
+use borrow.Author.Needs.{needs}
+use Rattle.model.specs.Entry.{tablesOf}
+use Rattle.model.proofs.Laws.Step.{none-advance}
+use Rattle.step.proofs.Laws.Advanced.{Ends, ends-by}
+use Rattle.step.proofs.advance.advance.Statement.{statement}
+use Rattle.step.proofs.advance.advance.Tie as tie
+
+finish-requires : tie.Need-finish-requires
+finish-requires c κs = search needs
+
+same-length : tie.Need-same-length
+same-length c = search needs
+
+returns : tie.Need-returns
+returns c =
+    let f = c .before .before .before .before .before .before .before .before in
+    let s = f .before .before .before in
+    let d = c .before .before .finish in
+    let e : Ends (s .args .words .now) (s .args .lists) _ (d .result) (d .last .0) = record { ended = d .ensures } in
+    ends-by (none-advance (tablesOf (s .args .words .now) (s .args .lists)) (f .if1 .taken)) e .ended
+
+in-hand-requires : tie.Need-in-hand-requires
+in-hand-requires c κs =
+    let f = c .before .before .before .before .before in
+    let s = f .before .before .before in
+    (s .pre .0, s .pre .1, s .pre .2 (f .if1 .left), f .if1 .left)
+
+same-length-2 : tie.Need-same-length-2
+same-length-2 c = search needs
+
+returns-2 : tie.Need-returns-2
+returns-2 c = search needs
+
+pub advance-spec : {M : Type 1} → statement M
+advance-spec =
+    tie.close
+    (tie.spec finish-requires same-length returns in-hand-requires same-length-2 returns-2)

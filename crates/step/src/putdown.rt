@@ -1,0 +1,71 @@
+// The record in hand is put down (§4.1): the context around its spot is added, to C too if it is absent there.
+ghost use mathlib.Core.Path.{_≡_};
+ghost use Prim.Native.Nat.{_<_};
+ghost use lib.ListN.{length};
+ghost use Rattle.model.specs.Facts.{IsRecord, Fits};
+ghost use Rattle.model.specs.Steps.{putDown};
+ghost use Rattle.model.specs.Entry.{tablesOf};
+ghost use Rattle.bank.specs.Ready.{pathOf};
+ghost use Rattle.step.specs.Stepping.{Stepping, EndedAs, withContext};
+use crate::finish;
+use crate::finish::Stepped;
+use bank::add;
+use bank::add::Grown;
+use model::Lists;
+use model::Row;
+
+// The lists with a context, appended if it is absent, and nothing in hand.
+fn with_context(lists: Lists, context: Row, used: u16) -> Lists
+    requires { ⌜ lists .contexts < 289 ⌝ }
+    ensures { λ r. ⌜ r ≡ withContext lists (context .0) used ⌝ }
+{
+    let mut left = lists;
+    left.used = used;
+    left.hand = 0;
+    left.asked = 0;
+    left.accepted = 0;
+    let c = lists.c;
+    let n = lists.contexts;
+    if !members::is_among(&c, n as usize, context.0) {
+        left.c[n as usize] = context.0;
+        left.contexts = n + 1;
+    }
+    left
+}
+
+// Put down along the way down from the record to its spot, then on as with nothing in hand.
+pub fn put_down(
+    words: &mut [u32],
+    lists: Lists,
+    holes: &mut [u8; 16384],
+    head: &mut [u16; 16384],
+    next: &mut [u16; 16384],
+    mix: &[u32; 5],
+    table: &mut [u8; 73984],
+    down: &[u8; 16384],
+    hand: Row,
+) -> Stepped
+    requires { ⌜ Stepping (now words) lists (now holes) (now head) (now next) (now mix) × (length (now table) ≡ 73984) × (length (now down) ≡ 16384) × (lists .contexts < 289) × IsRecord (tablesOf (now words) lists .store) (hand .0) × Fits (tablesOf (now words) lists .store) (pathOf (now down) (tablesOf (now words) lists .store) (hand .0)) ⌝ }
+    ensures { λ r. ⌜ EndedAs (now (words .entry)) lists (putDown (tablesOf (now (words .entry)) lists) (pathOf (now (down .entry)) (tablesOf (now (words .entry)) lists .store) (hand .0))) r (now (words .exit)) ⌝ }
+{
+    let letters = lists.letters as usize;
+    let counts = lists.counts;
+    match add::fill(
+        words,
+        &counts[..letters],
+        lists.used,
+        holes,
+        head,
+        next,
+        mix,
+        down,
+        hand,
+        Row(0),
+    ) {
+        Grown::Full => finish::short(34, lists),
+        Grown::At(context, n) => {
+            let left = with_context(lists, context, n);
+            finish::finish(words, left, holes, head, next, mix, table)
+        }
+    }
+}
