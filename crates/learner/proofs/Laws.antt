@@ -1,0 +1,6 @@
+-- The laws, in reading order: a file leans on those above it.
+pub mod Called
+pub mod Started
+pub mod Accepted
+pub mod Answered
+pub mod AnswerTaken
