@@ -1,10 +1,22 @@
 // The calls that a host makes, from C and Rust: thin functions over the calls by value. Nothing is required of what a host lends.
 ghost use mathlib.Core.Path.{_≡_};
-ghost use Rattle.model.specs.Calls.{looks};
-ghost use Rattle.model.specs.Entry.{callSeen, loadSeen};
+ghost use Rattle.model.specs.Calls.{answers, looks};
+ghost use Rattle.model.specs.Entry.{callSeen, callWords, callLists, loadSeen};
 use model::Emitted;
 use model::Lists;
 use model::Seen;
+
+// An answer to the open question (§3.5).
+#[no_mangle]
+pub extern "C" fn kuldveth_answer(words: &mut [u32], lists: &mut Lists, mark: u8) -> Seen
+    ensures { λ r. ⌜ r ≡ callSeen (now (words .entry)) (now (lists .entry)) (answers mark) ⌝ }
+    ensures words { λ r. ⌜ now (words .exit) ≡ callWords (now (words .entry)) (now (lists .entry)) (answers mark) ⌝ }
+    ensures lists { λ r. ⌜ now (lists .exit) ≡ callLists (now (words .entry)) (now (lists .entry)) (answers mark) ⌝ }
+{
+    let done = learner::calls::answer(words, *lists, mark);
+    *lists = done.lists;
+    done.seen
+}
 
 // Looking (§3.3): changes nothing.
 #[no_mangle]

@@ -159,8 +159,8 @@ fn accepting(lists: Lists) -> Lists
 }
 
 // Acceptance: 18, 30, 31.
-pub fn accept(words: &[u32], lists: Lists) -> Done
-    ensures { λ r. ⌜ CallAs (now (words .entry)) lists acceptCall r (now (words .entry)) ⌝ }
+pub fn accept(words: &mut [u32], lists: Lists) -> Done
+    ensures { λ r. ⌜ CallAs (now (words .entry)) lists acceptCall r (now (words .exit)) ⌝ }
 {
     let seen = sound::look(words, lists);
     if seen.number != 0 {
