@@ -1,6 +1,6 @@
 // The calls that a host makes, from C and Rust: thin functions over the calls by value. Nothing is required of what a host lends.
 ghost use mathlib.Core.Path.{_≡_};
-ghost use Rattle.model.specs.Calls.{answers, looks};
+ghost use Rattle.model.specs.Calls.{answers, accept as acceptCall, looks};
 ghost use Rattle.model.specs.Entry.{callSeen, callWords, callLists, loadSeen};
 use model::Emitted;
 use model::Lists;
@@ -14,6 +14,18 @@ pub extern "C" fn kuldveth_answer(words: &mut [u32], lists: &mut Lists, mark: u8
     ensures lists { λ r. ⌜ now (lists .exit) ≡ callLists (now (words .entry)) (now (lists .entry)) (answers mark) ⌝ }
 {
     let done = learner::calls::answer(words, *lists, mark);
+    *lists = done.lists;
+    done.seen
+}
+
+// Acceptance of the proposal (§3.6).
+#[no_mangle]
+pub extern "C" fn kuldveth_accept(words: &mut [u32], lists: &mut Lists) -> Seen
+    ensures { λ r. ⌜ r ≡ callSeen (now (words .entry)) (now (lists .entry)) acceptCall ⌝ }
+    ensures words { λ r. ⌜ now (words .exit) ≡ callWords (now (words .entry)) (now (lists .entry)) acceptCall ⌝ }
+    ensures lists { λ r. ⌜ now (lists .exit) ≡ callLists (now (words .entry)) (now (lists .entry)) acceptCall ⌝ }
+{
+    let done = learner::calls::accept(words, *lists);
     *lists = done.lists;
     done.seen
 }

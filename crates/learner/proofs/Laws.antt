@@ -4,3 +4,7 @@ pub mod Started
 pub mod Accepted
 pub mod Answered
 pub mod AnswerTaken
+pub mod Ends
+pub mod OfferLines
+pub mod OfferTaken
+pub mod Offered

@@ -1,0 +1,240 @@
+// Offers (§3.4), by value: 18, 30, 31, 11 to 16, 32, 33, then the step; a refusal leaves words and lists as they were.
+ghost use mathlib.Core.Path.{_≡_};
+ghost use mathlib.Core.Bool.{true, false};
+ghost use Rattle.model.specs.Calls.{offers, offerFault};
+ghost use Rattle.model.specs.Sound.{isSound};
+ghost use Rattle.model.specs.Entry.{sizeFits, listsFit, tablesOf};
+ghost use Rattle.sound.specs.Working.{Working};
+ghost use Rattle.step.specs.Stepping.{countsIn, takenUp};
+ghost use Rattle.learner.specs.Calls.{CallAs};
+use crate::calls;
+use crate::calls::Done;
+use bank::add::Grown;
+use bank::listed;
+use bank::rows;
+use model::Lists;
+use model::Row;
+use step::advance;
+
+// The lists with a record in hand.
+fn taken_up(lists: Lists, row: Row, used: u16) -> Lists
+    ensures { λ r. ⌜ r ≡ takenUp lists (row .0) used ⌝ }
+{
+    let mut left = lists;
+    left.used = used;
+    left.hand = row.0;
+    left.asked = 0;
+    left.accepted = 0;
+    left
+}
+
+// The number of the first line that refuses an offer to sound tables; 0 for none.
+fn fault_of(
+    words: &[u32],
+    lists: Lists,
+    symbols: &[u8],
+    mark: u8,
+    holes: &[u8; 16384],
+    head: &[u16; 16384],
+    next: &[u16; 16384],
+    mix: &[u32; 5],
+    table: &[u8; 73984],
+    places: &[u16; 32],
+    reps: &[u16; 16384],
+) -> u8
+    requires { ⌜ (sizeFits (now words) ≡ true) × (listsFit lists ≡ true) × (isSound (tablesOf (now words) lists) ≡ true) × Working (now words) (countsIn lists) (lists .used) (lists .s) (lists .states) (lists .t) (lists .rules) (lists .c) (lists .contexts) (now holes) (now head) (now next) (now mix) (now table) (now places) (now reps) ⌝ }
+    ensures { λ r. ⌜ r ≡ offerFault (tablesOf (now (words .entry)) lists) (now (symbols .entry)) mark ⌝ }
+{
+    if lists.asked != 0 {
+        return 31;
+    }
+    if lists.accepted == 1 {
+        return 31;
+    }
+    let letters = lists.letters as usize;
+    let counts = lists.counts;
+    let fault = listed::record_fault(&counts[..letters], symbols);
+    if fault != 0 {
+        return fault;
+    }
+    if 1 < mark {
+        return 16;
+    }
+    let s = lists.s;
+    let t = lists.t;
+    let yes = hypothesis::accepts_list(
+        words,
+        &counts[..letters],
+        lists.used,
+        holes,
+        head,
+        next,
+        mix,
+        &s,
+        lists.states as usize,
+        &t,
+        lists.rules as usize,
+        reps,
+        symbols,
+    );
+    if yes == (mark == 1) {
+        return 32;
+    }
+    let row = listed::known_row(
+        words,
+        &counts[..letters],
+        lists.used,
+        holes,
+        head,
+        next,
+        mix,
+        symbols,
+    );
+    let answer = rows::answer_of(words, row);
+    if answer == 0 {
+        return 0;
+    }
+    if answer == mark as u32 + 1 {
+        return 0;
+    }
+    33
+}
+
+// The record stored with its mark and taken in hand, and the step after it; where it runs short, the words are put back.
+fn take_offer(
+    words: &mut [u32],
+    lists: Lists,
+    symbols: &[u8],
+    mark: u8,
+    holes: &mut [u8; 16384],
+    head: &mut [u16; 16384],
+    next: &mut [u16; 16384],
+    mix: &[u32; 5],
+    table: &mut [u8; 73984],
+    places: &[u16; 32],
+    reps: &[u16; 16384],
+) -> Done
+    requires { ⌜ (sizeFits (now words) ≡ true) × (listsFit lists ≡ true) × (isSound (tablesOf (now words) lists) ≡ true) × (offerFault (tablesOf (now words) lists) (now symbols) mark ≡ 0) × Working (now words) (countsIn lists) (lists .used) (lists .s) (lists .states) (lists .t) (lists .rules) (lists .c) (lists .contexts) (now holes) (now head) (now next) (now mix) (now table) (now places) (now reps) ⌝ }
+    ensures { λ r. ⌜ CallAs (now (words .entry)) lists (offers (now (symbols .entry)) mark) r (now (words .exit)) ⌝ }
+{
+    let letters = lists.letters as usize;
+    let counts = lists.counts;
+    let mut saved = [0u32; 98304];
+    undo::save(words, lists.used, &mut saved);
+    match listed::store(
+        words,
+        &counts[..letters],
+        lists.used,
+        holes,
+        head,
+        next,
+        mix,
+        symbols,
+    ) {
+        Grown::Full => {
+            undo::restore(words, lists.used, &saved);
+            calls::refuse(34, lists)
+        }
+        Grown::At(row, n) => {
+            let old = rows::answer_of(words, row);
+            rows::set_answer(words, row, mark as u32 + 1);
+            let given = taken_up(lists, row, n);
+            let stepped = advance::advance(words, given, holes, head, next, mix, table, reps);
+            let number = stepped.number;
+            if number != 0 {
+                rows::set_answer(words, row, old);
+                undo::restore(words, lists.used, &saved);
+                return calls::refuse(number, lists);
+            }
+            let left = stepped.lists;
+            Done {
+                seen: sound::told(words, left),
+                lists: left,
+            }
+        }
+    }
+}
+
+// An offer to tables of a size that fits, in lists that fit.
+fn offer_within(words: &mut [u32], lists: Lists, symbols: &[u8], mark: u8) -> Done
+    requires { ⌜ (sizeFits (now words) ≡ true) × (listsFit lists ≡ true) ⌝ }
+    ensures { λ r. ⌜ CallAs (now (words .entry)) lists (offers (now (symbols .entry)) mark) r (now (words .exit)) ⌝ }
+{
+    let letters = lists.letters as usize;
+    let counts = lists.counts;
+    let s = lists.s;
+    let t = lists.t;
+    let c = lists.c;
+    let mut holes = [0u8; 16384];
+    let mut head = [0u16; 16384];
+    let mut next = [0u16; 16384];
+    let mut mix = [0u32; 5];
+    let mut table = [0u8; 73984];
+    let mut places = [0u16; 32];
+    let mut reps = [0u16; 16384];
+    if !sound::is_sound(
+        words,
+        &counts[..letters],
+        lists.used,
+        &s,
+        lists.states as usize,
+        &t,
+        lists.rules as usize,
+        &c,
+        lists.contexts as usize,
+        lists.hand,
+        lists.asked,
+        lists.accepted,
+        &mut holes,
+        &mut head,
+        &mut next,
+        &mut mix,
+        &mut table,
+        &mut places,
+        &mut reps,
+    ) {
+        return calls::refuse(30, lists);
+    }
+    let fault = fault_of(
+        words,
+        lists,
+        symbols,
+        mark,
+        &holes,
+        &head,
+        &next,
+        &mix,
+        &table,
+        &places,
+        &reps,
+    );
+    if fault != 0 {
+        return calls::refuse(fault, lists);
+    }
+    take_offer(
+        words,
+        lists,
+        symbols,
+        mark,
+        &mut holes,
+        &mut head,
+        &mut next,
+        &mix,
+        &mut table,
+        &places,
+        &reps,
+    )
+}
+
+// An offer: 18, 30, its own lines, then the step.
+pub fn offer(words: &mut [u32], lists: Lists, symbols: &[u8], mark: u8) -> Done
+    ensures { λ r. ⌜ CallAs (now (words .entry)) lists (offers (now (symbols .entry)) mark) r (now (words .exit)) ⌝ }
+{
+    if !observe::size_fits(words) {
+        return calls::refuse(18, lists);
+    }
+    if !observe::lists_fit(lists) {
+        return calls::refuse(30, lists);
+    }
+    offer_within(words, lists, symbols, mark)
+}
