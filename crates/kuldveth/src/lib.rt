@@ -1,10 +1,27 @@
 // The calls that a host makes, from C and Rust: thin functions over the calls by value. Nothing is required of what a host lends.
 ghost use mathlib.Core.Path.{_≡_};
-ghost use Rattle.model.specs.Calls.{answers, accept as acceptCall, looks};
+ghost use Rattle.model.specs.Calls.{offers, answers, accept as acceptCall, looks};
 ghost use Rattle.model.specs.Entry.{callSeen, callWords, callLists, loadSeen};
 use model::Emitted;
 use model::Lists;
 use model::Seen;
+
+// An offer of a record, children before parent, with the archive's mark (§3.4).
+#[no_mangle]
+pub extern "C" fn kuldveth_offer(
+    words: &mut [u32],
+    lists: &mut Lists,
+    symbols: &[u8],
+    mark: u8,
+) -> Seen
+    ensures { λ r. ⌜ r ≡ callSeen (now (words .entry)) (now (lists .entry)) (offers (now (symbols .entry)) mark) ⌝ }
+    ensures words { λ r. ⌜ now (words .exit) ≡ callWords (now (words .entry)) (now (lists .entry)) (offers (now (symbols .entry)) mark) ⌝ }
+    ensures lists { λ r. ⌜ now (lists .exit) ≡ callLists (now (words .entry)) (now (lists .entry)) (offers (now (symbols .entry)) mark) ⌝ }
+{
+    let done = learner::offer::offer(words, *lists, symbols, mark);
+    *lists = done.lists;
+    done.seen
+}
 
 // An answer to the open question (§3.5).
 #[no_mangle]

@@ -1,0 +1,7 @@
+-- The laws, in reading order: a file leans on those above it.
+pub mod Finals
+pub mod Transition
+pub mod Rule
+pub mod Flat
+pub mod Proposed
+pub mod Emitting
