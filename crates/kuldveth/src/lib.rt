@@ -1,10 +1,22 @@
 // The calls that a host makes, from C and Rust: thin functions over the calls by value. Nothing is required of what a host lends.
 ghost use mathlib.Core.Path.{_≡_};
 ghost use Rattle.model.specs.Calls.{offers, answers, accept as acceptCall, looks};
-ghost use Rattle.model.specs.Entry.{callSeen, callWords, callLists, loadSeen};
+ghost use Rattle.model.specs.Entry.{startSeen, startWords, startLists, callSeen, callWords, callLists, loadSeen};
 use model::Emitted;
 use model::Lists;
 use model::Seen;
+
+// Start of a run over an alphabet given by its child counts (§3.2).
+#[no_mangle]
+pub extern "C" fn kuldveth_start(words: &mut [u32], lists: &mut Lists, counts: &[u8]) -> Seen
+    ensures { λ r. ⌜ r ≡ startSeen (now (words .entry)) (now (counts .entry)) ⌝ }
+    ensures words { λ r. ⌜ now (words .exit) ≡ startWords (now (words .entry)) (now (counts .entry)) ⌝ }
+    ensures lists { λ r. ⌜ now (lists .exit) ≡ startLists (now (words .entry)) (now (counts .entry)) (now (lists .entry)) ⌝ }
+{
+    let done = learner::start::start(words, *lists, counts);
+    *lists = done.lists;
+    done.seen
+}
 
 // An offer of a record, children before parent, with the archive's mark (§3.4).
 #[no_mangle]
