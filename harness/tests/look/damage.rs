@@ -1,0 +1,149 @@
+//! Sound tables with one field damaged, every field in turn.
+
+use crate::compare::Met;
+use harness::strange::Strange;
+use harness::teacher::Taught;
+use oracle::limits::ROW_WORDS;
+use oracle::testing::compare::Tables;
+use oracle::testing::random::Random;
+
+/// Looks with one field set to each of some values, and puts it back.
+fn each<T: Copy + PartialEq>(
+    tables: &mut Tables,
+    values: &[T],
+    field: impl Fn(&mut Tables) -> &mut T,
+    met: &mut Met,
+) {
+    let old = *field(tables);
+    for &value in values {
+        if value != old {
+            *field(tables) = value;
+            met.look(tables);
+        }
+    }
+    *field(tables) = old;
+}
+
+/// Values for a number that may name a row.
+fn values(old: u32, used: u32) -> [u32; 9] {
+    let next = old.wrapping_add(1);
+    [
+        0,
+        1,
+        2,
+        255,
+        next,
+        old.wrapping_sub(1),
+        used - 1,
+        used,
+        u32::MAX,
+    ]
+}
+
+fn every_word(tables: &mut Tables, met: &mut Met) {
+    let used = tables.lists.used as u32;
+    let end = tables.words.len().min((used as usize + 3) * ROW_WORDS);
+    for at in 0..end {
+        let values = values(tables.words[at], used);
+        each(tables, &values, |tables| &mut tables.words[at], met);
+    }
+}
+
+/// Every entry of an array of rows: many values within its end, two past it.
+fn every_entry(
+    tables: &mut Tables,
+    size: usize,
+    end: usize,
+    array: impl Fn(&mut Tables) -> &mut [u16],
+    met: &mut Met,
+) {
+    let used = tables.lists.used as u32;
+    for at in 0..size {
+        let old = array(tables)[at];
+        let values = values(old as u32, used).map(|value| value as u16);
+        let values = if at <= end { &values[..] } else { &values[7..] };
+        each(tables, values, |tables| &mut array(tables)[at], met);
+    }
+}
+
+fn every_list(tables: &mut Tables, met: &mut Met) {
+    let (states, rules) = (tables.lists.states as usize, tables.lists.rules as usize);
+    let contexts = tables.lists.contexts as usize;
+    every_entry(tables, 32, states, |tables| &mut tables.lists.s, met);
+    every_entry(tables, 256, rules, |tables| &mut tables.lists.t, met);
+    every_entry(tables, 289, contexts, |tables| &mut tables.lists.c, met);
+    for at in 0..64 {
+        let values = [0, 1, 2, 3, 4, 5, 255];
+        each(tables, &values, |tables| &mut tables.lists.counts[at], met);
+    }
+}
+
+fn every_number(tables: &mut Tables, met: &mut Met) {
+    let bytes: Vec<u8> = (0..=66).chain([127, 128, 254, 255]).collect();
+    each(tables, &bytes, |tables| &mut tables.lists.letters, met);
+    each(tables, &bytes, |tables| &mut tables.lists.states, met);
+    each(tables, &bytes, |tables| &mut tables.lists.accepted, met);
+    let used = tables.lists.used;
+    let edges = [255, 256, 257, 288, 289, 290, 16_383, 16_384, 16_385, 65_535];
+    let numbers: Vec<u16> = (0..used + 4).chain(edges).collect();
+    each(tables, &numbers, |tables| &mut tables.lists.used, met);
+    each(tables, &numbers, |tables| &mut tables.lists.rules, met);
+    each(tables, &numbers, |tables| &mut tables.lists.contexts, met);
+    each(tables, &numbers, |tables| &mut tables.lists.hand, met);
+    each(tables, &numbers, |tables| &mut tables.lists.asked, met);
+}
+
+fn every_field(mut tables: Tables, met: &mut Met) {
+    let before = tables.clone();
+    assert_eq!(met.look(&tables).number, 0);
+    every_word(&mut tables, met);
+    every_list(&mut tables, met);
+    every_number(&mut tables, met);
+    assert!(tables == before);
+}
+
+/// A table of a fresh run, after so many calls.
+fn after(random: &mut Random, calls: usize) -> Tables {
+    let mut run = Taught::random(random);
+    for _ in 0..calls {
+        run.step(random);
+    }
+    run.tables
+}
+
+/// A proposal with a record in hand and an open question besides, if that is sound.
+fn in_hand(random: &mut Random) -> Option<Tables> {
+    let tables = Taught::random(random).proposing(random, 12)?;
+    let rows = tables.lists.used as usize + 16;
+    let mut strange = Strange::of(tables, rows);
+    strange.heap(random, 12);
+    strange.take_in_hand(random);
+    let tables = strange.tables;
+    let sound = oracle::look(&tables.words, &tables.lists).number == 0;
+    (sound && tables.lists.hand != 0 && tables.lists.used < 60).then_some(tables)
+}
+
+#[test]
+fn fresh_tables() {
+    let mut met = Met::default();
+    for case in 0..16 {
+        let random = &mut Random::case(71, case);
+        let calls = random.within(1, 24);
+        let mut tables = after(random, calls);
+        tables
+            .words
+            .truncate((tables.lists.used as usize + 4) * ROW_WORDS);
+        every_field(tables, &mut met);
+    }
+    assert!(met.unsound > 10_000, "{met:?}");
+}
+
+#[test]
+fn tables_with_a_record_in_hand() {
+    let mut met = Met::default();
+    let cases = (0..).filter_map(|case| in_hand(&mut Random::case(72, case)));
+    cases
+        .take(8)
+        .for_each(|tables| every_field(tables, &mut met));
+    assert!(met.in_hand > 1_000 && met.unsound > 10_000, "{met:?}");
+}
