@@ -10,7 +10,7 @@ use std::collections::HashMap;
 pub struct Strange {
     pub tables: Tables,
     rows: HashMap<Vec<u32>, u16>,
-    records: Vec<u16>,
+    pub records: Vec<u16>,
 }
 
 impl Strange {
@@ -51,7 +51,7 @@ impl Strange {
     }
 
     /// A record over stored ones: found, or added with an answer.
-    fn record(&mut self, symbol: usize, children: &[u16], answer: u32) -> u16 {
+    pub fn record(&mut self, symbol: usize, children: &[u16], answer: u32) -> u16 {
         let mut node = vec![symbol as u32, 0, 0, 0, 0];
         for (place, &child) in children.iter().enumerate() {
             node[1 + place] = child as u32;

@@ -4,6 +4,7 @@ use crate::compare::Met;
 use harness::strange::Strange;
 use harness::teacher::Taught;
 use oracle::limits::ROW_WORDS;
+use oracle::testing::big;
 use oracle::testing::compare::Tables;
 use oracle::testing::random::Random;
 
@@ -102,13 +103,23 @@ fn every_field(mut tables: Tables, met: &mut Met) {
     assert!(tables == before);
 }
 
-/// A table of a fresh run, after so many calls.
-fn after(random: &mut Random, calls: usize) -> Tables {
+/// A table of a fresh run, after some calls: its sort, and what is lent.
+fn after_some_calls(random: &mut Random) -> (usize, Tables) {
     let mut run = Taught::random(random);
-    for _ in 0..calls {
+    for _ in 0..random.within(1, 24) {
         run.step(random);
     }
-    run.tables
+    let mut tables = run.tables;
+    let lists = &tables.lists;
+    let sort = match (lists.asked, lists.hand, lists.accepted) {
+        (0, _, 0) => 0,
+        (0, _, _) => 1,
+        (_, 0, _) => 2,
+        _ => 3,
+    };
+    let rows = lists.used as usize + 4;
+    tables.words.truncate(rows * ROW_WORDS);
+    (sort, tables)
 }
 
 /// A proposal with a record in hand and an open question besides, if that is sound.
@@ -123,19 +134,20 @@ fn in_hand(random: &mut Random) -> Option<Tables> {
     (sound && tables.lists.hand != 0 && tables.lists.used < 60).then_some(tables)
 }
 
+/// Twenty tables of each sort.
 #[test]
 fn fresh_tables() {
     let mut met = Met::default();
-    for case in 0..16 {
-        let random = &mut Random::case(71, case);
-        let calls = random.within(1, 24);
-        let mut tables = after(random, calls);
-        tables
-            .words
-            .truncate((tables.lists.used as usize + 4) * ROW_WORDS);
-        every_field(tables, &mut met);
+    let mut left = [20; 4];
+    let mut cases = (0..).map(|case| after_some_calls(&mut Random::case(71, case)));
+    while left != [0; 4] {
+        let (sort, tables) = cases.next().unwrap();
+        if left[sort] > 0 && tables.lists.rules > 0 && tables.lists.used < 90 {
+            left[sort] -= 1;
+            every_field(tables, &mut met);
+        }
     }
-    assert!(met.unsound > 10_000, "{met:?}");
+    met.at_least(1_000, 10_000);
 }
 
 #[test]
@@ -143,7 +155,20 @@ fn tables_with_a_record_in_hand() {
     let mut met = Met::default();
     let cases = (0..).filter_map(|case| in_hand(&mut Random::case(72, case)));
     cases
-        .take(8)
+        .take(40)
         .for_each(|tables| every_field(tables, &mut met));
-    assert!(met.in_hand > 1_000 && met.unsound > 10_000, "{met:?}");
+    assert!(met.in_hand > 4_000 && met.unsound > 5_000, "{met:?}");
+}
+
+/// Every entry and count of lists that are full.
+#[test]
+fn full_lists() {
+    let mut met = Met::default();
+    let mut tables = big::widest(600, 15_000);
+    tables
+        .words
+        .truncate((tables.lists.used as usize + 1) * ROW_WORDS);
+    assert_eq!(met.look(&tables).number, 0);
+    every_list(&mut tables, &mut met);
+    assert!(met.asking > 500 && met.unsound > 2_000, "{met:?}");
 }

@@ -22,9 +22,17 @@ fn loose(random: &mut Random) -> Option<Tables> {
             unfolds_small(&tables).then(|| Loose::of(&tables))?
         }
     };
-    if random.percent(60) {
-        loose.take_in_hand(random);
-        loose.open(random);
+    match random.below(5) {
+        0 | 1 => {
+            loose.take_in_hand(random);
+            loose.open(random);
+        }
+        2 | 3 => {
+            (0..random.below(3)).for_each(|_| loose.add_context(random));
+            (0..random.below(4)).for_each(|_| loose.forget(random));
+            loose.open(random);
+        }
+        _ => {}
     }
     if random.percent(40) {
         (0..random.within(1, 3)).for_each(|_| loose.change(random));
@@ -38,12 +46,12 @@ fn loose(random: &mut Random) -> Option<Tables> {
 #[test]
 fn changed_trees() {
     let mut met = Met::default();
-    for case in 0..8_000 {
+    for case in 0..24_000 {
         if let Some(tables) = loose(&mut Random::case(81, case)) {
             met.look(&tables);
         }
     }
-    met.at_least(100, 1_000);
+    met.at_least(50, 1_000);
 }
 
 /// A proposal, a heap of shared records over it, one of them in hand.
@@ -61,7 +69,7 @@ fn heaped(random: &mut Random, rows: usize) -> Option<Tables> {
 #[test]
 fn shared_records_in_hand() {
     let mut met = Met::default();
-    for case in 0..2_000 {
+    for case in 0..6_000 {
         let random = &mut Random::case(82, case);
         if let Some(tables) = heaped(random, 420) {
             met.look(&tables);
@@ -74,7 +82,7 @@ fn shared_records_in_hand() {
 #[test]
 fn full_heaps() {
     let mut met = Met::default();
-    for case in 0..60 {
+    for case in 0..120 {
         let random = &mut Random::case(83, case);
         if let Some(tables) = heaped(random, ROWS_MAX) {
             met.look(&tables);
@@ -106,7 +114,7 @@ fn doubling_records() {
 #[test]
 fn rows_in_a_wrong_order() {
     let mut met = Met::default();
-    for case in 0..3_000 {
+    for case in 0..8_000 {
         let random = &mut Random::case(84, case);
         let calls = random.below(12);
         let Some(tables) = Taught::random(random).proposing(random, calls) else {

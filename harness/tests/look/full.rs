@@ -1,6 +1,7 @@
 //! Full tables: sound, damaged, in another order, with rows that collide, and on a stack of 4 MB.
 
 use crate::compare::look;
+use harness::crowded::Crowded;
 use harness::strange::shuffled;
 use oracle::limits::ROW_WORDS;
 use oracle::testing::big;
@@ -16,7 +17,7 @@ fn all() -> [Tables; 8] {
         big::full(8_000, 0),
         big::widest(8_000, 0),
         big::proposing(71),
-        big::spine(),
+        big::spine(big::SPINE_MAX),
         big::beside(),
         big::exchanges(16_000),
         big::doubling(16_378),
@@ -40,7 +41,7 @@ fn counts() {
         (16_384, 2, 256, 2),
         (16_003, 1, 2, 1),
         (16_383, 1, 3, 1),
-        (16_382, 1, 2, 2),
+        (16_381, 1, 2, 2),
     ];
     assert_eq!(counts, expected);
 }
@@ -90,5 +91,34 @@ fn answers_changed() {
             look(&tables);
             tables.words[word] = old;
         }
+    }
+}
+
+/// The last row made a twin of the one before is refused.
+fn twin_refused(mut tables: Tables) {
+    let end = tables.lists.used as usize * ROW_WORDS;
+    let last = end - ROW_WORDS;
+    tables.words.copy_within(last - ROW_WORDS..last, last);
+    assert_eq!(look(&tables).number, 30);
+}
+
+/// Rows that share a bucket: 60 of them, more than bank takes in the first try, or in all of them.
+#[test]
+fn colliding() {
+    let tables = [
+        big::widest(4_000, 8_000),
+        big::proposing(40),
+        big::spine(4_000),
+    ];
+    for tables in tables {
+        let mut crowded = Crowded::over(tables);
+        crowded.collide(0, 1_000, 60);
+        assert_eq!(look(&crowded.strange.tables).number, 0);
+        crowded.collide(0, 500, 500);
+        assert_eq!(look(&crowded.strange.tables).number, 0);
+        (1..7).for_each(|mix| crowded.collide(mix, 66, 66));
+        crowded.collide(7, 1_000, 1_000);
+        assert_eq!(look(&crowded.strange.tables).number, 0);
+        twin_refused(crowded.strange.tables);
     }
 }

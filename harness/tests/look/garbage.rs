@@ -35,15 +35,32 @@ fn random_words_and_lists() {
     }
 }
 
+/// Row 0 and rows of small numbers, places that are not needed mostly 0.
+fn small_rows(random: &mut Random, rows: usize) -> Vec<u32> {
+    let mut words = vec![255, 0, 0, 0, 0, 0];
+    for row in 1..rows {
+        let symbol = random.below(3);
+        words.extend([symbol as u32, random.below(3) as u32]);
+        for place in 0..4 {
+            let needed = place < symbol || random.percent(2);
+            words.push(if needed {
+                random.below(row + 1) as u32
+            } else {
+                0
+            });
+        }
+    }
+    words
+}
+
 /// Small numbers after a right row 0: some of these tables are sound.
 #[test]
 fn small_numbers() {
     let mut met = Met::default();
-    for case in 0..60_000 {
+    for case in 0..150_000 {
         let random = &mut Random::case(102, case);
         let rows = random.within(1, 6);
-        let mut words: Vec<u32> = (0..rows * 6).map(|_| random.below(3) as u32).collect();
-        words[..6].copy_from_slice(&[255, 0, 0, 0, 0, 0]);
+        let words = small_rows(random, rows);
         let mut lists = Lists::zeroed();
         lists.letters = 3;
         lists.counts[..3].copy_from_slice(&[0, 1, 2]);
@@ -52,6 +69,7 @@ fn small_numbers() {
         lists.states = random.below(2) as u8;
         lists.rules = random.below(3) as u16;
         lists.asked = random.below(3) as u16;
+        lists.hand = random.below(6).saturating_sub(3) as u16;
         let entries = lists.s.iter_mut().chain(&mut lists.t).chain(&mut lists.c);
         entries.for_each(|entry| *entry = random.below(rows) as u16);
         lists.c[0] = 0;

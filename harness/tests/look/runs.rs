@@ -19,7 +19,7 @@ fn follow(mut run: Taught, random: &mut Random, calls: usize, met: &mut Met) {
 #[test]
 fn random_targets() {
     let mut met = Met::default();
-    for case in 0..600 {
+    for case in 0..4_000 {
         let random = &mut Random::case(61, case);
         follow(Taught::random(random), random, 120, &mut met);
     }
@@ -30,7 +30,7 @@ fn random_targets() {
 #[test]
 fn larger_targets() {
     let mut met = Met::default();
-    for case in 0..12 {
+    for case in 0..24 {
         let random = &mut Random::case(62, case);
         let target = Target::sized(random, 12);
         follow(Taught::start(target, 100, 16_384), random, 300, &mut met);

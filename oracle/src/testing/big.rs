@@ -200,7 +200,8 @@ pub fn deep_context(depth: usize) -> Tables {
     builder.lend(ROWS_MAX)
 }
 
-/// The most that T4 allows: a full table with one context more, 289, while answers are missing.
+/// The most that T4 allows: a full table with one context more, 289, while answers are missing. The
+/// spine is of 574 rows or more, so that it has rows between members of C.
 pub fn widest(depth: usize, free: usize) -> Tables {
     let mut tables = full(depth, free);
     let lists = &mut tables.lists;
@@ -209,10 +210,12 @@ pub fn widest(depth: usize, free: usize) -> Tables {
     tables
 }
 
-/// A complete table that proposes on the deepest spine for 32 states: 8,175 rows with a hole,
-/// all filled rows stored, 33 transitions, 65 contexts, no row free.
-pub fn spine() -> Tables {
-    let depth = (ROWS_MAX - STATES_MAX - 2) / 2;
+/// The deepest spine below: with it no row is free.
+pub const SPINE_MAX: usize = (ROWS_MAX - STATES_MAX - 2) / 2;
+
+/// A complete table that proposes, on a spine of so many rows, 64 or more: 32 states counted
+/// modulo 32, 33 transitions, 65 contexts, and every row of the spine stored as it is filled.
+pub fn spine(depth: usize) -> Tables {
     let mut builder = Builder::new(&LINKED[..2]);
     let mut context = 0;
     let contexts: Vec<Row> = (0..depth)
@@ -222,7 +225,8 @@ pub fn spine() -> Tables {
         })
         .collect();
     // An odd step, so that every count modulo 32 has a context.
-    let spread = contexts.iter().rev().step_by(127).take(2 * STATES_MAX);
+    let step = depth / (2 * STATES_MAX) | 1;
+    let spread = contexts.iter().rev().step_by(step).take(2 * STATES_MAX);
     spread.for_each(|&row| builder.context(row));
     let mut chain = vec![builder.row(LEAF, YES, &[])];
     for count in 1..=depth + STATES_MAX {
