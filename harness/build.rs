@@ -1,20 +1,22 @@
-//! Links libprobe.a, which `rt staticlib probe` writes, from the folder that PROBE_LIB names.
+//! Links libprobe.a and libkuldveth.a, which `rt staticlib` writes, from the folder that STATIC_LIBS names.
 
 use std::env;
 use std::path::PathBuf;
 
 fn main() {
     let beside = PathBuf::from(env::var("CARGO_MANIFEST_DIR").unwrap_or_default());
-    let folder = env::var("PROBE_LIB").unwrap_or_else(|_| "../target/staticlib".to_string());
+    let folder = env::var("STATIC_LIBS").unwrap_or_else(|_| "../target/staticlib".to_string());
     let folder = beside.join(folder);
-    let library = folder.join("libprobe.a");
-    assert!(
-        library.exists(),
-        "{} is missing: `rt staticlib probe` writes it",
-        library.display()
-    );
-    println!("cargo:rerun-if-env-changed=PROBE_LIB");
-    println!("cargo:rerun-if-changed={}", library.display());
+    println!("cargo:rerun-if-env-changed=STATIC_LIBS");
     println!("cargo:rustc-link-search=native={}", folder.display());
-    println!("cargo:rustc-link-lib=static=probe");
+    for name in ["probe", "kuldveth"] {
+        let library = folder.join(format!("lib{name}.a"));
+        assert!(
+            library.exists(),
+            "{} is missing: `rt staticlib {name}` writes it",
+            library.display()
+        );
+        println!("cargo:rerun-if-changed={}", library.display());
+        println!("cargo:rustc-link-lib=static={name}");
+    }
 }

@@ -22,7 +22,7 @@ pub const MIXES: [[u64; 5]; 8] = [
 const PARENT: u32 = 60;
 const LEAVES: u32 = 60;
 
-fn bucket(mix: &[u64; 5], symbol: u32, places: [u32; 4]) -> u64 {
+pub fn bucket(mix: &[u64; 5], symbol: u32, places: [u32; 4]) -> u64 {
     let products = places.iter().zip(&mix[1..]);
     let sum: u64 = products.map(|(&place, factor)| place as u64 * factor).sum();
     (symbol as u64 * mix[0] + sum) % 2_147_483_629 % 16_384

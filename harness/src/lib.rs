@@ -1,11 +1,15 @@
-//! A second program for the functions of `crates/bank`: what they do, written again by plain
-//! means from docs/SPECIFICATION.md, and the means to run both on the same tables.
+//! The proved functions beside a second program: those of `crates/bank` beside what they do, written
+//! again by plain means from docs/SPECIFICATION.md, the calls of `crates/kuldveth` beside the oracle.
 
 pub mod colliding;
+pub mod crowded;
 pub mod hashed;
+pub mod kuldveth;
 pub mod lent;
 pub mod listing;
 pub mod plain;
 pub mod probe;
 pub mod random;
 pub mod sound;
+pub mod strange;
+pub mod teacher;

@@ -199,3 +199,77 @@ pub fn deep_context(depth: usize) -> Tables {
     builder.context(context);
     builder.lend(ROWS_MAX)
 }
+
+/// The most that T4 allows: a full table with one context more, 289, while answers are missing. The
+/// spine is of 574 rows or more, so that it has rows between members of C.
+pub fn widest(depth: usize, free: usize) -> Tables {
+    let mut tables = full(depth, free);
+    let lists = &mut tables.lists;
+    lists.c[lists.contexts as usize] = lists.c[1] - 1;
+    lists.contexts += 1;
+    tables
+}
+
+/// The deepest spine below: with it no row is free.
+pub const SPINE_MAX: usize = (ROWS_MAX - STATES_MAX - 2) / 2;
+
+/// A complete table that proposes, on a spine of so many rows, 64 or more: 32 states counted
+/// modulo 32, 33 transitions, 65 contexts, and every row of the spine stored as it is filled.
+pub fn spine(depth: usize) -> Tables {
+    let mut builder = Builder::new(&LINKED[..2]);
+    let mut context = 0;
+    let contexts: Vec<Row> = (0..depth)
+        .map(|_| {
+            context = builder.row(LINK, UNKNOWN, &[context]);
+            context
+        })
+        .collect();
+    // An odd step, so that every count modulo 32 has a context.
+    let step = depth / (2 * STATES_MAX) | 1;
+    let spread = contexts.iter().rev().step_by(step).take(2 * STATES_MAX);
+    spread.for_each(|&row| builder.context(row));
+    let mut chain = vec![builder.row(LEAF, YES, &[])];
+    for count in 1..=depth + STATES_MAX {
+        let code = NO + count.is_multiple_of(STATES_MAX) as u32;
+        chain.push(builder.row(LINK, code, &[chain[count - 1]]));
+    }
+    let states = chain[..STATES_MAX].iter();
+    states.for_each(|&row| builder.state(row));
+    let transitions = chain[..=STATES_MAX].iter();
+    transitions.for_each(|&row| builder.transition(row));
+    builder.lend(ROWS_MAX)
+}
+
+/// A complete table that proposes: parity of the second leaf by 256 transitions and two
+/// contexts, and in every row left a deeper context that is no member of C.
+pub fn beside() -> Tables {
+    let mut counts = vec![0, 0, 1, 2];
+    counts.resize(4 + 31, 3);
+    let mut builder = Builder::new(&counts);
+    let context = builder.row(2, UNKNOWN, &[0]);
+    builder.context(context);
+    let code = |odd: bool| if odd { NO } else { YES };
+    let leaves = [0, 1].map(|symbol| builder.row(symbol, code(symbol == 1), &[]));
+    leaves.iter().for_each(|&row| builder.state(row));
+    let mut transitions = leaves.map(|row| (row, row != leaves[0])).to_vec();
+    for (symbol, &count) in counts.iter().enumerate().skip(2) {
+        for tuple in 0..1usize << count {
+            let children = (0..count).map(|place| leaves[tuple >> place & 1]);
+            let children: Vec<Row> = children.collect();
+            // The link tells the parities apart: it adds one.
+            let odd = (tuple.count_ones() % 2 == 1) != (symbol == 2);
+            transitions.push((builder.row(symbol as u32, code(odd), &children), odd));
+        }
+    }
+    for &(row, odd) in &transitions {
+        builder.transition(row);
+        if !leaves.contains(&row) {
+            builder.row(2, code(!odd), &[row]);
+        }
+    }
+    let mut deeper = context;
+    while builder.words.len() < ROWS_MAX * ROW_WORDS {
+        deeper = builder.row(2, UNKNOWN, &[deeper]);
+    }
+    builder.lend(ROWS_MAX)
+}

@@ -1,0 +1,18 @@
+//! The calls that `crates/kuldveth` exports, in the oracle's types: field by field they are those of
+//! `crates/model/src/lib.rt`.
+
+use oracle::{Emitted, Lists, Seen};
+
+// A slice crosses as a pointer and a length. The functions require nothing of what is lent.
+extern "C" {
+    fn kuldveth_look(words: *const u32, size: usize, lists: *const Lists) -> Seen;
+    fn kuldveth_load(bytes: *const u8, size: usize) -> Emitted;
+}
+
+pub fn look(words: &[u32], lists: &Lists) -> Seen {
+    unsafe { kuldveth_look(words.as_ptr(), words.len(), lists) }
+}
+
+pub fn load(bytes: &[u8]) -> Emitted {
+    unsafe { kuldveth_load(bytes.as_ptr(), bytes.len()) }
+}
