@@ -1,7 +1,7 @@
 // The calls that a host makes, from C and Rust: thin functions over the calls by value. Nothing is required of what a host lends.
 ghost use mathlib.Core.Path.{_≡_};
 ghost use Rattle.model.specs.Calls.{offers, answers, accept as acceptCall, looks};
-ghost use Rattle.model.specs.Entry.{startSeen, startWords, startLists, callSeen, callWords, callLists, loadSeen};
+ghost use Rattle.model.specs.Entry.{startSeen, startWords, startLists, callSeen, callWords, callLists, emitSeen, emitOut, loadSeen};
 use model::Emitted;
 use model::Lists;
 use model::Seen;
@@ -65,6 +65,15 @@ pub extern "C" fn kuldveth_look(words: &[u32], lists: &Lists) -> Seen
     ensures { λ r. ⌜ r ≡ callSeen (now (words .entry)) (now (lists .entry)) looks ⌝ }
 {
     sound::look(words, *lists)
+}
+
+// Emitting the list of the proposed automaton (§3.7): the count of bytes written; the bytes past them stay.
+#[no_mangle]
+pub extern "C" fn kuldveth_emit(words: &[u32], lists: &Lists, out: &mut [u8]) -> Emitted
+    ensures { λ r. ⌜ r ≡ emitSeen (now (words .entry)) (now (lists .entry)) (now (out .entry)) ⌝ }
+    ensures out { λ r. ⌜ now (out .exit) ≡ emitOut (now (words .entry)) (now (lists .entry)) (now (out .entry)) ⌝ }
+{
+    emit::emit(words, *lists, out)
 }
 
 // Loading a list (§3.8): 21, or the count of its rules.

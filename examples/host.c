@@ -1,0 +1,45 @@
+/* The worked run (docs/SPECIFICATION.md, §9) through the library: o has one child, p none; the archive keeps o[p] alone. */
+#include "../include/kuldveth.h"
+
+#include <stdio.h>
+
+static uint32_t words[KULDVETH_WORDS_PER_ROW * 5];
+static struct kuldveth_lists lists;
+static uint8_t bytes[4096];
+
+/* One line for what a call told. */
+static void tell(struct kuldveth_seen seen)
+{
+    if (seen.number != 0)
+        printf("refused %d\n", seen.number);
+    else if (seen.phase == KULDVETH_ASKING)
+        printf("ask row %d\n", seen.row);
+    else if (seen.phase == KULDVETH_ACCEPTED)
+        printf("accepted\n");
+    else
+        printf("propose %d %d %d\n", seen.states, seen.rules, seen.contexts);
+}
+
+int main(void)
+{
+    const size_t length = sizeof words / sizeof words[0];
+    const uint8_t counts[] = {1, 0};
+    const uint8_t op[] = {1, 0};
+
+    tell(kuldveth_start(words, length, &lists, counts, sizeof counts));
+    tell(kuldveth_offer(words, length, &lists, op, sizeof op, 1));
+    tell(kuldveth_answer(words, length, &lists, 0));
+    tell(kuldveth_offer(words, length, &lists, op, sizeof op, 1));
+    tell(kuldveth_answer(words, length, &lists, 0));
+    tell(kuldveth_offer(words, length, &lists, op, sizeof op, 1));
+    tell(kuldveth_accept(words, length, &lists));
+    tell(kuldveth_look(words, length, &lists));
+
+    const struct kuldveth_emitted list = kuldveth_emit(words, length, &lists, bytes, sizeof bytes);
+    printf("emitted %d %u:", list.number, (unsigned)list.size);
+    for (uint32_t i = 0; i < list.size; i++)
+        printf(" %02x", bytes[i]);
+    const struct kuldveth_emitted rules = kuldveth_load(bytes, list.size);
+    printf("\nloaded %d %u\n", rules.number, (unsigned)rules.size);
+    return 0;
+}

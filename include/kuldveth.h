@@ -1,0 +1,108 @@
+/* The calls of the learner, as a host makes them from C. docs/SPECIFICATION.md says what each call returns and leaves; the
+ * paragraphs (§) named here are its. The functions are proved: on any contents each returns and leaves what is written there.
+ *
+ * What no proof can see is the caller's to guarantee (docs/TRUST.md): pointers are not null, also where a length is 0, and
+ * aligned; a length is the number of elements that are there; areas lent to one call do not overlap unless both are only
+ * read; nobody else writes a lent area during the call. A call needs up to 1.2 MB of stack, and the deepest tables 3 MB. */
+#ifndef KULDVETH_H
+#define KULDVETH_H
+
+#include <stddef.h>
+#include <stdint.h>
+
+/* Limits (§11). */
+#define KULDVETH_WORDS_PER_ROW 6
+#define KULDVETH_MOST_ROWS 16384
+#define KULDVETH_MOST_SYMBOLS 64
+#define KULDVETH_MOST_CHILDREN 4
+#define KULDVETH_MOST_LISTED 1024
+#define KULDVETH_MOST_STATES 32
+#define KULDVETH_MOST_RULES 256
+#define KULDVETH_MOST_CONTEXTS 289
+
+/* The run's own lists (§2.2). The host keeps them and lends them to each call; start needs nothing of what they held. */
+struct kuldveth_lists {
+    uint8_t letters;
+    uint8_t counts[KULDVETH_MOST_SYMBOLS];
+    uint16_t used;
+    uint8_t states;
+    uint16_t s[KULDVETH_MOST_STATES];
+    uint16_t rules;
+    uint16_t t[KULDVETH_MOST_RULES];
+    uint16_t contexts;
+    uint16_t c[KULDVETH_MOST_CONTEXTS];
+    uint16_t hand;
+    uint16_t asked;
+    uint8_t accepted;
+};
+
+/* Phases (§3.1). */
+enum { KULDVETH_PROPOSING = 0, KULDVETH_ASKING = 1, KULDVETH_ACCEPTED = 2 };
+
+/* What a call tells (§3.3): number 0, then phase, the open row or 0, and the counts; or a refusal's number and zeros. */
+struct kuldveth_seen {
+    uint8_t number;
+    uint8_t phase;
+    uint16_t row;
+    uint8_t states;
+    uint16_t rules;
+    uint16_t contexts;
+};
+
+/* What emitting and loading tell (§3.7, §3.8): number 0 and the bytes written or the rules read, or a refusal's number and 0. */
+struct kuldveth_emitted {
+    uint8_t number;
+    uint32_t size;
+};
+
+/* Refusals because of the input (§5.1). Nothing lent changes. */
+enum {
+    KULDVETH_EMPTY_RECORD = 11,      /* no symbols */
+    KULDVETH_LONG_RECORD = 12,       /* over 1,024 symbols */
+    KULDVETH_UNKNOWN_SYMBOL = 13,    /* a symbol past the alphabet */
+    KULDVETH_FEW_CHILDREN = 14,      /* a symbol wants more children than stand ready */
+    KULDVETH_MANY_TREES = 15,        /* more than one tree left */
+    KULDVETH_BAD_MARK = 16,          /* answer or mark other than 0 and 1 */
+    KULDVETH_BAD_ALPHABET = 17,      /* empty, over 64 symbols, or a count over 4 */
+    KULDVETH_BAD_WORDS = 18,         /* not whole rows, no row, or over 16,384 */
+    KULDVETH_SHORT_OUTPUT = 20,      /* output too short */
+    KULDVETH_BAD_LIST = 21           /* bytes that are no list */
+};
+
+/* Refusals because of the state (§5.2). Nothing lent changes. */
+enum {
+    KULDVETH_UNSOUND = 30,           /* the tables are not sound */
+    KULDVETH_NOT_NOW = 31,           /* the call is not allowed now */
+    KULDVETH_NOTHING_NEW = 32,       /* the mark is the automaton's verdict already */
+    KULDVETH_CONTRADICTS = 33,       /* the mark contradicts a known answer */
+    KULDVETH_NO_ROWS = 34,           /* rows run out */
+    KULDVETH_NO_STATES = 35,         /* a 33rd state */
+    KULDVETH_NO_RULES = 36           /* a 257th transition */
+};
+
+/* Start (§3.2): 18, 17. counts has the child count of each symbol. Writes row 0 and the lists. */
+struct kuldveth_seen kuldveth_start(uint32_t *words, size_t words_length, struct kuldveth_lists *lists,
+                                    const uint8_t *counts, size_t counts_length);
+
+/* An offer (§3.4): symbols, children before parent; mark 1 where the archive keeps the record, 0 where it does not.
+ * 18, 30, 31, 11 to 16, 32, 33, then 34 to 36. */
+struct kuldveth_seen kuldveth_offer(uint32_t *words, size_t words_length, struct kuldveth_lists *lists,
+                                    const uint8_t *symbols, size_t symbols_length, uint8_t mark);
+
+/* An answer to the open question (§3.5): 1 yes, 0 no. 18, 30, 31, 16, then 34 to 36. */
+struct kuldveth_seen kuldveth_answer(uint32_t *words, size_t words_length, struct kuldveth_lists *lists, uint8_t mark);
+
+/* Acceptance of the proposal (§3.6): 18, 30, 31. */
+struct kuldveth_seen kuldveth_accept(uint32_t *words, size_t words_length, struct kuldveth_lists *lists);
+
+/* Looking (§3.3): 18, 30. Always allowed, changes nothing. */
+struct kuldveth_seen kuldveth_look(const uint32_t *words, size_t words_length, const struct kuldveth_lists *lists);
+
+/* Emitting the list of the proposed automaton (§3.7): 18, 30, 31, 20. The bytes past those written stay. */
+struct kuldveth_emitted kuldveth_emit(const uint32_t *words, size_t words_length, const struct kuldveth_lists *lists,
+                                      uint8_t *out, size_t out_length);
+
+/* Loading a list (§3.8): 21. */
+struct kuldveth_emitted kuldveth_load(const uint8_t *bytes, size_t bytes_length);
+
+#endif
