@@ -62,6 +62,14 @@ fn main() {
         "32, 256, 289; spine of 8,000; asking",
         &big::widest(8_000, 0),
     );
+    line(
+        "32, 256, 289; spine of 12,000; asking",
+        &big::widest(12_000, 0),
+    );
+    line(
+        "32, 256, 289; spine of 15,000; asking",
+        &big::widest(15_000, 0),
+    );
     line("32, 256, 72; 16,232 rows; proposing", &big::proposing(71));
     let spine = big::spine(big::SPINE_MAX);
     line("32, 33, 65; spine of 8,175; proposing", &spine);
@@ -71,15 +79,19 @@ fn main() {
     );
     line("1, 2, 1; chain of 16,000 in hand", &big::exchanges(16_000));
     line("1, 3, 1; 2^16,378 leaves in hand", &big::doubling(16_378));
-    line("2, 256, 2; 15,870 contexts beside C", &big::beside());
+    line("2, 256, 2; 15,872 contexts beside C", &big::beside());
+    line(
+        "2, 256, 3; spine of 15,872 not filled; asking",
+        &big::unfilled(),
+    );
     collided_lines("32, 256, 289; 7,600 rows more", || {
         big::widest(4_000, 8_000)
     });
-    collided_lines("32, 256, 41; 7,000 rows more", || big::proposing(40));
+    collided_lines("32, 256, 41; 6,727 rows more", || big::proposing(40));
     collided_lines("32, 33, 65; 7,950 rows more", || big::spine(4_000));
     let worst = Crowded::over(big::spine(4_000)).collided_in_all();
     let (library, oracle) = times(3, &worst);
     let ratio = ratio(library, oracle);
-    let name = "    the same, collided in the last try";
+    let name = "    the same, in one bucket of the last try";
     println!("{name:<50} {library:>10.1?} {oracle:>10.1?} {ratio:>8.2}");
 }

@@ -273,3 +273,21 @@ pub fn beside() -> Tables {
     }
     builder.lend(ROWS_MAX)
 }
+
+/// The same with the deepest context in C, of which nothing is stored as it is filled but its
+/// first row; in the last row an open question.
+pub fn unfilled() -> Tables {
+    let mut tables = beside();
+    let lists = &mut tables.lists;
+    let last = lists.used - 1;
+    lists.c[lists.contexts as usize] = last - 1;
+    lists.contexts += 1;
+    lists.asked = last;
+    // The first row over the one context with a link comes after the last filled one.
+    let over = [2, UNKNOWN, lists.c[1] as u32];
+    let mut rows = tables.words.chunks_exact(ROW_WORDS);
+    let deeper = rows.position(|row| row[..3] == over).unwrap_or(1) as u32;
+    let asked = &mut tables.words[last as usize * ROW_WORDS..];
+    asked.copy_from_slice(&[2, UNKNOWN, deeper - 1, 0, 0, 0]);
+    tables
+}
