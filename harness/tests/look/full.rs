@@ -12,13 +12,14 @@ use std::thread;
 
 const STACK: usize = 4 << 20;
 
-fn all() -> [Tables; 11] {
+fn all() -> [Tables; 12] {
     [
         big::full(8_000, 0),
         big::widest(8_000, 0),
         big::proposing(71),
         big::spine(big::SPINE_MAX),
         big::beside(),
+        big::beside_flat(),
         big::unfilled(),
         big::widest(12_000, 0),
         big::widest(15_000, 0),
@@ -41,6 +42,7 @@ fn counts() {
         (16_384, 32, 256, 289),
         (16_232, 32, 256, 72),
         (16_384, 32, 33, 65),
+        (16_384, 2, 256, 2),
         (16_384, 2, 256, 2),
         (16_384, 2, 256, 3),
         (16_384, 32, 256, 289),
