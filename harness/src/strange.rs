@@ -114,10 +114,10 @@ pub fn shuffled(tables: &Tables, random: &mut Random) -> Tables {
     let count = |at: usize| tables.lists.counts[row(at)[0] as usize] as usize;
     let mut waits = vec![0; used];
     let mut above = vec![Vec::new(); used];
-    for at in 1..used {
+    for (at, waits) in waits.iter_mut().enumerate().skip(1) {
+        *waits = count(at);
         for &child in &row(at)[2..][..count(at)] {
             above[child as usize].push(at);
-            waits[at] += 1;
         }
     }
     let mut order = vec![0];

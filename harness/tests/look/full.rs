@@ -12,13 +12,17 @@ use std::thread;
 
 const STACK: usize = 4 << 20;
 
-fn all() -> [Tables; 8] {
+fn all() -> [Tables; 12] {
     [
         big::full(8_000, 0),
         big::widest(8_000, 0),
         big::proposing(71),
         big::spine(big::SPINE_MAX),
         big::beside(),
+        big::beside_flat(),
+        big::unfilled(),
+        big::widest(12_000, 0),
+        big::widest(15_000, 0),
         big::exchanges(16_000),
         big::doubling(16_378),
         big::deep_context(8_189),
@@ -39,6 +43,10 @@ fn counts() {
         (16_232, 32, 256, 72),
         (16_384, 32, 33, 65),
         (16_384, 2, 256, 2),
+        (16_384, 2, 256, 2),
+        (16_384, 2, 256, 3),
+        (16_384, 32, 256, 289),
+        (16_384, 32, 256, 289),
         (16_003, 1, 2, 1),
         (16_383, 1, 3, 1),
         (16_381, 1, 2, 2),

@@ -2,6 +2,9 @@
 
 use crate::compare::{look, Met};
 use harness::teacher::Taught;
+use oracle::limits::ROW_WORDS;
+use oracle::testing::big;
+use oracle::testing::compare::Tables;
 use oracle::testing::random::Random;
 use oracle::testing::target::Target;
 
@@ -35,6 +38,44 @@ fn larger_targets() {
         let target = Target::sized(random, 12);
         follow(Taught::start(target, 100, 16_384), random, 300, &mut met);
     }
+}
+
+/// Whether every row with a hole is a member of C or below one.
+fn none_beside(tables: &Tables) -> bool {
+    let lists = &tables.lists;
+    let row = |at: usize| &tables.words[at * ROW_WORDS..][..ROW_WORDS];
+    let used = lists.used as usize;
+    let mut holed = vec![true; used];
+    for at in 1..used {
+        let count = lists.counts[row(at)[0] as usize] as usize;
+        holed[at] = row(at)[2..][..count]
+            .iter()
+            .any(|&child| holed[child as usize]);
+    }
+    let mut needed = vec![false; used];
+    let members = lists.contexts().iter();
+    members.for_each(|&context| needed[context as usize] = true);
+    for at in (1..used).rev().filter(|&at| holed[at]) {
+        let count = lists.counts[row(at)[0] as usize] as usize;
+        for &child in &row(at)[2..][..count] {
+            needed[child as usize] |= needed[at];
+        }
+    }
+    (0..used).all(|at| needed[at] || !holed[at])
+}
+
+/// No run leaves the tables that docs/BENCHMARKS.md calls slow for contexts beside C.
+#[test]
+fn no_contexts_beside_c() {
+    for case in 0..1_000 {
+        let random = &mut Random::case(64, case);
+        let mut run = Taught::random(random);
+        for _ in 0..60 {
+            run.step(random);
+            assert!(none_beside(&run.tables), "{:?}", run.tables);
+        }
+    }
+    assert!(!none_beside(&big::beside()));
 }
 
 /// Tables before a start: full of zeros, and of what a host left there.

@@ -225,7 +225,7 @@ pub fn spine(depth: usize) -> Tables {
         })
         .collect();
     // An odd step, so that every count modulo 32 has a context.
-    let step = depth / (2 * STATES_MAX) | 1;
+    let step = (depth / (2 * STATES_MAX)) | 1;
     let spread = contexts.iter().rev().step_by(step).take(2 * STATES_MAX);
     spread.for_each(|&row| builder.context(row));
     let mut chain = vec![builder.row(LEAF, YES, &[])];
@@ -240,9 +240,9 @@ pub fn spine(depth: usize) -> Tables {
     builder.lend(ROWS_MAX)
 }
 
-/// A complete table that proposes: parity of the second leaf by 256 transitions and two
-/// contexts, and in every row left a deeper context that is no member of C.
-pub fn beside() -> Tables {
+/// Parity of the second leaf, which links turn round, by 256 transitions and two contexts: 512 rows
+/// of a complete table. Row 1 is the context, the others are records.
+fn parity() -> Builder {
     let mut counts = vec![0, 0, 1, 2];
     counts.resize(4 + 31, 3);
     let mut builder = Builder::new(&counts);
@@ -267,9 +267,47 @@ pub fn beside() -> Tables {
             builder.row(2, code(!odd), &[row]);
         }
     }
-    let mut deeper = context;
+    builder
+}
+
+/// A complete table that proposes, with contexts that are no members of C in every row left, each
+/// above the one before.
+pub fn beside() -> Tables {
+    let mut builder = parity();
+    let mut deeper = 1;
     while builder.words.len() < ROWS_MAX * ROW_WORDS {
         deeper = builder.row(2, UNKNOWN, &[deeper]);
     }
     builder.lend(ROWS_MAX)
+}
+
+/// The same with contexts whose hole is a child of their root.
+pub fn beside_flat() -> Tables {
+    let mut builder = parity();
+    let records: Vec<Row> = (2..512).collect();
+    let pairs = records
+        .iter()
+        .flat_map(|one| records.iter().map(move |other| [0, *one, *other]));
+    for children in pairs.take(ROWS_MAX - 512) {
+        builder.row(4, UNKNOWN, &children);
+    }
+    builder.lend(ROWS_MAX)
+}
+
+/// The first of these with the deepest context in C, of which nothing is stored as it is filled but its
+/// first row; in the last row an open question.
+pub fn unfilled() -> Tables {
+    let mut tables = beside();
+    let lists = &mut tables.lists;
+    let last = lists.used - 1;
+    lists.c[lists.contexts as usize] = last - 1;
+    lists.contexts += 1;
+    lists.asked = last;
+    // The first row over the one context with a link comes after the last filled one.
+    let over = [2, UNKNOWN, lists.c[1] as u32];
+    let mut rows = tables.words.chunks_exact(ROW_WORDS);
+    let deeper = rows.position(|row| row[..3] == over).unwrap_or(1) as u32;
+    let asked = &mut tables.words[last as usize * ROW_WORDS..];
+    asked.copy_from_slice(&[2, UNKNOWN, deeper - 1, 0, 0, 0]);
+    tables
 }
