@@ -1,0 +1,95 @@
+//! What crosses to the library: field by field the structs of `crates/model/src/lib.rt`, a slice as pointer and length.
+//! The functions require nothing of contents; pointers, lengths and aliasing are kept right by the borrows in `Run`.
+
+/// Numbers in a row of the record table, and how many rows it may have (§2.1).
+pub const WORDS_PER_ROW: usize = 6;
+pub const MOST_ROWS: usize = 16_384;
+
+/// The run's own lists (§2.2).
+#[repr(C)]
+#[derive(Clone, Debug, PartialEq, Eq)]
+pub struct Lists {
+    pub letters: u8,
+    pub counts: [u8; 64],
+    pub used: u16,
+    pub states: u8,
+    pub s: [u16; 32],
+    pub rules: u16,
+    pub t: [u16; 256],
+    pub contexts: u16,
+    pub c: [u16; 289],
+    pub hand: u16,
+    pub asked: u16,
+    pub accepted: u8,
+}
+
+impl Lists {
+    pub(crate) const fn zeroed() -> Lists {
+        Lists {
+            letters: 0,
+            counts: [0; 64],
+            used: 0,
+            states: 0,
+            s: [0; 32],
+            rules: 0,
+            t: [0; 256],
+            contexts: 0,
+            c: [0; 289],
+            hand: 0,
+            asked: 0,
+            accepted: 0,
+        }
+    }
+}
+
+/// What a call tells (§3.3).
+#[repr(C)]
+pub(crate) struct Seen {
+    pub number: u8,
+    pub phase: u8,
+    pub row: u16,
+    pub states: u8,
+    pub rules: u16,
+    pub contexts: u16,
+}
+
+/// What emitting and loading tell (§3.7, §3.8).
+#[repr(C)]
+pub(crate) struct Emitted {
+    pub number: u8,
+    pub size: u32,
+}
+
+extern "C" {
+    pub(crate) fn kuldveth_start(
+        words: *mut u32,
+        size: usize,
+        lists: *mut Lists,
+        counts: *const u8,
+        letters: usize,
+    ) -> Seen;
+    pub(crate) fn kuldveth_offer(
+        words: *mut u32,
+        size: usize,
+        lists: *mut Lists,
+        symbols: *const u8,
+        length: usize,
+        mark: u8,
+    ) -> Seen;
+    pub(crate) fn kuldveth_answer(
+        words: *mut u32,
+        size: usize,
+        lists: *mut Lists,
+        mark: u8,
+    ) -> Seen;
+    pub(crate) fn kuldveth_accept(words: *mut u32, size: usize, lists: *mut Lists) -> Seen;
+    pub(crate) fn kuldveth_look(words: *const u32, size: usize, lists: *const Lists) -> Seen;
+    pub(crate) fn kuldveth_emit(
+        words: *const u32,
+        size: usize,
+        lists: *const Lists,
+        out: *mut u8,
+        room: usize,
+    ) -> Emitted;
+    pub(crate) fn kuldveth_load(bytes: *const u8, size: usize) -> Emitted;
+}

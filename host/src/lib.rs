@@ -1,0 +1,129 @@
+//! The calls of the verified learner for Rust hosts. `Run` owns the tables that the calls are lent; each method is one
+//! call of `docs/SPECIFICATION.md`, §3, and a refusal changes nothing.
+
+mod lent;
+mod refusal;
+
+pub use lent::{Lists, MOST_ROWS, WORDS_PER_ROW};
+pub use refusal::Refusal;
+
+use lent::{
+    kuldveth_accept, kuldveth_answer, kuldveth_emit, kuldveth_load, kuldveth_look, kuldveth_offer,
+    kuldveth_start, Emitted, Seen,
+};
+
+/// What a call that was taken tells: the phase and the sizes of the automaton that stands behind it.
+#[derive(Clone, Copy, Debug, PartialEq, Eq)]
+pub struct Told {
+    pub phase: Phase,
+    pub states: u8,
+    pub rules: u16,
+    pub contexts: u16,
+}
+
+/// Where a run stands (§3.1).
+#[derive(Clone, Copy, Debug, PartialEq, Eq)]
+pub enum Phase {
+    /// An automaton is proposed: offers and acceptance are taken.
+    Proposing,
+    /// The record of a row is asked for: an answer is taken.
+    Asking { row: u16 },
+    /// The proposal was accepted.
+    Accepted,
+}
+
+/// A run with its record table and its lists.
+pub struct Run {
+    words: Vec<u32>,
+    lists: Lists,
+}
+
+impl Run {
+    /// Starts a run with room for `rows` rows (1 to `MOST_ROWS`), over symbols with these child counts.
+    pub fn start(rows: usize, counts: &[u8]) -> Result<(Run, Told), Refusal> {
+        let mut run = Run {
+            words: vec![0; rows * WORDS_PER_ROW],
+            lists: Lists::zeroed(),
+        };
+        let seen = unsafe {
+            kuldveth_start(
+                run.words.as_mut_ptr(),
+                run.words.len(),
+                &mut run.lists,
+                counts.as_ptr(),
+                counts.len(),
+            )
+        };
+        told(seen).map(|told| (run, told))
+    }
+
+    /// Offers a record, children before parent, with the archive's word on it.
+    pub fn offer(&mut self, symbols: &[u8], kept: bool) -> Result<Told, Refusal> {
+        let (words, size) = (self.words.as_mut_ptr(), self.words.len());
+        let (list, length) = (symbols.as_ptr(), symbols.len());
+        told(unsafe { kuldveth_offer(words, size, &mut self.lists, list, length, kept as u8) })
+    }
+
+    /// Answers the open question.
+    pub fn answer(&mut self, kept: bool) -> Result<Told, Refusal> {
+        let (words, size) = (self.words.as_mut_ptr(), self.words.len());
+        told(unsafe { kuldveth_answer(words, size, &mut self.lists, kept as u8) })
+    }
+
+    /// Accepts the proposal.
+    pub fn accept(&mut self) -> Result<Told, Refusal> {
+        let (words, size) = (self.words.as_mut_ptr(), self.words.len());
+        told(unsafe { kuldveth_accept(words, size, &mut self.lists) })
+    }
+
+    /// Looks at the run.
+    pub fn look(&self) -> Result<Told, Refusal> {
+        told(unsafe { kuldveth_look(self.words.as_ptr(), self.words.len(), &self.lists) })
+    }
+
+    /// The bytes of the proposed automaton (§6.1).
+    pub fn emit(&self) -> Result<Vec<u8>, Refusal> {
+        let mut out = vec![0; MOST_LIST_BYTES];
+        let (words, size) = (self.words.as_ptr(), self.words.len());
+        let (bytes, room) = (out.as_mut_ptr(), out.len());
+        let written = sized(unsafe { kuldveth_emit(words, size, &self.lists, bytes, room) })?;
+        out.truncate(written);
+        Ok(out)
+    }
+
+    /// The record table: six numbers a row, children by row number (§2.1).
+    pub fn words(&self) -> &[u32] {
+        &self.words
+    }
+}
+
+/// The longest list: 64 symbols, 32 states and 256 rules of four children.
+const MOST_LIST_BYTES: usize = 12 + 64 + 32 + 256 * 12;
+
+/// How many rules a list has, or that its bytes are no list.
+pub fn load(bytes: &[u8]) -> Result<usize, Refusal> {
+    sized(unsafe { kuldveth_load(bytes.as_ptr(), bytes.len()) })
+}
+
+fn told(seen: Seen) -> Result<Told, Refusal> {
+    if let Some(refusal) = Refusal::of(seen.number) {
+        return Err(refusal);
+    }
+    Ok(Told {
+        phase: match seen.phase {
+            0 => Phase::Proposing,
+            1 => Phase::Asking { row: seen.row },
+            _ => Phase::Accepted,
+        },
+        states: seen.states,
+        rules: seen.rules,
+        contexts: seen.contexts,
+    })
+}
+
+fn sized(emitted: Emitted) -> Result<usize, Refusal> {
+    match Refusal::of(emitted.number) {
+        Some(refusal) => Err(refusal),
+        None => Ok(emitted.size as usize),
+    }
+}
