@@ -88,11 +88,16 @@ fn transitions_run_out() {
     assert_eq!((number, counts), (36, (2, 256)));
     let numbers = around(&tables, &call, &mut met);
     assert!(numbers[0] == 34 && numbers.ends_with(&[36]), "{numbers:?}");
-    let next = difference(&target, &proposal(&tables)).unwrap();
-    let twice = [&next[..], &[2, 2]].concat();
-    let mark = target.accepts(&twice) as u8;
-    for mark in [mark, 1 - mark] {
-        met.try_call(&tables, &Call::Offer(twice.clone(), mark));
-    }
-    met.at_least(2, [34, 36]);
+    refused_before_the_context(&target, &tables, &mut met);
+    met.at_least(5, [34, 36]);
+}
+
+/// Where the rows of the record fit and none is left for its context, the transition comes first: 36.
+fn refused_before_the_context(target: &Target, tables: &Tables, met: &mut Met) {
+    let mut deeper = difference(target, &proposal(tables)).unwrap();
+    deeper.extend([2; 3]);
+    let numbers = around(tables, &Call::Offer(deeper, 1), met);
+    let short = numbers.iter().take_while(|&&number| number == 34).count();
+    assert!((3..6).contains(&short), "{numbers:?}");
+    assert!(numbers[short..].iter().all(|&number| number == 36));
 }
