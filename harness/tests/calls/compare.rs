@@ -61,6 +61,10 @@ fn smaller(tables: &Tables, call: &Call) -> Vec<(Tables, Call)> {
         }
     };
     with(&|it| it.words.truncate(it.lists.used as usize * 6));
+    with(&|it| {
+        let rows = (it.words.len() / 6 + it.lists.used as usize) / 2;
+        it.words.truncate(rows * 6);
+    });
     with(&|it| it.words.truncate(it.words.len().saturating_sub(6)));
     with(&|it| it.lists.used = it.lists.used.saturating_sub(1));
     with(&|it| it.lists.contexts = it.lists.contexts.saturating_sub(1));
