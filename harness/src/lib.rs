@@ -1,8 +1,10 @@
 //! The proved functions beside a second program: those of `crates/bank` beside what they do, written
 //! again by plain means from docs/SPECIFICATION.md, the calls of `crates/kuldveth` beside the oracle.
 
+pub mod calls;
 pub mod colliding;
 pub mod crowded;
+pub mod difference;
 pub mod hashed;
 pub mod kuldveth;
 pub mod lent;
@@ -12,4 +14,6 @@ pub mod probe;
 pub mod random;
 pub mod sound;
 pub mod strange;
+pub mod targets;
 pub mod teacher;
+pub mod teaching;

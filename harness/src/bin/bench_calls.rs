@@ -1,0 +1,137 @@
+//! Times of whole learning runs and of single calls on full tables, library and oracle in turn.
+//! docs/BENCHMARKS.md says what the lines mean.
+
+use harness::calls::{call, oracle_call};
+use harness::targets;
+use harness::teaching::{started, truthful};
+use oracle::limits::ROWS_MAX;
+use oracle::testing::big;
+use oracle::testing::compare::{Call, Tables};
+use oracle::testing::random::Random;
+use oracle::{Lists, Seen};
+use std::time::{Duration, Instant};
+
+const RUNS: usize = 60;
+
+type Calls = fn(&mut [u32], &mut Lists, &Call) -> Seen;
+
+fn line(name: &str, library: Duration, oracle: Duration) {
+    let ratio = library.as_secs_f64() / oracle.as_secs_f64();
+    println!("{name:<50} {library:>10.1?} {oracle:>10.1?} {ratio:>8.2}");
+}
+
+/// The time that calls take one after the other, without the copies that they are made on.
+fn time(tables: &Tables, made: &[Call], calls: Calls) -> (Duration, Tables) {
+    let Tables {
+        mut words,
+        mut lists,
+    } = tables.clone();
+    let begin = Instant::now();
+    for one in made {
+        calls(&mut words, &mut lists, one);
+    }
+    let time = begin.elapsed();
+    (time, Tables { words, lists })
+}
+
+/// The least times of the library and of the oracle, which leave the same.
+fn least(runs: usize, tables: &Tables, made: &[Call]) -> (Duration, Duration) {
+    let mut least = (Duration::MAX, Duration::MAX);
+    for _ in 0..runs {
+        let (library, left) = time(tables, made, call);
+        let (oracle, expected) = time(tables, made, oracle_call);
+        assert!(left == expected, "library and oracle differ");
+        least = (least.0.min(library), least.1.min(oracle));
+    }
+    least
+}
+
+/// The calls of a truthful run to its acceptance, over as many rows as the host lends.
+fn learning(seed: u64, states: usize, rows: usize) -> Option<(Tables, Vec<Call>, Tables)> {
+    let random = &mut Random::new(seed);
+    let target = targets::random(random, states, 6, 4 * states);
+    let begin = started(target.counts(), rows);
+    let (mut tables, mut made) = (begin.clone(), Vec::new());
+    while tables.lists.accepted == 0 {
+        let next = truthful(&target, &tables);
+        let seen = oracle_call(&mut tables.words, &mut tables.lists, &next);
+        if seen.number != 0 {
+            return None;
+        }
+        made.push(next);
+    }
+    Some((begin, made, tables))
+}
+
+/// A run that learns so many states, at the first seed that has one.
+fn run_line(states: usize, rows: usize) {
+    let found = (1..).find_map(|seed| {
+        let found = learning(seed, states, rows)?;
+        (found.2.lists.states as usize == states).then_some(found)
+    });
+    let Some((begin, made, left)) = found else {
+        return;
+    };
+    let (library, oracle) = least(5, &begin, &made);
+    let lists = &left.lists;
+    let name = format!(
+        "run: {states}, {}, {}; {} calls, {} rows",
+        lists.rules,
+        lists.contexts,
+        made.len(),
+        lists.used
+    );
+    line(&name, library, oracle);
+}
+
+fn call_line(name: &str, tables: &Tables, made: Call) {
+    let (library, oracle) = least(RUNS, tables, &[made]);
+    line(name, library, oracle);
+}
+
+/// p under so many links, for tables of a leaf and links.
+fn chain(leaf: u8, link: u8, length: usize) -> Vec<u8> {
+    let mut symbols = vec![link; length];
+    symbols[0] = leaf;
+    symbols
+}
+
+fn call_lines() {
+    let full = big::full(7_700, 7_800);
+    call_line("answer: 7,700 rows added", &full, Call::Answer(1));
+    let no_room = big::full(8_000, 0);
+    call_line("answer: no row left, 34", &no_room, Call::Answer(1));
+    let proposing = big::proposing(66);
+    let long = [chain(0, 1, 1_022), vec![8, 8]].concat();
+    call_line(
+        "offer of 1,024 symbols on 32, 256, 67",
+        &proposing,
+        Call::Offer(long.clone(), 1),
+    );
+    call_line(
+        "offer of 1,024 symbols, 32",
+        &proposing,
+        Call::Offer(long, 0),
+    );
+    call_line("acceptance on 32, 256, 67", &proposing, Call::Accept);
+    let offer = Call::Offer(chain(1, 0, 1_024), 0);
+    let deep = big::deep_context(7_000);
+    call_line("offer of 1,024 symbols, a context of 7,000", &deep, offer);
+    let exchanges = big::exchanges(16_000);
+    call_line("answer: 15,998 exchanges", &exchanges, Call::Answer(0));
+    let doubling = big::doubling(8_000);
+    call_line("answer: 2^8,000 leaves in hand", &doubling, Call::Answer(1));
+    let started = started(&[1, 0], ROWS_MAX);
+    call_line("start", &started, Call::Start(vec![1, 0]));
+}
+
+fn main() {
+    println!(
+        "{:<50} {:>10} {:>10} {:>8}",
+        "", "library", "oracle", "ratio"
+    );
+    for states in [8, 12, 16, 20, 24, 28, 32] {
+        run_line(states, ROWS_MAX);
+    }
+    call_lines();
+}

@@ -1,0 +1,98 @@
+//! The calls of `crates/kuldveth` that change what is lent, made between guard words.
+
+use oracle::testing::compare::{Call, Tables};
+use oracle::{Lists, Seen};
+
+// A slice crosses as a pointer and a length. The functions require nothing of what is lent.
+extern "C" {
+    fn kuldveth_start(
+        words: *mut u32,
+        size: usize,
+        lists: *mut Lists,
+        counts: *const u8,
+        letters: usize,
+    ) -> Seen;
+    fn kuldveth_offer(
+        words: *mut u32,
+        size: usize,
+        lists: *mut Lists,
+        symbols: *const u8,
+        length: usize,
+        mark: u8,
+    ) -> Seen;
+    fn kuldveth_answer(words: *mut u32, size: usize, lists: *mut Lists, mark: u8) -> Seen;
+    fn kuldveth_accept(words: *mut u32, size: usize, lists: *mut Lists) -> Seen;
+}
+
+pub fn start(words: &mut [u32], lists: &mut Lists, counts: &[u8]) -> Seen {
+    let (pointer, size) = (words.as_mut_ptr(), words.len());
+    unsafe { kuldveth_start(pointer, size, lists, counts.as_ptr(), counts.len()) }
+}
+
+pub fn offer(words: &mut [u32], lists: &mut Lists, symbols: &[u8], mark: u8) -> Seen {
+    let (pointer, size) = (words.as_mut_ptr(), words.len());
+    unsafe { kuldveth_offer(pointer, size, lists, symbols.as_ptr(), symbols.len(), mark) }
+}
+
+pub fn answer(words: &mut [u32], lists: &mut Lists, mark: u8) -> Seen {
+    unsafe { kuldveth_answer(words.as_mut_ptr(), words.len(), lists, mark) }
+}
+
+pub fn accept(words: &mut [u32], lists: &mut Lists) -> Seen {
+    unsafe { kuldveth_accept(words.as_mut_ptr(), words.len(), lists) }
+}
+
+/// Makes a call that returns `Seen` on the tables.
+pub fn call(words: &mut [u32], lists: &mut Lists, call: &Call) -> Seen {
+    match call {
+        Call::Start(counts) => start(words, lists, counts),
+        Call::Offer(symbols, mark) => offer(words, lists, symbols, *mark),
+        Call::Answer(mark) => answer(words, lists, *mark),
+        Call::Accept => accept(words, lists),
+        Call::Look => crate::kuldveth::look(words, lists),
+        Call::Emit(_) => panic!("emitting returns no Seen"),
+    }
+}
+
+/// The same by the oracle.
+pub fn oracle_call(words: &mut [u32], lists: &mut Lists, call: &Call) -> Seen {
+    match call {
+        Call::Start(counts) => oracle::start(words, lists, counts),
+        Call::Offer(symbols, mark) => oracle::offer(words, lists, symbols, *mark),
+        Call::Answer(mark) => oracle::answer(words, lists, *mark),
+        Call::Accept => oracle::accept(words, lists),
+        Call::Look => oracle::look(words, lists),
+        Call::Emit(_) => panic!("emitting returns no Seen"),
+    }
+}
+
+const GUARD: usize = 96;
+const GUARD_WORD: u32 = 0xA5C3_0FE1;
+
+/// Lists with bytes around them that no call may write.
+#[repr(C)]
+struct Guarded {
+    before: [u32; GUARD],
+    lists: Lists,
+    after: [u32; GUARD],
+}
+
+/// What the library makes of a call on copies of the tables; panics if it writes around them.
+pub fn guarded(tables: &Tables, made: &Call) -> (Seen, Tables) {
+    let end = GUARD + tables.words.len();
+    let mut words = vec![GUARD_WORD; end + GUARD];
+    words[GUARD..end].copy_from_slice(&tables.words);
+    let mut lent = Guarded {
+        before: [GUARD_WORD; GUARD],
+        lists: tables.lists.clone(),
+        after: [GUARD_WORD; GUARD],
+    };
+    let seen = call(&mut words[GUARD..end], &mut lent.lists, made);
+    let guards = [&words[..GUARD], &words[end..], &lent.before, &lent.after];
+    let kept = |guard: &[u32]| guard.iter().all(|&word| word == GUARD_WORD);
+    assert!(guards.into_iter().all(kept), "{made:?} wrote past an end");
+    words.truncate(end);
+    words.drain(..GUARD);
+    let lists = lent.lists;
+    (seen, Tables { words, lists })
+}

@@ -1,0 +1,176 @@
+//! One call by both, and what the calls of a test met.
+
+use harness::calls::{guarded, oracle_call};
+use oracle::testing::compare::{Call, Tables};
+use oracle::{Seen, ACCEPTED, ASKING};
+
+/// What the oracle makes of a call on copies of the tables.
+fn expected(tables: &Tables, call: &Call) -> (Seen, Tables) {
+    let mut tables = tables.clone();
+    let seen = oracle_call(&mut tables.words, &mut tables.lists, call);
+    (seen, tables)
+}
+
+fn differ(tables: &Tables, call: &Call) -> bool {
+    guarded(tables, call) != expected(tables, call)
+}
+
+/// Makes the call by both on the tables and leaves them as it left them. Every returned field, word
+/// and list is the same by both, and a refused call leaves all as it was.
+pub fn both(tables: &mut Tables, call: &Call) -> Seen {
+    let found = guarded(tables, call);
+    if found != expected(tables, call) {
+        report(tables.clone(), call.clone());
+    }
+    let (seen, left) = found;
+    if seen.number != 0 {
+        assert!(left == *tables, "{call:?} changed\n{tables:?}");
+        let zeros = Seen {
+            number: seen.number,
+            ..Seen::default()
+        };
+        assert_eq!(seen, zeros, "{call:?} on\n{tables:?}");
+    }
+    *tables = left;
+    seen
+}
+
+/// Panics with the smallest input found on which both differ.
+fn report(mut tables: Tables, mut call: Call) -> ! {
+    while let Some(found) = smaller(&tables, &call)
+        .into_iter()
+        .find(|(tables, call)| differ(tables, call))
+    {
+        (tables, call) = found;
+    }
+    let (seen, left) = guarded(&tables, &call);
+    let (expected, right) = expected(&tables, &call);
+    panic!(
+        "{call:?} over\n{tables:?}\nlibrary: {seen:?}\n{left:?}\noracle: {expected:?}\n{right:?}"
+    );
+}
+
+/// Inputs with one part less.
+fn smaller(tables: &Tables, call: &Call) -> Vec<(Tables, Call)> {
+    let mut found = Vec::new();
+    let mut with = |change: &dyn Fn(&mut Tables)| {
+        let mut smaller = tables.clone();
+        change(&mut smaller);
+        if smaller != *tables {
+            found.push((smaller, call.clone()));
+        }
+    };
+    with(&|it| it.words.truncate(it.lists.used as usize * 6));
+    with(&|it| {
+        let rows = (it.words.len() / 6 + it.lists.used as usize) / 2;
+        it.words.truncate(rows * 6);
+    });
+    with(&|it| it.words.truncate(it.words.len().saturating_sub(6)));
+    with(&|it| it.lists.used = it.lists.used.saturating_sub(1));
+    with(&|it| it.lists.contexts = it.lists.contexts.saturating_sub(1));
+    with(&|it| it.lists.rules = it.lists.rules.saturating_sub(1));
+    with(&|it| it.lists.states = it.lists.states.saturating_sub(1));
+    with(&|it| it.lists.hand = 0);
+    with(&|it| it.lists.asked = 0);
+    if let Call::Offer(symbols, mark) = call {
+        for place in 0..symbols.len().min(40) {
+            let mut fewer = symbols.clone();
+            fewer.remove(place);
+            found.push((tables.clone(), Call::Offer(fewer, *mark)));
+        }
+    }
+    found
+}
+
+/// How often each number came back, and each sort of tables was left by a taken call.
+#[derive(Debug)]
+pub struct Met {
+    pub numbers: [usize; 256],
+    pub asking: usize,
+    pub in_hand: usize,
+    pub accepted: usize,
+    /// Records in hand that a call exchanged or put down.
+    pub moved: usize,
+    /// Taken calls that left more contexts than T4 allows.
+    pub overfull: usize,
+    pub most: Seen,
+}
+
+impl Default for Met {
+    fn default() -> Met {
+        Met {
+            numbers: [0; 256],
+            asking: 0,
+            in_hand: 0,
+            accepted: 0,
+            moved: 0,
+            overfull: 0,
+            most: Seen::default(),
+        }
+    }
+}
+
+impl Met {
+    /// Makes the call by both and counts what came of it.
+    pub fn call(&mut self, tables: &mut Tables, call: &Call) -> Seen {
+        let hand = tables.lists.hand;
+        let seen = both(tables, call);
+        self.numbers[seen.number as usize] += 1;
+        if seen.number == 0 {
+            self.asking += usize::from(seen.phase == ASKING);
+            self.accepted += usize::from(seen.phase == ACCEPTED);
+            self.in_hand += usize::from(tables.lists.hand != 0);
+            self.moved += usize::from(hand != 0 && tables.lists.hand != hand);
+            self.most.states = self.most.states.max(seen.states);
+            self.most.rules = self.most.rules.max(seen.rules);
+            self.most.contexts = self.most.contexts.max(seen.contexts);
+        }
+        seen
+    }
+
+    /// Makes the call on a copy.
+    pub fn try_call(&mut self, tables: &Tables, call: &Call) -> Seen {
+        self.call(&mut tables.clone(), call)
+    }
+
+    /// Makes the call on a copy; panics unless it is refused with the number.
+    pub fn refused(&mut self, tables: &Tables, call: &Call, number: u8) {
+        let seen = self.try_call(tables, call);
+        assert_eq!(seen.number, number, "{call:?} on\n{tables:?}");
+    }
+
+    /// A taken call returns what a look right after it does (3.1).
+    pub fn look_again(&mut self, tables: &Tables, seen: Seen) {
+        if seen.number == 0 {
+            assert_eq!(self.try_call(tables, &Call::Look), seen);
+        }
+    }
+
+    /// Panics if one of the numbers came fewer times.
+    pub fn at_least(&self, times: usize, numbers: impl IntoIterator<Item = usize>) {
+        for number in numbers {
+            assert!(self.numbers[number] >= times, "{number}: {self}");
+        }
+    }
+}
+
+impl std::fmt::Display for Met {
+    fn fmt(&self, out: &mut std::fmt::Formatter) -> std::fmt::Result {
+        let numbers = self.numbers.iter().enumerate().filter(|(_, &met)| met > 0);
+        write!(out, "{:?} ", numbers.collect::<Vec<_>>())?;
+        let Met {
+            asking,
+            in_hand,
+            accepted,
+            moved,
+            overfull,
+            most,
+            ..
+        } = self;
+        write!(
+            out,
+            "asking {asking} in hand {in_hand} accepted {accepted} "
+        )?;
+        write!(out, "moved {moved} overfull {overfull} most {most:?}")
+    }
+}

@@ -1,0 +1,13 @@
+//! The calls that change what is lent, against the oracle, one subject a module. Seeds and counts are fixed.
+
+mod colliding;
+mod compare;
+mod damage;
+mod deep;
+mod designed;
+mod elsewhere;
+mod fresh;
+mod refusals;
+mod shortages;
+mod sizes;
+mod worked;

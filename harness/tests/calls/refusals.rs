@@ -1,0 +1,110 @@
+//! Calls that must be refused, each with its number, at any point of a run.
+
+use crate::compare::Met;
+use harness::teaching::{proposal, written};
+use oracle::limits::ROW_WORDS;
+use oracle::testing::compare::{Call, Tables};
+use oracle::testing::random::Random;
+
+fn offer(symbols: &[u8], mark: u8) -> Call {
+    Call::Offer(symbols.to_vec(), mark)
+}
+
+/// Every call, with inputs that would be refused later.
+fn every_call() -> [Call; 5] {
+    let start = Call::Start(vec![9; 70]);
+    [
+        start,
+        offer(&[], 7),
+        Call::Answer(7),
+        Call::Accept,
+        Call::Look,
+    ]
+}
+
+/// Every refusal that the phase allows.
+pub fn try_all(tables: &Tables, random: &mut Random, met: &mut Met) {
+    sizes(tables, random, met);
+    unsound(tables, random, met);
+    for counts in [&[][..], &[0; 65], &[0, 5], &[255], &[4, 4, 0, 6]] {
+        met.refused(tables, &Call::Start(counts.to_vec()), 17);
+    }
+    match (tables.lists.asked, tables.lists.accepted) {
+        (0, 0) => proposing(tables, random, met),
+        (0, _) => closed(tables, met, &[offer(&[], 7), Call::Answer(2), Call::Accept]),
+        _ => {
+            closed(tables, met, &[offer(&[], 7), Call::Accept]);
+            let mark = *random.pick(&[2, 3, 128, 255]);
+            met.refused(tables, &Call::Answer(mark), 16);
+        }
+    }
+}
+
+fn closed(tables: &Tables, met: &mut Met, calls: &[Call]) {
+    calls.iter().for_each(|call| met.refused(tables, call, 31));
+}
+
+/// 18 comes before all else.
+fn sizes(tables: &Tables, random: &mut Random, met: &mut Met) {
+    let mut cut = tables.clone();
+    let size = cut.words.len();
+    let rest = random.within(1, 5);
+    cut.words.truncate(*random.pick(&[0, rest, size - rest]));
+    every_call()
+        .iter()
+        .for_each(|call| met.refused(&cut, call, 18));
+}
+
+/// 30 comes before all else but 18, and start does not know it.
+fn unsound(tables: &Tables, random: &mut Random, met: &mut Met) {
+    let mut damaged = tables.clone();
+    match random.below(4) {
+        0 => damaged.lists.accepted = random.within(2, 255) as u8,
+        1 => damaged.lists.contexts = 0,
+        2 => damaged.words[0] = 254,
+        _ => damaged.lists.used = (damaged.words.len() / ROW_WORDS) as u16 + 1,
+    }
+    for call in &every_call()[1..] {
+        met.refused(&damaged, call, 30);
+    }
+}
+
+fn proposing(tables: &Tables, random: &mut Random, met: &mut Met) {
+    let letters = tables.lists.letters;
+    let counts = &tables.lists.counts[..letters as usize];
+    closed(tables, met, &[Call::Answer(0), Call::Answer(9)]);
+    met.refused(tables, &offer(&[], 9), 11);
+    let long = random.pick(&[1_025, 1_026, 5_000]);
+    met.refused(tables, &offer(&vec![letters; *long], 9), 12);
+    met.refused(tables, &offer(&[letters], 9), 13);
+    if let Some(inner) = counts.iter().position(|&count| count > 0) {
+        met.refused(tables, &offer(&[inner as u8, letters], 9), 14);
+    }
+    if let Some(leaf) = counts.iter().position(|&count| count == 0) {
+        let leaf = leaf as u8;
+        met.refused(tables, &offer(&[leaf, 255], 9), 13);
+        met.refused(tables, &offer(&[leaf, leaf], 9), 15);
+        met.refused(tables, &offer(&vec![leaf; 1_024], 9), 15);
+        met.refused(tables, &offer(&[leaf], 2), 16);
+        let verdict = proposal(tables).accepts(&[leaf]) as u8;
+        met.refused(tables, &offer(&[leaf], verdict), 32);
+    }
+    stored(tables, random, met);
+}
+
+/// 33: a stored record, with a mark that neither its answer nor the verdict has.
+fn stored(tables: &Tables, random: &mut Random, met: &mut Met) {
+    let used = tables.lists.used as usize;
+    let row = random.within(1, used.max(2) - 1);
+    let answer = tables.words.get(row * ROW_WORDS + 1).copied();
+    if row >= used || !matches!(answer, Some(1 | 2)) {
+        return;
+    }
+    let Some(symbols) = written(tables, row as u16) else {
+        return;
+    };
+    let right = answer == Some(2);
+    if proposal(tables).accepts(&symbols) == right {
+        met.refused(tables, &offer(&symbols, !right as u8), 33);
+    }
+}
