@@ -6,6 +6,7 @@ mod damage;
 mod deep;
 mod designed;
 mod elsewhere;
+mod emitted;
 mod fresh;
 mod refusals;
 mod shortages;
