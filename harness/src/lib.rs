@@ -7,6 +7,7 @@ pub mod crowded;
 pub mod difference;
 pub mod hashed;
 pub mod kuldveth;
+pub mod learning;
 pub mod lent;
 pub mod listing;
 pub mod plain;

@@ -60,7 +60,7 @@ fn add_row(
     ensures { λ r. ⌜ Put (now (words .entry)) used (now (holes .entry)) (now (head .entry)) (now (next .entry)) (now (mix .entry)) symbol places hole r (now (words .exit)) (now (holes .exit)) (now (head .exit)) (now (next .exit)) ⌝ }
 {
     let n = used as usize;
-    if words.len() < 6 * n + 6 {
+    if words.len() < rows::WIDTH * n + rows::WIDTH {
         return Grown::Full;
     }
     rows::write_row(words, Row(used), symbol, places);

@@ -279,7 +279,7 @@ pub fn t1(
     if used == 0 {
         return false;
     }
-    if words.len() < 6 * used as usize {
+    if words.len() < rows::WIDTH * used as usize {
         return false;
     }
     if !is_hole(words) {

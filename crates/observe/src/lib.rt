@@ -1,6 +1,7 @@
 // Looking (§3.3), and the soundness test with which every call begins (§2.3), on any words and any lists.
 ghost use mathlib.Core.Path.{_≡_};
 ghost use Rattle.model.specs.Entry.{listsFit, sizeFits, refused};
+use bank::rows;
 use model::Lists;
 use model::Seen;
 
@@ -11,10 +12,10 @@ pub fn size_fits(words: &[u32]) -> bool
     ensures { λ r. ⌜ r ≡ sizeFits (now (words .entry)) ⌝ }
 {
     let n = words.len();
-    if n % 6 != 0 {
+    if n % rows::WIDTH != 0 {
         return false;
     }
-    if n < 6 {
+    if n < rows::WIDTH {
         return false;
     }
     n <= 98304

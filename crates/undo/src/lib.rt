@@ -4,13 +4,14 @@ ghost use mathlib.Core.Path.{_≡_};
 ghost use Prim.Native.Nat.{_*_, _≤_};
 ghost use lib.ListN.{length};
 ghost use Rattle.undo.specs.Saved.{Saved, PutBack};
+use bank::rows;
 
 // Saves the rows from `used` on.
 pub fn save(words: &[u32], used: u16, saved: &mut [u32; 98304])
     requires { ⌜ (length (now words) ≤ 98304) × (length (now saved) ≡ 98304) ⌝ }
     ensures { λ _. ⌜ Saved (now (words .entry)) used (now (saved .exit)) ⌝ }
 {
-    let mut i = 6 * used as usize;
+    let mut i = rows::WIDTH * used as usize;
     while i < words.len() {
         saved[i] = words[i];
         i += 1;
@@ -22,7 +23,7 @@ pub fn restore(words: &mut [u32], used: u16, saved: &[u32; 98304])
     requires { ⌜ (length (now words) ≤ 98304) × (6 * used ≤ length (now words)) × (length (now saved) ≡ 98304) ⌝ }
     ensures { λ _. ⌜ PutBack (now (words .entry)) used (now (saved .entry)) (now (words .exit)) ⌝ }
 {
-    let mut at = 6 * used as usize;
+    let mut at = rows::WIDTH * used as usize;
     while at < words.len() {
         words[at] = saved[at];
         at += 1;

@@ -2,12 +2,11 @@
 //! docs/BENCHMARKS.md says what the lines mean.
 
 use harness::calls::{call, oracle_call};
-use harness::targets;
-use harness::teaching::{started, truthful};
+use harness::learning::learning;
+use harness::teaching::started;
 use oracle::limits::ROWS_MAX;
 use oracle::testing::big;
 use oracle::testing::compare::{Call, Tables};
-use oracle::testing::random::Random;
 use oracle::{Lists, Seen};
 use std::time::{Duration, Instant};
 
@@ -46,32 +45,9 @@ fn least(runs: usize, tables: &Tables, made: &[Call]) -> (Duration, Duration) {
     least
 }
 
-/// The calls of a truthful run to its acceptance, over as many rows as the host lends.
-fn learning(seed: u64, states: usize, rows: usize) -> Option<(Tables, Vec<Call>, Tables)> {
-    let random = &mut Random::new(seed);
-    let target = targets::random(random, states, 6, 4 * states);
-    let begin = started(target.counts(), rows);
-    let (mut tables, mut made) = (begin.clone(), Vec::new());
-    while tables.lists.accepted == 0 {
-        let next = truthful(&target, &tables);
-        let seen = oracle_call(&mut tables.words, &mut tables.lists, &next);
-        if seen.number != 0 {
-            return None;
-        }
-        made.push(next);
-    }
-    Some((begin, made, tables))
-}
-
 /// A run that learns so many states, at the first seed that has one.
 fn run_line(states: usize, rows: usize) {
-    let found = (1..).find_map(|seed| {
-        let found = learning(seed, states, rows)?;
-        (found.2.lists.states as usize == states).then_some(found)
-    });
-    let Some((begin, made, left)) = found else {
-        return;
-    };
+    let (begin, made, left) = learning(states, rows);
     let (library, oracle) = least(5, &begin, &made);
     let lists = &left.lists;
     let name = format!(
