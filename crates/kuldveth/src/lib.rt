@@ -13,9 +13,9 @@ pub extern "C" fn kuldveth_start(words: &mut [u32], lists: &mut Lists, counts: &
     ensures words { λ r. ⌜ now (words .exit) ≡ startWords (now (words .entry)) (now (counts .entry)) ⌝ }
     ensures lists { λ r. ⌜ now (lists .exit) ≡ startLists (now (words .entry)) (now (counts .entry)) (now (lists .entry)) ⌝ }
 {
-    let done = learner::start::start(words, *lists, counts);
-    *lists = done.lists;
-    done.seen
+    let started = learner::start::start(words, *lists, counts);
+    *lists = started.lists;
+    started.seen
 }
 
 // An offer of a record, children before parent, with the archive's mark (§3.4).
@@ -30,9 +30,9 @@ pub extern "C" fn kuldveth_offer(
     ensures words { λ r. ⌜ now (words .exit) ≡ callWords (now (words .entry)) (now (lists .entry)) (offers (now (symbols .entry)) mark) ⌝ }
     ensures lists { λ r. ⌜ now (lists .exit) ≡ callLists (now (words .entry)) (now (lists .entry)) (offers (now (symbols .entry)) mark) ⌝ }
 {
-    let done = learner::offer::offer(words, *lists, symbols, mark);
-    *lists = done.lists;
-    done.seen
+    let offered = learner::offer::offer(words, *lists, symbols, mark);
+    *lists = offered.lists;
+    offered.seen
 }
 
 // An answer to the open question (§3.5).
@@ -42,9 +42,9 @@ pub extern "C" fn kuldveth_answer(words: &mut [u32], lists: &mut Lists, mark: u8
     ensures words { λ r. ⌜ now (words .exit) ≡ callWords (now (words .entry)) (now (lists .entry)) (answers mark) ⌝ }
     ensures lists { λ r. ⌜ now (lists .exit) ≡ callLists (now (words .entry)) (now (lists .entry)) (answers mark) ⌝ }
 {
-    let done = learner::calls::answer(words, *lists, mark);
-    *lists = done.lists;
-    done.seen
+    let answered = learner::calls::answer(words, *lists, mark);
+    *lists = answered.lists;
+    answered.seen
 }
 
 // Acceptance of the proposal (§3.6).
@@ -54,9 +54,9 @@ pub extern "C" fn kuldveth_accept(words: &mut [u32], lists: &mut Lists) -> Seen
     ensures words { λ r. ⌜ now (words .exit) ≡ callWords (now (words .entry)) (now (lists .entry)) acceptCall ⌝ }
     ensures lists { λ r. ⌜ now (lists .exit) ≡ callLists (now (words .entry)) (now (lists .entry)) acceptCall ⌝ }
 {
-    let done = learner::calls::accept(words, *lists);
-    *lists = done.lists;
-    done.seen
+    let accepted = learner::calls::accept(words, *lists);
+    *lists = accepted.lists;
+    accepted.seen
 }
 
 // Looking (§3.3): changes nothing.
