@@ -19,54 +19,31 @@ use Rattle.settle.proofs.fill_context.Reads as fill-context-reads
 use Rattle.settle.proofs.propose.Reads as propose-reads
 use Rattle.table.proofs.first_unknown.Reads as first-unknown-reads
 
+-- what the calls within ask and teach, in the order of the walk
+abbrev claims : lts.Claims
+claims = (
+  observe-reads.Asked,
+  observe-reads.Learnt,
+  first-unknown-reads.Asked,
+  first-unknown-reads.Learnt,
+  propose-reads.Asked,
+  propose-reads.Learnt,
+  fill-context-reads.Asked,
+  fill-context-reads.Learnt,
+)
+
 -- the function's start; the table worked out and looked through; a gap found; its context filled
 abbrev Start : Type 0
-Start = lts.Start (
-  observe-reads.Asked,
-  observe-reads.Learnt,
-  first-unknown-reads.Asked,
-  first-unknown-reads.Learnt,
-  propose-reads.Asked,
-  propose-reads.Learnt,
-  fill-context-reads.Asked,
-  fill-context-reads.Learnt,
-) reads.Pre reads.Post
+Start = lts.Start claims reads.Pre reads.Post
 
 abbrev Seen : Type 0
-Seen = lts.After-first-unknown (
-  observe-reads.Asked,
-  observe-reads.Learnt,
-  first-unknown-reads.Asked,
-  first-unknown-reads.Learnt,
-  propose-reads.Asked,
-  propose-reads.Learnt,
-  fill-context-reads.Asked,
-  fill-context-reads.Learnt,
-) reads.Pre reads.Post
+Seen = lts.After-first-unknown claims reads.Pre reads.Post
 
 abbrev Open : Type 0
-Open = lts.After-k (
-  observe-reads.Asked,
-  observe-reads.Learnt,
-  first-unknown-reads.Asked,
-  first-unknown-reads.Learnt,
-  propose-reads.Asked,
-  propose-reads.Learnt,
-  fill-context-reads.Asked,
-  fill-context-reads.Learnt,
-) reads.Pre reads.Post
+Open = lts.After-k claims reads.Pre reads.Post
 
 abbrev Filled : Type 0
-Filled = lts.After-fill-context (
-  observe-reads.Asked,
-  observe-reads.Learnt,
-  first-unknown-reads.Asked,
-  first-unknown-reads.Learnt,
-  propose-reads.Asked,
-  propose-reads.Learnt,
-  fill-context-reads.Asked,
-  fill-context-reads.Learnt,
-) reads.Pre reads.Post
+Filled = lts.After-fill-context claims reads.Pre reads.Post
 
 abbrev start : Seen → Start
 start c = c .before .before .before .before .before .before .before .before .before .before

@@ -27,78 +27,37 @@ use Rattle.bank.proofs.listed.record_fault.Reads as record-fault-reads
 use Rattle.bank.proofs.rows.answer_of.Reads as answer-of-reads
 use Rattle.hypothesis.proofs.accepts_list.Reads as accepts-list-reads
 
+-- what the calls within ask and teach, in the order of the walk
+abbrev claims : lts.Claims
+claims = (
+  record-fault-reads.Asked,
+  record-fault-reads.Learnt,
+  accepts-list-reads.Asked,
+  accepts-list-reads.Learnt,
+  known-row-reads.Asked,
+  known-row-reads.Learnt,
+  answer-of-reads.Asked,
+  answer-of-reads.Learnt,
+)
+
 -- the milestones: the start, a list without fault, a mark that fits, the verdict, another than the mark, the answer stored
 abbrev Start : Type 0
-Start = lts.Start (
-  record-fault-reads.Asked,
-  record-fault-reads.Learnt,
-  accepts-list-reads.Asked,
-  accepts-list-reads.Learnt,
-  known-row-reads.Asked,
-  known-row-reads.Learnt,
-  answer-of-reads.Asked,
-  answer-of-reads.Learnt,
-) reads.Pre reads.Post
+Start = lts.Start claims reads.Pre reads.Post
 
 abbrev Faultless : Type 0
-Faultless = lts.Else3 (
-  record-fault-reads.Asked,
-  record-fault-reads.Learnt,
-  accepts-list-reads.Asked,
-  accepts-list-reads.Learnt,
-  known-row-reads.Asked,
-  known-row-reads.Learnt,
-  answer-of-reads.Asked,
-  answer-of-reads.Learnt,
-) reads.Pre reads.Post
+Faultless = lts.Else3 claims reads.Pre reads.Post
 
 abbrev Fitting : Type 0
-Fitting = lts.Else4 (
-  record-fault-reads.Asked,
-  record-fault-reads.Learnt,
-  accepts-list-reads.Asked,
-  accepts-list-reads.Learnt,
-  known-row-reads.Asked,
-  known-row-reads.Learnt,
-  answer-of-reads.Asked,
-  answer-of-reads.Learnt,
-) reads.Pre reads.Post
+Fitting = lts.Else4 claims reads.Pre reads.Post
 
 abbrev Judged : Type 0
-Judged = lts.After-accepts-list (
-  record-fault-reads.Asked,
-  record-fault-reads.Learnt,
-  accepts-list-reads.Asked,
-  accepts-list-reads.Learnt,
-  known-row-reads.Asked,
-  known-row-reads.Learnt,
-  answer-of-reads.Asked,
-  answer-of-reads.Learnt,
-) reads.Pre reads.Post
+Judged = lts.After-accepts-list claims reads.Pre reads.Post
 
 abbrev Differs : Type 0
-Differs = lts.Else5 (
-  record-fault-reads.Asked,
-  record-fault-reads.Learnt,
-  accepts-list-reads.Asked,
-  accepts-list-reads.Learnt,
-  known-row-reads.Asked,
-  known-row-reads.Learnt,
-  answer-of-reads.Asked,
-  answer-of-reads.Learnt,
-) reads.Pre reads.Post
+Differs = lts.Else5 claims reads.Pre reads.Post
 
 abbrev Answered : Type 0
-Answered = lts.After-answer-of (
-  record-fault-reads.Asked,
-  record-fault-reads.Learnt,
-  accepts-list-reads.Asked,
-  accepts-list-reads.Learnt,
-  known-row-reads.Asked,
-  known-row-reads.Learnt,
-  answer-of-reads.Asked,
-  answer-of-reads.Learnt,
-) reads.Pre reads.Post
+Answered = lts.After-answer-of claims reads.Pre reads.Post
 
 abbrev start : Faultless → Start
 start c = c .before .before .before .before .before .before .before .before .before .before .before

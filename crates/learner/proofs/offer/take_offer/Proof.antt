@@ -31,204 +31,56 @@ use Rattle.sound.proofs.told.Reads as told-reads
 use Rattle.undo.proofs.restore.Reads as restore-reads
 use Rattle.undo.proofs.save.Reads as save-reads
 
+-- what the calls within ask and teach, in the order of the walk
+abbrev claims : lts.Claims
+claims = (
+  save-reads.Asked,
+  save-reads.Learnt,
+  store-reads.Asked,
+  store-reads.Learnt,
+  restore-reads.Asked,
+  restore-reads.Learnt,
+  refuse-reads.Asked,
+  refuse-reads.Learnt,
+  answer-of-reads.Asked,
+  answer-of-reads.Learnt,
+  set-answer-reads.Asked,
+  set-answer-reads.Learnt,
+  taken-up-reads.Asked,
+  taken-up-reads.Learnt,
+  advance-reads.Asked,
+  advance-reads.Learnt,
+  told-reads.Asked,
+  told-reads.Learnt,
+)
+
 -- the milestones: the start, what stood behind saved, the record stored, its row, its old answer, its mark set, taken up, the step made, its answer set back
 abbrev Start : Type 0
-Start = lts.Start (
-  save-reads.Asked,
-  save-reads.Learnt,
-  store-reads.Asked,
-  store-reads.Learnt,
-  restore-reads.Asked,
-  restore-reads.Learnt,
-  refuse-reads.Asked,
-  refuse-reads.Learnt,
-  answer-of-reads.Asked,
-  answer-of-reads.Learnt,
-  set-answer-reads.Asked,
-  set-answer-reads.Learnt,
-  taken-up-reads.Asked,
-  taken-up-reads.Learnt,
-  advance-reads.Asked,
-  advance-reads.Learnt,
-  told-reads.Asked,
-  told-reads.Learnt,
-) reads.Pre reads.Post
+Start = lts.Start claims reads.Pre reads.Post
 
 abbrev Saving : Type 0
-Saving = lts.After-save (
-  save-reads.Asked,
-  save-reads.Learnt,
-  store-reads.Asked,
-  store-reads.Learnt,
-  restore-reads.Asked,
-  restore-reads.Learnt,
-  refuse-reads.Asked,
-  refuse-reads.Learnt,
-  answer-of-reads.Asked,
-  answer-of-reads.Learnt,
-  set-answer-reads.Asked,
-  set-answer-reads.Learnt,
-  taken-up-reads.Asked,
-  taken-up-reads.Learnt,
-  advance-reads.Asked,
-  advance-reads.Learnt,
-  told-reads.Asked,
-  told-reads.Learnt,
-) reads.Pre reads.Post
+Saving = lts.After-save claims reads.Pre reads.Post
 
 abbrev Reading : Type 0
-Reading = lts.After-answer-of (
-  save-reads.Asked,
-  save-reads.Learnt,
-  store-reads.Asked,
-  store-reads.Learnt,
-  restore-reads.Asked,
-  restore-reads.Learnt,
-  refuse-reads.Asked,
-  refuse-reads.Learnt,
-  answer-of-reads.Asked,
-  answer-of-reads.Learnt,
-  set-answer-reads.Asked,
-  set-answer-reads.Learnt,
-  taken-up-reads.Asked,
-  taken-up-reads.Learnt,
-  advance-reads.Asked,
-  advance-reads.Learnt,
-  told-reads.Asked,
-  told-reads.Learnt,
-) reads.Pre reads.Post
+Reading = lts.After-answer-of claims reads.Pre reads.Post
 
 abbrev Reset : Type 0
-Reset = lts.After-set-answer2 (
-  save-reads.Asked,
-  save-reads.Learnt,
-  store-reads.Asked,
-  store-reads.Learnt,
-  restore-reads.Asked,
-  restore-reads.Learnt,
-  refuse-reads.Asked,
-  refuse-reads.Learnt,
-  answer-of-reads.Asked,
-  answer-of-reads.Learnt,
-  set-answer-reads.Asked,
-  set-answer-reads.Learnt,
-  taken-up-reads.Asked,
-  taken-up-reads.Learnt,
-  advance-reads.Asked,
-  advance-reads.Learnt,
-  told-reads.Asked,
-  told-reads.Learnt,
-) reads.Pre reads.Post
+Reset = lts.After-set-answer2 claims reads.Pre reads.Post
 
 abbrev Stored : Type 0
-Stored = lts.After-store (
-  save-reads.Asked,
-  save-reads.Learnt,
-  store-reads.Asked,
-  store-reads.Learnt,
-  restore-reads.Asked,
-  restore-reads.Learnt,
-  refuse-reads.Asked,
-  refuse-reads.Learnt,
-  answer-of-reads.Asked,
-  answer-of-reads.Learnt,
-  set-answer-reads.Asked,
-  set-answer-reads.Learnt,
-  taken-up-reads.Asked,
-  taken-up-reads.Learnt,
-  advance-reads.Asked,
-  advance-reads.Learnt,
-  told-reads.Asked,
-  told-reads.Learnt,
-) reads.Pre reads.Post
+Stored = lts.After-store claims reads.Pre reads.Post
 
 abbrev AtRow : Type 0
-AtRow = lts.After-row (
-  save-reads.Asked,
-  save-reads.Learnt,
-  store-reads.Asked,
-  store-reads.Learnt,
-  restore-reads.Asked,
-  restore-reads.Learnt,
-  refuse-reads.Asked,
-  refuse-reads.Learnt,
-  answer-of-reads.Asked,
-  answer-of-reads.Learnt,
-  set-answer-reads.Asked,
-  set-answer-reads.Learnt,
-  taken-up-reads.Asked,
-  taken-up-reads.Learnt,
-  advance-reads.Asked,
-  advance-reads.Learnt,
-  told-reads.Asked,
-  told-reads.Learnt,
-) reads.Pre reads.Post
+AtRow = lts.After-row claims reads.Pre reads.Post
 
 abbrev Marked : Type 0
-Marked = lts.After-set-answer (
-  save-reads.Asked,
-  save-reads.Learnt,
-  store-reads.Asked,
-  store-reads.Learnt,
-  restore-reads.Asked,
-  restore-reads.Learnt,
-  refuse-reads.Asked,
-  refuse-reads.Learnt,
-  answer-of-reads.Asked,
-  answer-of-reads.Learnt,
-  set-answer-reads.Asked,
-  set-answer-reads.Learnt,
-  taken-up-reads.Asked,
-  taken-up-reads.Learnt,
-  advance-reads.Asked,
-  advance-reads.Learnt,
-  told-reads.Asked,
-  told-reads.Learnt,
-) reads.Pre reads.Post
+Marked = lts.After-set-answer claims reads.Pre reads.Post
 
 abbrev Taken : Type 0
-Taken = lts.After-taken-up (
-  save-reads.Asked,
-  save-reads.Learnt,
-  store-reads.Asked,
-  store-reads.Learnt,
-  restore-reads.Asked,
-  restore-reads.Learnt,
-  refuse-reads.Asked,
-  refuse-reads.Learnt,
-  answer-of-reads.Asked,
-  answer-of-reads.Learnt,
-  set-answer-reads.Asked,
-  set-answer-reads.Learnt,
-  taken-up-reads.Asked,
-  taken-up-reads.Learnt,
-  advance-reads.Asked,
-  advance-reads.Learnt,
-  told-reads.Asked,
-  told-reads.Learnt,
-) reads.Pre reads.Post
+Taken = lts.After-taken-up claims reads.Pre reads.Post
 
 abbrev Advanced : Type 0
-Advanced = lts.After-advance (
-  save-reads.Asked,
-  save-reads.Learnt,
-  store-reads.Asked,
-  store-reads.Learnt,
-  restore-reads.Asked,
-  restore-reads.Learnt,
-  refuse-reads.Asked,
-  refuse-reads.Learnt,
-  answer-of-reads.Asked,
-  answer-of-reads.Learnt,
-  set-answer-reads.Asked,
-  set-answer-reads.Learnt,
-  taken-up-reads.Asked,
-  taken-up-reads.Learnt,
-  advance-reads.Asked,
-  advance-reads.Learnt,
-  told-reads.Asked,
-  told-reads.Learnt,
-) reads.Pre reads.Post
+Advanced = lts.After-advance claims reads.Pre reads.Post
 
 given : (s : Start) →
     Given (s .args .words .now) (s .args .lists) (s .args .symbols .now) (s .args .mark) (s .args .holes .now) (s .args .head .now) (s .args .next .now) (s .args .mix .now) (s .args .table .now)

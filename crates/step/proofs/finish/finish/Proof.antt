@@ -20,30 +20,25 @@ use Rattle.step.proofs.finish.proposing.Reads as proposing-reads
 use Rattle.step.proofs.finish.short.Reads as short-reads
 use Rattle.settle.proofs.settle.Reads as settle-reads
 
+-- what the calls within ask and teach, in the order of the walk
+abbrev claims : lts.Claims
+claims = (
+  settle-reads.Asked,
+  settle-reads.Learnt,
+  short-reads.Asked,
+  short-reads.Learnt,
+  asking-reads.Asked,
+  asking-reads.Learnt,
+  proposing-reads.Asked,
+  proposing-reads.Learnt,
+)
+
 -- the function's start; settled
 abbrev Start : Type 0
-Start = lts.Start (
-  settle-reads.Asked,
-  settle-reads.Learnt,
-  short-reads.Asked,
-  short-reads.Learnt,
-  asking-reads.Asked,
-  asking-reads.Learnt,
-  proposing-reads.Asked,
-  proposing-reads.Learnt,
-) reads.Pre reads.Post
+Start = lts.Start claims reads.Pre reads.Post
 
 abbrev Settled : Type 0
-Settled = lts.After-settle (
-  settle-reads.Asked,
-  settle-reads.Learnt,
-  short-reads.Asked,
-  short-reads.Learnt,
-  asking-reads.Asked,
-  asking-reads.Learnt,
-  proposing-reads.Asked,
-  proposing-reads.Learnt,
-) reads.Pre reads.Post
+Settled = lts.After-settle claims reads.Pre reads.Post
 
 abbrev start : Settled → Start
 start c = c .before .before .before .before .before .before .before .before .before .before .before .before .before .before .before .before .before .before .before

@@ -26,42 +26,28 @@ use Rattle.step.proofs.finish.finish.Reads as finish-reads
 use Rattle.step.proofs.finish.short.Reads as short-reads
 use Rattle.step.proofs.putdown.with_context.Reads as with-context-reads
 
+-- what the calls within ask and teach, in the order of the walk
+abbrev claims : lts.Claims
+claims = (
+  fill-reads.Asked,
+  fill-reads.Learnt,
+  short-reads.Asked,
+  short-reads.Learnt,
+  with-context-reads.Asked,
+  with-context-reads.Learnt,
+  finish-reads.Asked,
+  finish-reads.Learnt,
+)
+
 -- the function's start; the context's rows added; the lists with the context
 abbrev Start : Type 0
-Start = lts.Start (
-  fill-reads.Asked,
-  fill-reads.Learnt,
-  short-reads.Asked,
-  short-reads.Learnt,
-  with-context-reads.Asked,
-  with-context-reads.Learnt,
-  finish-reads.Asked,
-  finish-reads.Learnt,
-) reads.Pre reads.Post
+Start = lts.Start claims reads.Pre reads.Post
 
 abbrev Filled : Type 0
-Filled = lts.After-fill (
-  fill-reads.Asked,
-  fill-reads.Learnt,
-  short-reads.Asked,
-  short-reads.Learnt,
-  with-context-reads.Asked,
-  with-context-reads.Learnt,
-  finish-reads.Asked,
-  finish-reads.Learnt,
-) reads.Pre reads.Post
+Filled = lts.After-fill claims reads.Pre reads.Post
 
 abbrev Entered : Type 0
-Entered = lts.After-with-context (
-  fill-reads.Asked,
-  fill-reads.Learnt,
-  short-reads.Asked,
-  short-reads.Learnt,
-  with-context-reads.Asked,
-  with-context-reads.Learnt,
-  finish-reads.Asked,
-  finish-reads.Learnt,
-) reads.Pre reads.Post
+Entered = lts.After-with-context claims reads.Pre reads.Post
 
 abbrev start : Filled → Start
 start c = c .before .before .before .before .before .before .before .before .before
