@@ -1,0 +1,37 @@
+-- What is promised of records as text (§8.4): read exactly if written, and a round trip. Assumes nothing: these are statements.
+use mathlib.Core.Path.{_≡_}
+use mathlib.Core.Logic.{_≢_}
+use mathlib.Core.List.{List, []}
+use Prim.Native.Nat.{ℕ, _≤_, _<_}
+use lib.ListN.{length, getD}
+use Rattle.model.specs.Limits.{mostChildren}
+use Rattle.model.specs.Base.{Distinct, Each}
+use Rattle.model.specs.Store.{Store, used}
+use Rattle.model.specs.Terms.{Tree, treeOf, treeAt}
+use Rattle.model.specs.Facts.{Good, IsRecord}
+use mathlib.Core.Bool.{true}
+use Rattle.text.specs.Bytes.{isLetter}
+use Rattle.text.specs.Written.{textOf, rowText, symbolsOf, Over}
+use Rattle.text.specs.Reading.{readText}
+
+-- letters and counts as a first line gives them
+pub record Lettered (letters counts : List ℕ) : Type 0 where
+  pub paired : length letters ≡ length counts
+  pub distinct : Distinct letters
+  pub letter : Each (λ (b : ℕ). isLetter b ≡ true) letters
+  pub few : (symbol : ℕ) → getD counts symbol 0 ≤ mostChildren
+
+-- A TEXT IS READ EXACTLY IF it is the written form of a record over the alphabet; what is read are its symbols, children before parent
+pub record ReadExactly : Type 0 where
+  pub written-is-read : (letters counts : List ℕ) → Lettered letters counts → (t : Tree) → Over counts t →
+      readText letters counts (textOf letters t) ≡ symbolsOf t
+  pub read-is-written : (letters counts text : List ℕ) → Lettered letters counts → readText letters counts text ≢ [] →
+      (t : Tree) × Over counts t × (text ≡ textOf letters t) × (readText letters counts text ≡ symbolsOf t)
+
+-- WHAT IS PRINTED, read again, is the record
+pub record RoundTrip : Type 0 where
+  pub printed : (letters : List ℕ) (x : Store) → Good x → (row : ℕ) → row < used x → rowText letters x row ≡ textOf letters (treeAt x row)
+  pub over : (x : Store) → Good x → (row : ℕ) → IsRecord x row → Over (x .counts) (treeAt x row)
+  pub listed : (counts : List ℕ) (t : Tree) → Over counts t → treeOf counts (symbolsOf t) ≡ t
+  pub back : (letters : List ℕ) (x : Store) → Good x → Lettered letters (x .counts) → (row : ℕ) → IsRecord x row →
+      treeOf (x .counts) (readText letters (x .counts) (rowText letters x row)) ≡ treeAt x row

@@ -1,0 +1,77 @@
+-- The script (§8) as a function from a line and what stands between two lines to the reply and what stands after it. Assumes nothing: these are definitions.
+use mathlib.Core.Bool.{Bool, cond}
+use mathlib.Core.List.{List, [], _∷_, _++_}
+use Prim.Native.Nat.{ℕ}
+use lib.Dec.{ltb, eqb}
+use lib.ListN.{length, take, replicate}
+use Rattle.model.specs.Limits.{rowWidth, mostSymbols}
+use Rattle.model.specs.Base.{over}
+use Rattle.model.specs.Table.{Tables}
+use Rattle.model.specs.Calls.{Call, numberOf}
+use Rattle.model.specs.Entry.{tablesOf, zeroLists, startSeen, startWords, startLists, startNumber, callSeen, callWords, callLists}
+use Rattle.model.specs.declared.Lists.{Lists}
+use Rattle.text.specs.Bytes.{newline, mostInput, replyRoom}
+use Rattle.text.specs.Alphabet.{Alphabet, noAlphabet, alphabet, alphabetOf}
+use Rattle.text.specs.Lines.{Line, unreadLine, calls, lineOf, unreadText, seenText}
+use Rattle.text.specs.declared.Script.{Script}
+
+-- WHAT A LINE GETS: the output line, [] for none, and what stands after it
+pub record Reply : Type 0 where
+  pub text : List ℕ
+  pub words : List ℕ
+  pub script : Script
+
+abbrev pub reply : (text words : List ℕ) → Script → Reply
+reply t ws z = record { text = t; words = ws; script = z }
+
+abbrev pub script : (stage : ℕ) → (letters : List ℕ) → Lists → Script
+script k ls l = record { stage = k; letters = ls; lists = l }
+
+-- the letters and counts of the symbols
+abbrev pub lettersOf : Script → List ℕ
+lettersOf z = take (z .lists .letters) (z .letters)
+
+abbrev pub countsOf : Script → List ℕ
+countsOf z = take (z .lists .letters) (z .lists .counts)
+
+-- THE FIRST LINE (§8.2): unread or refused, it ends the script
+abbrev pub opened : (words : List ℕ) → Script → Alphabet → Reply
+opened ws z noAlphabet = reply unreadText ws (script 2 (z .letters) (z .lists))
+opened ws z (alphabet ls ns) =
+    reply (seenText ls (tablesOf (startWords ws ns) (startLists ws ns (z .lists)) .store) (startSeen ws ns)) (startWords ws ns)
+    (cond (eqb (startNumber ws ns) 0) (script 1 (over ls (z .letters)) (startLists ws ns (z .lists))) (script 2 (z .letters) (z .lists)))
+
+-- A LATER LINE (§8.3): unread, it is no call
+abbrev pub heard : (words : List ℕ) → Script → Line → Reply
+heard ws z unreadLine = reply unreadText ws z
+heard ws z (calls k) =
+    reply (seenText (lettersOf z) (tablesOf (callWords ws (z .lists) k) (callLists ws (z .lists) k) .store) (callSeen ws (z .lists) k))
+    (callWords ws (z .lists) k) (script (z .stage) (z .letters) (callLists ws (z .lists) k))
+
+-- ANY LINE: nothing is said and nothing changes once the script has ended, nor where a reply may not fit
+abbrev pub repliedTo : (words : List ℕ) → Script → (line : List ℕ) → Reply
+repliedTo ws z bs =
+    cond (eqb (z .stage) 0) (opened ws z (alphabetOf bs))
+    (cond (eqb (z .stage) 1) (heard ws z (lineOf (lettersOf z) (countsOf z) bs)) (reply [] ws z))
+
+abbrev pub replyTo : (words : List ℕ) → Script → (line : List ℕ) → (room : ℕ) → Reply
+replyTo ws z bs r = cond (ltb r replyRoom) (reply [] ws z) (repliedTo ws z bs)
+
+-- THE WHOLE SCRIPT (§8.1): the lines of the first 65,536 bytes, one after the other, over 2,730 rows
+unfoldable pub linesFrom : (line bytes : List ℕ) → List (List ℕ)
+linesFrom [] [] = []
+linesFrom (b ∷ line) [] = (b ∷ line) ∷ []
+linesFrom line (b ∷ bs) = cond (eqb b newline) (line ∷ linesFrom [] bs) (linesFrom (line ++ (b ∷ [])) bs)
+
+unfoldable pub repliesTo : (words : List ℕ) → Script → (lines : List (List ℕ)) → List ℕ
+repliesTo ws z [] = []
+repliesTo ws z (l ∷ ls) = repliedTo ws z l .text ++ repliesTo (repliedTo ws z l .words) (repliedTo ws z l .script) ls
+
+abbrev pub scriptRows : ℕ
+scriptRows = 2730
+
+abbrev pub freshScript : Script
+freshScript = script 0 (replicate mostSymbols 0) zeroLists
+
+abbrev pub outputOf : (input : List ℕ) → List ℕ
+outputOf bs = repliesTo (replicate 16380 0) freshScript (linesFrom [] (take mostInput bs))
