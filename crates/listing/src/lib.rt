@@ -21,6 +21,7 @@ pub use lookup::target_in;
 use model::State;
 pub use read::load;
 pub use write::list_size;
+pub use write::put_bytes;
 pub use write::write_list;
 
 // How many symbols, states and rules a list has.

@@ -18,7 +18,7 @@ pub(crate) fn width(counts: &[u8], symbol: usize) -> usize
 }
 
 // New bytes over those that stand at a place.
-fn put_bytes(out: &mut [u8], at: usize, new: &[u8]) -> usize
+pub fn put_bytes(out: &mut [u8], at: usize, new: &[u8]) -> usize
     requires { ⌜ at + length (now new) ≤ length (now out) ⌝ }
     ensures { λ r. ⌜ r ≡ at + length (now (new .entry)) ⌝ }
     ensures bytes { λ r. ⌜ now (out .exit) ≡ putAt at (now (new .entry)) (now (out .entry)) ⌝ }

@@ -22,7 +22,13 @@ mostCounted = mostListed + 1
 abbrev pub cut : (size : ℕ) → ℕ
 cut n = cond (leb n mostCounted) n mostCounted
 
--- BEFORE ROW i of n: a good store over the lent words, and the cut sizes of the rows before i
+-- a good store over the lent words
+pub record Stored (words counts : List ℕ) (n : ℕ) : Type 0 where
+  pub good : Good (storeOf words counts n)
+  pub few : n ≤ mostRows
+  pub room : rowWidth * n ≤ length words
+
+-- BEFORE ROW i of n: a good store, and the cut sizes of the rows before i
 pub record Sizing (words counts : List ℕ) (n : ℕ) (sizes : List ℕ) (i : ℕ) : Type 0 where
   pub good : Good (storeOf words counts n)
   pub few : n ≤ mostRows

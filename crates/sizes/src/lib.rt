@@ -2,8 +2,7 @@
 ghost use mathlib.Core.Path.{_≡_};
 ghost use Prim.Native.Nat.{_<_};
 ghost use Rattle.model.specs.Entry.{storeOf};
-ghost use Rattle.bank.specs.Ready.{Ready};
-ghost use Rattle.sizes.specs.Sizes.{sizeOf, cut, Sizing};
+ghost use Rattle.sizes.specs.Sizes.{sizeOf, cut, Stored, Sizing};
 use bank::rows;
 use model::Row;
 
@@ -31,17 +30,8 @@ fn row_size(words: &[u32], counts: &[u8], used: u16, sizes: &[u16; 16384], row: 
 }
 
 // The cut size of a used row, by one pass over the rows up to it.
-pub fn size_of(
-    words: &[u32],
-    counts: &[u8],
-    used: u16,
-    holes: &[u8; 16384],
-    head: &[u16; 16384],
-    next: &[u16; 16384],
-    mix: &[u32; 5],
-    row: Row,
-) -> u16
-    requires { ⌜ Ready (now words) (now counts) used (now holes) (now head) (now next) (now mix) × (row .0 < used) ⌝ }
+pub fn size_of(words: &[u32], counts: &[u8], used: u16, row: Row) -> u16
+    requires { ⌜ Stored (now words) (now counts) used × (row .0 < used) ⌝ }
     ensures { λ r. ⌜ r ≡ cut (sizeOf (storeOf (now (words .entry)) (now (counts .entry)) used) (row .0)) ⌝ }
 {
     let mut sizes = [0u16; 16384];

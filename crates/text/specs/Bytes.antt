@@ -1,8 +1,8 @@
 -- The bytes of the script (§8) by name, and numbers in decimal. Assumes nothing: these are definitions.
 use mathlib.Core.Bool.{Bool, _&&_, _||_, cond}
 use mathlib.Core.List.{List, [], _∷_, _++_}
-use Prim.Native.Nat.{ℕ, zero, suc, _+_, _*_, _/_, _%_}
-use lib.Dec.{leb, ltb}
+use Prim.Native.Nat.{ℕ, _+_, _*_, _/_, _%_}
+use lib.Dec.{leb}
 use Rattle.model.specs.Limits.{mostListed}
 use Rattle.model.specs.Base.{isIn}
 
@@ -40,13 +40,12 @@ zeroDigit = 48
 abbrev pub isDigit : (byte : ℕ) → Bool
 isDigit b = isIn zeroDigit 57 b
 
--- DECIMAL, without zeros in front; five digits are enough for every number told
-unfoldable pub decimalFrom : (fuel n : ℕ) → List ℕ
-decimalFrom zero n = []
-decimalFrom (suc k) n = cond (ltb n 10) ((zeroDigit + n) ∷ []) (decimalFrom k (n / 10) ++ ((zeroDigit + n % 10) ∷ []))
+-- DECIMAL, without zeros in front: a digit is written where the number reaches its power of ten. Every number told has at most five
+abbrev pub digitAt : (n power : ℕ) → List ℕ
+digitAt n p = cond (leb p n) ((zeroDigit + n / p % 10) ∷ []) []
 
 abbrev pub decimal : ℕ → List ℕ
-decimal n = decimalFrom 5 n
+decimal n = digitAt n 10000 ++ digitAt n 1000 ++ digitAt n 100 ++ digitAt n 10 ++ ((zeroDigit + n % 10) ∷ [])
 
 -- the words of the output: accepted, ask, propose, refused, row, unread
 abbrev pub acceptedWord : List ℕ

@@ -47,6 +47,9 @@ numbered t n = t ++ (space ∷ decimal n)
 abbrev pub unreadText : List ℕ
 unreadText = ended unreadWord
 
+abbrev pub acceptedText : List ℕ
+acceptedText = ended acceptedWord
+
 abbrev pub refusedText : (number : ℕ) → List ℕ
 refusedText n = ended (numbered refusedWord n)
 
@@ -64,5 +67,5 @@ askText ls x i = ended (askWord ++ (space ∷ questionText ls x i))
 abbrev pub seenText : (letters : List ℕ) → Store → Seen → List ℕ
 seenText ls x v =
     cond (eqb (v .number) 0)
-    (cond (eqb (v .phase) 2) (ended acceptedWord) (cond (eqb (v .phase) 1) (askText ls x (v .row)) (proposeText (v .states) (v .rules) (v .contexts))))
+    (cond (eqb (v .phase) 2) acceptedText (cond (eqb (v .phase) 1) (askText ls x (v .row)) (proposeText (v .states) (v .rules) (v .contexts))))
     (refusedText (v .number))

@@ -6,10 +6,9 @@ use lib.Dec.{ltb, eqb}
 use lib.ListN.{length, take, replicate}
 use Rattle.model.specs.Limits.{rowWidth, mostSymbols}
 use Rattle.model.specs.Base.{over}
-use Rattle.model.specs.Table.{Tables}
-use Rattle.model.specs.Calls.{Call, numberOf}
 use Rattle.model.specs.Entry.{tablesOf, zeroLists, startSeen, startWords, startLists, startNumber, callSeen, callWords, callLists}
 use Rattle.model.specs.declared.Lists.{Lists}
+use Rattle.model.specs.declared.Seen.{Seen}
 use Rattle.text.specs.Bytes.{newline, mostInput, replyRoom}
 use Rattle.text.specs.Alphabet.{Alphabet, noAlphabet, alphabet, alphabetOf}
 use Rattle.text.specs.Lines.{Line, unreadLine, calls, lineOf, unreadText, seenText}
@@ -34,19 +33,23 @@ lettersOf z = take (z .lists .letters) (z .letters)
 abbrev pub countsOf : Script → List ℕ
 countsOf z = take (z .lists .letters) (z .lists .counts)
 
+-- what was seen of a call that left these words and this script
+abbrev pub told : (words : List ℕ) → Script → Seen → Reply
+told ws z v = reply (seenText (lettersOf z) (tablesOf ws (z .lists) .store) v) ws z
+
 -- THE FIRST LINE (§8.2): unread or refused, it ends the script
 abbrev pub opened : (words : List ℕ) → Script → Alphabet → Reply
 opened ws z noAlphabet = reply unreadText ws (script 2 (z .letters) (z .lists))
 opened ws z (alphabet ls ns) =
-    reply (seenText ls (tablesOf (startWords ws ns) (startLists ws ns (z .lists)) .store) (startSeen ws ns)) (startWords ws ns)
-    (cond (eqb (startNumber ws ns) 0) (script 1 (over ls (z .letters)) (startLists ws ns (z .lists))) (script 2 (z .letters) (z .lists)))
+    cond (eqb (startNumber ws ns) 0)
+    (told (startWords ws ns) (script 1 (over ls (z .letters)) (startLists ws ns (z .lists))) (startSeen ws ns))
+    (told ws (script 2 (z .letters) (z .lists)) (startSeen ws ns))
 
 -- A LATER LINE (§8.3): unread, it is no call
 abbrev pub heard : (words : List ℕ) → Script → Line → Reply
 heard ws z unreadLine = reply unreadText ws z
 heard ws z (calls k) =
-    reply (seenText (lettersOf z) (tablesOf (callWords ws (z .lists) k) (callLists ws (z .lists) k) .store) (callSeen ws (z .lists) k))
-    (callWords ws (z .lists) k) (script (z .stage) (z .letters) (callLists ws (z .lists) k))
+    told (callWords ws (z .lists) k) (script (z .stage) (z .letters) (callLists ws (z .lists) k)) (callSeen ws (z .lists) k)
 
 -- ANY LINE: nothing is said and nothing changes once the script has ended, nor where a reply may not fit
 abbrev pub repliedTo : (words : List ℕ) → Script → (line : List ℕ) → Reply

@@ -13,8 +13,7 @@ use Rattle.model.specs.Facts.{Good}
 use Rattle.model.specs.Entry.{storeOf}
 use Rattle.model.proofs.Laws.Fold.{fold-eq, earlier}
 use Rattle.model.proofs.Laws.Rows.{last-cases}
-use Rattle.bank.specs.Ready.{Ready}
-use Rattle.sizes.specs.Sizes.{sizeOf, cut, Sizing}
+use Rattle.sizes.specs.Sizes.{sizeOf, cut, Stored, Sizing}
 
 below-none : {ks : List ℕ} → Below 0 ks → ks ≡ []
 below-none none-below = refl
@@ -27,12 +26,12 @@ hole-size x g =
     ap (λ (ks : List ℕ). suc (sum (map (sizeOf x) ks))) (below-none (earlier x g 0 (g .start)))
 
 -- AT ROW 1
-pub sizing-start : {ws ns : List ℕ} {n : ℕ} {hs he ne m : List ℕ} → Ready ws ns n hs he ne m → (ss : List ℕ) → length ss ≡ mostRows → Sizing ws ns n (set ss 0 1) 1
+pub sizing-start : {ws ns : List ℕ} {n : ℕ} → Stored ws ns n → (ss : List ℕ) → length ss ≡ mostRows → Sizing ws ns n (set ss 0 1) 1
 sizing-start {ws} {ns} {n} r ss l =
     record {
       good = r .good;
-      few = r .finding .few;
-      room = r .finding .room;
+      few = r .few;
+      room = r .room;
       long = length-set ss 0 1 ∙ l;
       sized = hole;
     }

@@ -11,10 +11,10 @@ use Rattle.sizes.proofs.size_of.Statement.{statement}
 use Rattle.sizes.proofs.size_of.Tie as tie
 
 abbrev Inv-loop : tie.InvT-loop
-Inv-loop words counts used holes head next mix sizes₀ last i₀ sizes i = Sizing words counts used sizes i × (1 ≤ i) × (i ≤ last + 1)
+Inv-loop words counts used sizes₀ last i₀ sizes i = Sizing words counts used sizes i × (1 ≤ i) × (i ≤ last + 1)
 
 abbrev μ-loop : tie.MeasureT-loop
-μ-loop words counts used holes head next mix sizes₀ last i₀ sizes i = last + 1 - i
+μ-loop words counts used sizes₀ last i₀ sizes i = last + 1 - i
 
 array-write-sizes : tie.Need-array-write-sizes Inv-loop μ-loop
 array-write-sizes c = search needs
