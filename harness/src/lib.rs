@@ -2,6 +2,7 @@
 //! again by plain means from docs/SPECIFICATION.md, the calls of `crates/kuldveth` beside the oracle.
 
 pub mod calls;
+pub mod cases;
 pub mod colliding;
 pub mod crowded;
 pub mod difference;

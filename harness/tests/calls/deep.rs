@@ -1,12 +1,10 @@
 //! The deepest and fullest tables, on a stack of 4 MB.
 
-use crate::compare::Met;
+use harness::cases;
+use harness::cases::compare::Met;
 use oracle::limits::ROW_WORDS;
 use oracle::testing::big;
 use oracle::testing::compare::{Call, Tables};
-use std::thread;
-
-const STACK: usize = 4 << 20;
 
 /// Makes calls one after the other on tables, in a thread of its own.
 fn on_a_small_stack(mut tables: Tables, calls: Vec<Call>) -> (Tables, Vec<u8>) {
@@ -17,8 +15,7 @@ fn on_a_small_stack(mut tables: Tables, calls: Vec<Call>) -> (Tables, Vec<u8>) {
         let numbers = numbers.collect();
         (tables, numbers)
     };
-    let thread = thread::Builder::new().stack_size(STACK).spawn(run);
-    thread.unwrap().join().unwrap()
+    cases::on_a_small_stack(run).unwrap()
 }
 
 /// The chain in hand is exchanged link by link; one context then tells o[p] from p.

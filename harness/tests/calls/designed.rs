@@ -1,6 +1,6 @@
 //! Runs that come to 32 states and to 256 transitions, and to the refusal of one more.
 
-use crate::compare::Met;
+use harness::cases::compare::Met;
 use harness::difference::difference;
 use harness::targets::{one_chain, parity};
 use harness::teaching::{proposal, started, truthful};

@@ -1,14 +1,12 @@
 //! The calls that change what is lent, against the oracle, one subject a module. Seeds and counts are fixed.
 
 mod colliding;
-mod compare;
 mod damage;
 mod deep;
 mod designed;
 mod elsewhere;
 mod emitted;
 mod fresh;
-mod refusals;
 mod shortages;
 mod sizes;
 mod worked;

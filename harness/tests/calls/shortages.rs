@@ -1,76 +1,11 @@
 //! Rows running out at every place of a run.
 
-use crate::compare::Met;
-use harness::targets::{self, one_chain, parity};
-use harness::teaching::{roaming, started, told, truthful};
-use oracle::limits::ROW_WORDS;
-use oracle::testing::compare::{Call, Tables};
+use harness::cases::compare::Met;
+use harness::cases::shortages::{others, random_run, shortages};
+use harness::targets::{one_chain, parity};
+use harness::teaching::{started, truthful};
+use oracle::testing::compare::Call;
 use oracle::testing::random::Random;
-use oracle::testing::target::Target;
-
-/// The calls of a run over many rows, and the tables that it leaves.
-fn calls(target: &Target, mut teacher: impl FnMut(&Tables) -> Call) -> (Vec<Call>, Tables) {
-    let mut tables = started(target.counts(), 3_000);
-    let (mut made, mut met) = (Vec::new(), Met::default());
-    while tables.lists.accepted == 0 && made.len() < 200 {
-        let call = teacher(&tables);
-        if met.call(&mut tables, &call).number == 0 {
-            made.push(call);
-        }
-        if met.numbers[33] > 200 {
-            break;
-        }
-    }
-    (made, tables)
-}
-
-/// The other calls that the phase allows, and some that it does not.
-fn others(tables: &Tables, met: &mut Met) {
-    let calls = [Call::Answer(0), Call::Answer(1), Call::Answer(2)];
-    calls.iter().for_each(|call| _ = met.try_call(tables, call));
-    met.try_call(tables, &Call::Accept);
-    met.try_call(tables, &Call::Look);
-}
-
-/// The run with every count of rows up to what it needs: it stops with 34 and no other number.
-fn every_count(target: &Target, made: &[Call], whole: &Tables, met: &mut Met) {
-    let needed = whole.lists.used as usize;
-    for rows in 1..=needed {
-        let mut tables = started(target.counts(), rows);
-        let taken = made.iter().take_while(|call| {
-            let number = met.call(&mut tables, call).number;
-            assert!(matches!(number, 0 | 34), "{rows} rows of {needed}");
-            number == 0
-        });
-        assert_eq!(taken.count() == made.len(), rows == needed);
-        others(&tables, met);
-        if rows == needed {
-            assert_eq!(tables.lists, whole.lists);
-            assert_eq!(tables.words, whole.words[..rows * ROW_WORDS]);
-        }
-    }
-}
-
-/// The run with one row lent more whenever they run out.
-fn row_by_row(target: &Target, made: &[Call], whole: &Tables, met: &mut Met) {
-    let mut tables = started(target.counts(), 1);
-    for call in made {
-        while met.call(&mut tables, call).number == 34 {
-            others(&tables, met);
-            tables.words.extend([9; ROW_WORDS]);
-        }
-    }
-    assert_eq!(tables.lists, whole.lists);
-    assert_eq!(tables.words, whole.words[..tables.words.len()]);
-}
-
-fn shortages(target: &Target, met: &mut Met, teacher: impl FnMut(&Tables) -> Call) {
-    let (made, whole) = calls(target, teacher);
-    row_by_row(target, &made, &whole, met);
-    if whole.lists.used < 250 {
-        every_count(target, &made, &whole, met);
-    }
-}
 
 #[test]
 fn designed_runs() {
@@ -85,16 +20,7 @@ fn designed_runs() {
 fn random_runs() {
     let mut met = Met::default();
     for case in 0..120 {
-        let random = &mut Random::case(211, case);
-        let states = random.within(1, 6);
-        let target = targets::random(random, states, 4, 3 * states);
-        match case % 3 {
-            0 => shortages(&target, &mut met, |tables| truthful(&target, tables)),
-            1 => shortages(&target, &mut met, |tables| roaming(&target, tables, random)),
-            _ => shortages(&target, &mut met, |tables| {
-                told(&target, tables, random, 80)
-            }),
-        }
+        random_run(&mut Random::case(211, case), &mut met);
     }
     met.at_least(5_000, [34]);
 }

@@ -1,6 +1,6 @@
 //! Sizes at and past every end: of the words, the symbols, the alphabet; every mark.
 
-use crate::compare::Met;
+use harness::cases::compare::Met;
 use harness::teaching::started;
 use oracle::testing::compare::{Call, Tables};
 use oracle::testing::random::Random;

@@ -1,6 +1,6 @@
 //! The worked runs and boundaries of docs/SPECIFICATION.md, 9: o is symbol 0 with one child, p symbol 1.
 
-use crate::compare::Met;
+use harness::cases::compare::Met;
 use oracle::limits::ROW_WORDS;
 use oracle::testing::compare::{Call, Tables};
 use oracle::{Lists, Seen, ACCEPTED, ASKING, PROPOSING};

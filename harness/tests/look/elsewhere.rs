@@ -1,68 +1,25 @@
 //! Tables from elsewhere: sound ones that no run leaves, and some that are nearly sound.
 
 use crate::compare::Met;
-use harness::strange::{renumbered, shuffled, Strange};
+use harness::cases::elsewhere::{heaped, loose};
+use harness::strange::{renumbered, shuffled};
 use harness::teacher::Taught;
 use oracle::limits::ROWS_MAX;
 use oracle::testing::big;
-use oracle::testing::compare::Tables;
-use oracle::testing::damage::unfolds_small;
-use oracle::testing::elsewhere::Loose;
 use oracle::testing::random::Random;
 use oracle::testing::target::Target;
-
-/// Trees of a run or made up, changed a few times.
-fn loose(random: &mut Random) -> Option<Tables> {
-    let target = Target::random(random);
-    let mut loose = match random.below(4) {
-        0 => Loose::made_up(&target, random),
-        _ => {
-            let calls = random.below(16);
-            let tables = Taught::start(target, 100, 200).proposing(random, calls)?;
-            unfolds_small(&tables).then(|| Loose::of(&tables))?
-        }
-    };
-    match random.below(5) {
-        0 | 1 => {
-            loose.take_in_hand(random);
-            loose.open(random);
-        }
-        2 | 3 => {
-            (0..random.below(3)).for_each(|_| loose.add_context(random));
-            (0..random.below(4)).for_each(|_| loose.forget(random));
-            loose.open(random);
-        }
-        _ => {}
-    }
-    if random.percent(40) {
-        (0..random.within(1, 3)).for_each(|_| loose.change(random));
-    }
-    if random.percent(20) {
-        loose.complete(random);
-    }
-    Some(loose.tables(random))
-}
 
 #[test]
 fn changed_trees() {
     let mut met = Met::default();
     for case in 0..24_000 {
-        if let Some(tables) = loose(&mut Random::case(81, case)) {
-            met.look(&tables);
+        let random = &mut Random::case(81, case);
+        let target = Target::random(random);
+        if let Some(loose) = loose(target, random) {
+            met.look(&loose.tables(random));
         }
     }
     met.at_least(50, 1_000);
-}
-
-/// A proposal, a heap of shared records over it, one of them in hand.
-fn heaped(random: &mut Random, rows: usize) -> Option<Tables> {
-    let calls = random.below(30);
-    let tables = Taught::random(random).proposing(random, calls)?;
-    let mut strange = Strange::of(tables, rows.max(420));
-    let rows = strange.room() - random.below(strange.room().min(40));
-    strange.heap(random, rows);
-    strange.take_in_hand(random);
-    Some(strange.tables)
 }
 
 /// Hands that unfold to thousands of symbols and to more than could be written down.

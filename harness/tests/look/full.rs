@@ -8,9 +8,6 @@ use oracle::testing::big;
 use oracle::testing::compare::Tables;
 use oracle::testing::damage::damage;
 use oracle::testing::random::Random;
-use std::thread;
-
-const STACK: usize = 4 << 20;
 
 fn all() -> [Tables; 12] {
     [
@@ -58,8 +55,7 @@ fn counts() {
 fn on_a_small_stack() {
     for tables in all() {
         let call = move || look(&tables).number;
-        let thread = thread::Builder::new().stack_size(STACK).spawn(call);
-        assert_eq!(thread.unwrap().join().unwrap(), 0);
+        assert_eq!(harness::cases::on_a_small_stack(call).unwrap(), 0);
     }
 }
 

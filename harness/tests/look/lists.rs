@@ -1,18 +1,9 @@
 //! Loading: lists of runs, damaged at every byte, cut and extended, and bytes that are no list.
 
-use harness::kuldveth;
-use harness::teacher::{list, Taught};
+use harness::cases::compare::{load, Met};
+use harness::cases::lists::{every_byte, no_list, proposed, some_bytes};
 use oracle::testing::random::Random;
 use oracle::{Emitted, Lists};
-
-/// What loading tells by both; the bytes stay as they were.
-fn load(bytes: &[u8]) -> Emitted {
-    let before = bytes.to_vec();
-    let loaded = kuldveth::load(bytes);
-    assert_eq!(loaded, oracle::load(&before), "{before:?}");
-    assert_eq!(bytes, before);
-    loaded
-}
 
 /// The list of the worked run (docs/SPECIFICATION.md, 9).
 fn worked() -> Vec<u8> {
@@ -36,33 +27,14 @@ fn the_worked_run() {
     assert_eq!(load(&bytes), Emitted { number: 0, size: 2 });
 }
 
-/// Every byte set to every value; every byte taken out, doubled, and cut after.
-fn damaged(good: &[u8]) {
-    assert_eq!(load(good).number, 0);
-    for place in 0..good.len() {
-        let mut bytes = good.to_vec();
-        for value in 0..=255 {
-            bytes[place] = value;
-            load(&bytes);
-        }
-        load(&good[..place]);
-        load(&[&good[..place], &good[place + 1..]].concat());
-        load(&[&good[..=place], &good[place..]].concat());
-    }
-    for extra in 0..=255 {
-        load(&[good, &[extra]].concat());
-    }
-}
-
 #[test]
 fn every_byte_damaged() {
-    damaged(&worked());
-    let lists = (0..).filter_map(|case| {
-        let random = &mut Random::case(111, case);
-        let bytes = list(&Taught::random(random).proposing(random, 40)?);
-        (60..400).contains(&bytes.len()).then_some(bytes)
-    });
-    lists.take(6).for_each(|bytes| damaged(&bytes));
+    let mut met = Met::default();
+    every_byte(&worked(), &mut met);
+    let lists = (0..).filter_map(|case| proposed(&mut Random::case(111, case)));
+    let lists = lists.filter(|bytes| (60..400).contains(&bytes.len()));
+    lists.take(6).for_each(|bytes| every_byte(&bytes, &mut met));
+    met.listed_at_least(1_000, [0, 21]);
 }
 
 fn block(kind: u16, body: &[u8]) -> Vec<u8> {
@@ -92,18 +64,11 @@ fn limits_of_the_form() {
 
 #[test]
 fn random_bytes() {
-    let mut random = Random::new(112);
+    let (mut met, mut random) = (Met::default(), Random::new(112));
     let good = worked();
     for _ in 0..200_000 {
-        let size = random.below(40);
-        let bytes: Vec<u8> = (0..size).map(|_| random.below(5) as u8).collect();
-        load(&bytes);
-        let mut bytes = good.clone();
-        for _ in 0..random.within(1, 4) {
-            let place = random.below(bytes.len());
-            bytes[place] = random.below(6) as u8;
-        }
-        load(&bytes);
+        no_list(&mut random, &mut met);
+        some_bytes(&good, &mut random, &mut met);
     }
     load(&[]);
     load(&vec![0; 1 << 20]);

@@ -1,8 +1,9 @@
-//! One call by both, and what the calls of a test met.
+//! One call by both, and what the calls of a case met.
 
-use harness::calls::{guarded, oracle_call};
+use crate::calls::{guarded, oracle_call};
+use crate::kuldveth;
 use oracle::testing::compare::{Call, Tables};
-use oracle::{Seen, ACCEPTED, ASKING};
+use oracle::{Emitted, Seen, ACCEPTED, ASKING};
 
 /// What the oracle makes of a call on copies of the tables.
 fn expected(tables: &Tables, call: &Call) -> (Seen, Tables) {
@@ -82,10 +83,48 @@ fn smaller(tables: &Tables, call: &Call) -> Vec<(Tables, Call)> {
     found
 }
 
+/// Room for the longest list.
+pub const LIST_MAX: usize = 4_096;
+
+/// Bytes around the output that no call may write, and what all of them hold before.
+const EDGE: usize = 64;
+const EDGE_BYTE: u8 = 0xA5;
+
+/// Emits by both into so many bytes: the same numbers and bytes, and what was lent stays.
+pub fn emit(tables: &Tables, room: usize) -> (Emitted, Vec<u8>) {
+    let before = tables.clone();
+    let mut found = vec![EDGE_BYTE; room + 2 * EDGE];
+    let mut expected = found.clone();
+    let within = EDGE..EDGE + room;
+    let emitted = kuldveth::emit(&tables.words, &tables.lists, &mut found[within.clone()]);
+    let right = oracle::emit(&before.words, &before.lists, &mut expected[within.clone()]);
+    assert_eq!(
+        emitted, right,
+        "emitting with room for {room} from\n{before:?}"
+    );
+    assert_eq!(
+        found, expected,
+        "emitting with room for {room} from\n{before:?}"
+    );
+    assert!(*tables == before, "emitting changed\n{before:?}");
+    (emitted, found[within].to_vec())
+}
+
+/// Loads by both: the same number and count, and the bytes stay.
+pub fn load(bytes: &[u8]) -> Emitted {
+    let before = bytes.to_vec();
+    let loaded = kuldveth::load(bytes);
+    assert_eq!(loaded, oracle::load(&before), "loading {before:?}");
+    assert_eq!(bytes, before, "loading changed the bytes");
+    loaded
+}
+
 /// How often each number came back, and each sort of tables was left by a taken call.
 #[derive(Debug)]
 pub struct Met {
     pub numbers: [usize; 256],
+    /// The numbers of emitting and loading, which are not among those.
+    pub listed: [usize; 256],
     pub asking: usize,
     pub in_hand: usize,
     pub accepted: usize,
@@ -100,6 +139,7 @@ impl Default for Met {
     fn default() -> Met {
         Met {
             numbers: [0; 256],
+            listed: [0; 256],
             asking: 0,
             in_hand: 0,
             accepted: 0,
@@ -128,6 +168,25 @@ impl Met {
         seen
     }
 
+    /// Emits by both into so many bytes and counts what came of it.
+    pub fn emit(&mut self, tables: &Tables, room: usize) -> (Emitted, Vec<u8>) {
+        let (emitted, out) = emit(tables, room);
+        self.listed[emitted.number as usize] += 1;
+        (emitted, out)
+    }
+
+    /// Loads by both and counts what came of it.
+    pub fn load(&mut self, bytes: &[u8]) -> Emitted {
+        let loaded = load(bytes);
+        self.listed[loaded.number as usize] += 1;
+        loaded
+    }
+
+    /// Calls made.
+    pub fn calls(&self) -> usize {
+        self.numbers.iter().chain(&self.listed).sum()
+    }
+
     /// Makes the call on a copy.
     pub fn try_call(&mut self, tables: &Tables, call: &Call) -> Seen {
         self.call(&mut tables.clone(), call)
@@ -152,12 +211,21 @@ impl Met {
             assert!(self.numbers[number] >= times, "{number}: {self}");
         }
     }
+
+    /// The same of emitting and loading.
+    pub fn listed_at_least(&self, times: usize, numbers: impl IntoIterator<Item = usize>) {
+        for number in numbers {
+            assert!(self.listed[number] >= times, "{number}: {self}");
+        }
+    }
 }
 
 impl std::fmt::Display for Met {
     fn fmt(&self, out: &mut std::fmt::Formatter) -> std::fmt::Result {
-        let numbers = self.numbers.iter().enumerate().filter(|(_, &met)| met > 0);
-        write!(out, "{:?} ", numbers.collect::<Vec<_>>())?;
+        for numbers in [&self.numbers, &self.listed] {
+            let numbers = numbers.iter().enumerate().filter(|(_, &met)| met > 0);
+            write!(out, "{:?} ", numbers.collect::<Vec<_>>())?;
+        }
         let Met {
             asking,
             in_hand,

@@ -1,7 +1,8 @@
 //! Calls that must be refused, each with its number, at any point of a run.
 
-use crate::compare::Met;
-use harness::teaching::{proposal, written};
+use super::compare::Met;
+use super::emitted::try_rooms;
+use crate::teaching::{proposal, written};
 use oracle::limits::ROW_WORDS;
 use oracle::testing::compare::{Call, Tables};
 use oracle::testing::random::Random;
@@ -38,6 +39,7 @@ pub fn try_all(tables: &Tables, random: &mut Random, met: &mut Met) {
             met.refused(tables, &Call::Answer(mark), 16);
         }
     }
+    try_rooms(tables, met);
 }
 
 fn closed(tables: &Tables, met: &mut Met, calls: &[Call]) {
