@@ -1,13 +1,15 @@
-//! Times of whole learning runs and of single calls on full tables, library and oracle in turn.
+//! Times of whole learning runs, of single calls on full tables, and of emitting and loading, library and oracle in turn.
 //! docs/BENCHMARKS.md says what the lines mean.
 
 use harness::calls::{call, oracle_call};
+use harness::crowded::Crowded;
+use harness::kuldveth;
 use harness::learning::learning;
 use harness::teaching::started;
 use oracle::limits::ROWS_MAX;
 use oracle::testing::big;
 use oracle::testing::compare::{Call, Tables};
-use oracle::{Lists, Seen};
+use oracle::{Emitted, Lists, Seen};
 use std::time::{Duration, Instant};
 
 const RUNS: usize = 60;
@@ -101,6 +103,82 @@ fn call_lines() {
     call_line("start", &started, Call::Start(vec![1, 0]));
 }
 
+/// The same offer on tables with 7,000 rows more: any, all of one bucket in the first try, and 60 to a bucket.
+fn collided_lines() {
+    let offered = |name: &str, add: fn(&mut Crowded)| {
+        let mut crowded = Crowded::over(big::spine(4_000));
+        add(&mut crowded);
+        let tables = crowded.strange.tables;
+        let node = tables.lists.letters - 1;
+        call_line(name, &tables, Call::Offer(vec![0, 0, 0, 0, node], 1));
+    };
+    offered("offer on 32, 33, 65; 7,000 rows more", |crowded| {
+        crowded.scatter(7_000);
+    });
+    offered("    in one bucket", |crowded| {
+        crowded.collide(0, 7_000, ROWS_MAX);
+    });
+    offered("    60 to a bucket", |crowded| {
+        crowded.collide(0, 7_000, 60);
+    });
+}
+
+/// One line of calls that return the same by both.
+fn same_line(
+    name: &str,
+    mut library: impl FnMut() -> Emitted,
+    mut oracle: impl FnMut() -> Emitted,
+) {
+    let mut least = (Duration::MAX, Duration::MAX);
+    for _ in 0..RUNS {
+        let begin = Instant::now();
+        let found = library();
+        let middle = Instant::now();
+        let expected = oracle();
+        let end = Instant::now();
+        assert_eq!(found, expected, "library and oracle differ");
+        least = (least.0.min(middle - begin), least.1.min(end - middle));
+    }
+    line(name, least.0, least.1);
+}
+
+fn block(kind: u16, body: &[u8]) -> Vec<u8> {
+    let size = (body.len() as u32).to_le_bytes();
+    [&size[..], &kind.to_le_bytes(), body].concat()
+}
+
+/// 64 symbols, 32 states and 256 rules of four children with distinct left sides.
+fn longest_list() -> Vec<u8> {
+    let mut bytes = [block(1, &[4; 64]), block(2, &[1; 32])].concat();
+    for rule in 0..=255u8 {
+        bytes.extend(block(3, &[0, 0, 0, rule / 32, rule % 32, 0]));
+    }
+    bytes
+}
+
+fn list_lines() {
+    let Tables { words, lists } = big::proposing(66);
+    let (mut found, mut expected) = (vec![0; 4_096], vec![0; 4_096]);
+    same_line(
+        "emitting 32, 256, 67",
+        || kuldveth::emit(&words, &lists, &mut found),
+        || oracle::emit(&words, &lists, &mut expected),
+    );
+    assert!(found == expected, "library and oracle differ");
+    let size = oracle::emit(&words, &lists, &mut expected).size;
+    let mut list = found;
+    list.truncate(size as usize);
+    let load_line = |name: &str, bytes: &[u8], number: u8| {
+        assert_eq!(oracle::load(bytes).number, number);
+        same_line(name, || kuldveth::load(bytes), || oracle::load(bytes));
+    };
+    load_line("loading what it wrote", &list, 0);
+    let longest = longest_list();
+    load_line("loading 256 rules of four children", &longest, 0);
+    let cut = &longest[..longest.len() - 1];
+    load_line("loading the same cut in its last rule, 21", cut, 21);
+}
+
 fn main() {
     println!(
         "{:<50} {:>10} {:>10} {:>8}",
@@ -110,4 +188,6 @@ fn main() {
         run_line(states, ROWS_MAX);
     }
     call_lines();
+    collided_lines();
+    list_lines();
 }
