@@ -1,1 +1,10 @@
 pub mod Worked
+pub mod Steps
+pub mod Known
+pub mod Forwards
+pub mod Balance
+pub mod Readback
+pub mod Stacked
+pub mod Rows
+pub mod FirstLine
+pub mod Promises

@@ -1,6 +1,7 @@
 -- What is promised of records as text (§8.4): read exactly if written, and a round trip. Assumes nothing: these are statements.
 use mathlib.Core.Path.{_≡_}
 use mathlib.Core.Logic.{_≢_}
+use mathlib.Core.Bool.{true}
 use mathlib.Core.List.{List, []}
 use Prim.Native.Nat.{ℕ, _≤_, _<_}
 use lib.ListN.{length, getD}
@@ -8,9 +9,10 @@ use Rattle.model.specs.Limits.{mostChildren}
 use Rattle.model.specs.Base.{Distinct, Each}
 use Rattle.model.specs.Store.{Store, used}
 use Rattle.model.specs.Terms.{Tree, treeOf, treeAt}
+use Rattle.model.specs.Sound.{alphabetFits}
 use Rattle.model.specs.Facts.{Good, IsRecord}
-use mathlib.Core.Bool.{true}
 use Rattle.text.specs.Bytes.{isLetter}
+use Rattle.text.specs.Alphabet.{alphabet, alphabetOf}
 use Rattle.text.specs.Written.{textOf, rowText, symbolsOf, Over}
 use Rattle.text.specs.Reading.{readText}
 
@@ -20,6 +22,10 @@ pub record Lettered (letters counts : List ℕ) : Type 0 where
   pub distinct : Distinct letters
   pub letter : Each (λ (b : ℕ). isLetter b ≡ true) letters
   pub few : (symbol : ℕ) → getD counts symbol 0 ≤ mostChildren
+
+-- A FIRST LINE that start takes gives such letters and counts
+pub record FirstLine : Type 0 where
+  pub lettered : (line letters counts : List ℕ) → alphabetOf line ≡ alphabet letters counts → alphabetFits counts ≡ true → Lettered letters counts
 
 -- A TEXT IS READ EXACTLY IF it is the written form of a record over the alphabet; what is read are its symbols, children before parent
 pub record ReadExactly : Type 0 where
