@@ -1,0 +1,11 @@
+pub mod Reading
+pub mod Runs
+pub mod Telling
+pub mod Printing
+pub mod Printed
+pub mod Seen
+pub mod Opening
+pub mod Asking
+pub mod Left
+pub mod Replying
+pub mod Hearing

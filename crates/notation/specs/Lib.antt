@@ -1,0 +1,3 @@
+pub mod Reads
+pub mod Opens
+pub mod Replies
