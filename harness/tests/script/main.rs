@@ -1,0 +1,8 @@
+//! The script program against the oracle's, one subject a module. Seeds and counts are fixed.
+
+mod compare;
+mod deep;
+mod first;
+mod pieces;
+mod random;
+mod survey;

@@ -1,0 +1,35 @@
+//! Random scripts from seeds.
+
+use crate::compare::Met;
+use harness::scripts;
+use oracle::testing::random::Random;
+
+#[test]
+fn any_lines() {
+    let mut met = Met::default();
+    (0..3_000).for_each(|case| met.script(&scripts::any_lines(&mut Random::case(301, case))));
+    met.show("lines of every sort");
+    met.at_least(5, &["propose", "ask", "ask row", "accepted", "unread"]);
+    met.at_least(
+        10,
+        &["refused 12", "refused 17", "refused 31", "refused 32"],
+    );
+    met.at_least(10, &["refused 33"]);
+}
+
+#[test]
+fn led_runs() {
+    let mut met = Met::default();
+    (0..1_000).for_each(|case| met.script(&scripts::led(&mut Random::case(302, case))));
+    met.show("runs that a teacher leads");
+    met.at_least(100, &["propose", "ask", "accepted", "unread"]);
+    met.at_least(100, &["refused 31"]);
+}
+
+#[test]
+fn loose_bytes() {
+    let mut met = Met::default();
+    (0..2_000).for_each(|case| met.script(&scripts::loose(&mut Random::case(303, case))));
+    met.show("loose bytes");
+    met.at_least(50, &["propose", "accepted", "unread", "refused 31"]);
+}
