@@ -1,4 +1,5 @@
 pub mod Worked
+pub mod Runs
 pub mod Steps
 pub mod Known
 pub mod Forwards

@@ -2,7 +2,7 @@
 use mathlib.Core.Path.{_≡_}
 use mathlib.Core.Logic.{_≢_}
 use mathlib.Core.Bool.{true}
-use mathlib.Core.List.{List, []}
+use mathlib.Core.List.{List, [], _∷_}
 use Prim.Native.Nat.{ℕ, _≤_, _<_}
 use lib.ListN.{length, getD}
 use Rattle.model.specs.Limits.{mostChildren}
@@ -11,10 +11,14 @@ use Rattle.model.specs.Store.{Store, used}
 use Rattle.model.specs.Terms.{Tree, treeOf, treeAt}
 use Rattle.model.specs.Sound.{alphabetFits}
 use Rattle.model.specs.Facts.{Good, IsRecord}
+use Rattle.model.specs.Entry.{startNumber}
+use Rattle.model.specs.Run.{startedRun, after}
 use Rattle.text.specs.Bytes.{isLetter}
 use Rattle.text.specs.Alphabet.{alphabet, alphabetOf}
 use Rattle.text.specs.Written.{textOf, rowText, symbolsOf, Over}
 use Rattle.text.specs.Reading.{readText}
+use Rattle.text.specs.Script.{repliedTo, callsIn, leftAfter}
+use Rattle.text.specs.declared.Script.{Script}
 
 -- letters and counts as a first line gives them
 pub record Lettered (letters counts : List ℕ) : Type 0 where
@@ -41,3 +45,10 @@ pub record RoundTrip : Type 0 where
   pub listed : (counts : List ℕ) (t : Tree) → Over counts t → treeOf counts (symbolsOf t) ≡ t
   pub back : (letters : List ℕ) (x : Store) → Good x → Lettered letters (x .counts) → (row : ℕ) → IsRecord x row →
       treeOf (x .counts) (readText letters (x .counts) (rowText letters x row)) ≡ treeAt x row
+
+-- A SCRIPT IS A RUN from start: a first line that start takes, then the calls of the lines behind it; what is promised of runs holds of scripts
+pub record ScriptIsRun : Type 0 where
+  pub left : (words : List ℕ) (z : Script) (line letters counts : List ℕ) (lines : List (List ℕ)) → z .stage ≡ 0 → alphabetOf line ≡ alphabet letters counts →
+      startNumber words counts ≡ 0 →
+      leftAfter words z (line ∷ lines) ≡
+      after (startedRun words counts (z .lists)) (callsIn (repliedTo words z line .words) (repliedTo words z line .script) lines)

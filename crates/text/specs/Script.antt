@@ -6,7 +6,9 @@ use lib.Dec.{ltb, eqb}
 use lib.ListN.{length, take, replicate}
 use Rattle.model.specs.Limits.{rowWidth, mostSymbols}
 use Rattle.model.specs.Base.{over}
+use Rattle.model.specs.Calls.{Call}
 use Rattle.model.specs.Entry.{tablesOf, zeroLists, startSeen, startWords, startLists, startNumber, callSeen, callWords, callLists}
+use Rattle.model.specs.Run.{Lent}
 use Rattle.model.specs.declared.Lists.{Lists}
 use Rattle.model.specs.declared.Seen.{Seen}
 use Rattle.text.specs.Bytes.{newline, mostInput, replyRoom}
@@ -78,3 +80,19 @@ freshScript = script 0 (replicate mostSymbols 0) zeroLists
 
 abbrev pub outputOf : (input : List ℕ) → List ℕ
 outputOf bs = repliesTo (replicate 16380 0) freshScript (linesFrom [] (take mostInput bs))
+
+-- A SCRIPT AS A RUN: the calls of its later lines in order, of which an unread line makes none, and the tables that lines leave
+abbrev pub callIn : Line → List Call
+callIn unreadLine = []
+callIn (calls k) = k ∷ []
+
+unfoldable pub callsIn : (words : List ℕ) → Script → (lines : List (List ℕ)) → List Call
+callsIn ws z [] = []
+callsIn ws z (l ∷ ls) = callIn (lineOf (lettersOf z) (countsOf z) l) ++ callsIn (repliedTo ws z l .words) (repliedTo ws z l .script) ls
+
+abbrev pub lentOf : (words : List ℕ) → Script → Lent
+lentOf ws z = record { words = ws; lists = z .lists }
+
+unfoldable pub leftAfter : (words : List ℕ) → Script → (lines : List (List ℕ)) → Lent
+leftAfter ws z [] = lentOf ws z
+leftAfter ws z (l ∷ ls) = leftAfter (repliedTo ws z l .words) (repliedTo ws z l .script) ls
