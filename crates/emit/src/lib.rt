@@ -213,11 +213,6 @@ fn emit_within(words: &[u32], lists: Lists, out: &mut [u8]) -> Emitted
     ensures { λ r. ⌜ r ≡ emitSeen (now (words .entry)) lists (now (out .entry)) ⌝ }
     ensures bytes { λ r. ⌜ now (out .exit) ≡ emitOut (now (words .entry)) lists (now (out .entry)) ⌝ }
 {
-    let letters = lists.letters as usize;
-    let counts = lists.counts;
-    let s = lists.s;
-    let t = lists.t;
-    let c = lists.c;
     let mut holes = [0u8; 16384];
     let mut head = [0u16; 16384];
     let mut next = [0u16; 16384];
@@ -225,19 +220,9 @@ fn emit_within(words: &[u32], lists: Lists, out: &mut [u8]) -> Emitted
     let mut table = [0u8; 73984];
     let mut places = [0u16; 32];
     let mut reps = [0u16; 16384];
-    if !sound::is_sound(
+    if !sound::lists_sound(
         words,
-        &counts[..letters],
-        lists.used,
-        &s,
-        lists.states as usize,
-        &t,
-        lists.rules as usize,
-        &c,
-        lists.contexts as usize,
-        lists.hand,
-        lists.asked,
-        lists.accepted,
+        lists,
         &mut holes,
         &mut head,
         &mut next,

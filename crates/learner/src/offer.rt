@@ -160,11 +160,6 @@ fn offer_within(words: &mut [u32], lists: Lists, symbols: &[u8], mark: u8) -> Do
     requires { ⌜ (sizeFits (now words) ≡ true) × (listsFit lists ≡ true) ⌝ }
     ensures { λ r. ⌜ CallAs (now (words .entry)) lists (offers (now (symbols .entry)) mark) r (now (words .exit)) ⌝ }
 {
-    let letters = lists.letters as usize;
-    let counts = lists.counts;
-    let s = lists.s;
-    let t = lists.t;
-    let c = lists.c;
     let mut holes = [0u8; 16384];
     let mut head = [0u16; 16384];
     let mut next = [0u16; 16384];
@@ -172,19 +167,9 @@ fn offer_within(words: &mut [u32], lists: Lists, symbols: &[u8], mark: u8) -> Do
     let mut table = [0u8; 73984];
     let mut places = [0u16; 32];
     let mut reps = [0u16; 16384];
-    if !sound::is_sound(
+    if !sound::lists_sound(
         words,
-        &counts[..letters],
-        lists.used,
-        &s,
-        lists.states as usize,
-        &t,
-        lists.rules as usize,
-        &c,
-        lists.contexts as usize,
-        lists.hand,
-        lists.asked,
-        lists.accepted,
+        lists,
         &mut holes,
         &mut head,
         &mut next,

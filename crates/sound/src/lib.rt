@@ -180,7 +180,7 @@ fn judged(
 }
 
 // T1 to T8; where they hold, what a step works with is ready.
-pub fn is_sound(
+fn is_sound(
     words: &[u32],
     counts: &[u8],
     used: u16,
@@ -248,23 +248,27 @@ pub fn is_sound(
     )
 }
 
-// The soundness test of the lent tables, with room of its own.
-fn lent_sound(words: &[u32], lists: Lists) -> bool
-    requires { ⌜ (sizeFits (now words) ≡ true) × (listsFit lists ≡ true) ⌝ }
+// The same of lists as they are lent.
+pub fn lists_sound(
+    words: &[u32],
+    lists: Lists,
+    holes: &mut [u8; 16384],
+    head: &mut [u16; 16384],
+    next: &mut [u16; 16384],
+    mix: &mut [u32; 5],
+    table: &mut [u8; 73984],
+    places: &mut [u16; 32],
+    reps: &mut [u16; 16384],
+) -> bool
+    requires { ⌜ (sizeFits (now words) ≡ true) × (listsFit lists ≡ true) × Room (now holes) (now head) (now next) (now mix) (now table) (now places) (now reps) ⌝ }
     ensures { λ r. ⌜ r ≡ isSound (tablesOf (now (words .entry)) lists) ⌝ }
+    ensures working { λ r. ⌜ (r ≡ true → Working (now (words .entry)) (take (lists .letters) (lists .counts)) (lists .used) (lists .s) (lists .states) (lists .t) (lists .rules) (lists .c) (lists .contexts) (now (holes .exit)) (now (head .exit)) (now (next .exit)) (now (mix .exit)) (now (table .exit)) (now (places .exit)) (now (reps .exit))) ⌝ }
 {
     let letters = lists.letters as usize;
     let counts = lists.counts;
     let s = lists.s;
     let t = lists.t;
     let c = lists.c;
-    let mut holes = [0u8; 16384];
-    let mut head = [0u16; 16384];
-    let mut next = [0u16; 16384];
-    let mut mix = [0u32; 5];
-    let mut table = [0u8; 73984];
-    let mut places = [0u16; 32];
-    let mut reps = [0u16; 16384];
     is_sound(
         words,
         &counts[..letters],
@@ -278,6 +282,31 @@ fn lent_sound(words: &[u32], lists: Lists) -> bool
         lists.hand,
         lists.asked,
         lists.accepted,
+        holes,
+        head,
+        next,
+        mix,
+        table,
+        places,
+        reps,
+    )
+}
+
+// The same with room of its own.
+fn lent_sound(words: &[u32], lists: Lists) -> bool
+    requires { ⌜ (sizeFits (now words) ≡ true) × (listsFit lists ≡ true) ⌝ }
+    ensures { λ r. ⌜ r ≡ isSound (tablesOf (now (words .entry)) lists) ⌝ }
+{
+    let mut holes = [0u8; 16384];
+    let mut head = [0u16; 16384];
+    let mut next = [0u16; 16384];
+    let mut mix = [0u32; 5];
+    let mut table = [0u8; 73984];
+    let mut places = [0u16; 32];
+    let mut reps = [0u16; 16384];
+    lists_sound(
+        words,
+        lists,
         &mut holes,
         &mut head,
         &mut next,

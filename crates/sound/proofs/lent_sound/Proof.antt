@@ -1,61 +1,15 @@
--- `sound::lent_sound` meets its contract: the lists are within their arrays, so their parts are the tables'.
-use mathlib.Core.Path.{_≡_, refl, sym, ap, subst, _∙_}
-use mathlib.Core.Bool.{Bool, true, false, _&&_, true≢false}
-use native.Mathlib.Omega.{arith}
-use borrow.Author.Tests.{not-true, not-false}
-use borrow.Author.Needs.{needs, length-unmapped}
-use Prim.Native.Nat.{ℕ}
-use lib.ListN.{length}
-use lib.Seq.{length-take-le}
-use Rattle.model.proofs.Laws.Lent.{listsFit-facts}
+-- `sound::lent_sound` meets its contract: each array of its room is as long as it must be.
+use mathlib.Core.Path.{refl}
 use Rattle.sound.proofs.lent_sound.Statement.{statement}
 use Rattle.sound.proofs.lent_sound.Tie as tie
 
-cast-letters : tie.Need-cast-letters
-cast-letters c = search needs
-
-array-share-prefix-counts : tie.Need-array-share-prefix-counts
-array-share-prefix-counts c =
-    let s = c .before .before .before .before .before .before in
-    let e : length (s .args .lists .counts) ≡ 64 = search needs in
-    omega (arith, listsFit-facts (s .args .lists) (s .pre .1) .letters)
-
-slice-aggregate-is-sound : tie.Need-slice-aggregate-is-sound
-slice-aggregate-is-sound c =
-    let s = c .before .before .before .before .before .before .before in
-    let e : length (s .args .lists .counts) ≡ 64 = search needs in
-    sym (length-take-le (s .args .lists .letters) (s .args .lists .counts) (omega (arith, listsFit-facts (s .args .lists) (s .pre .1) .letters)))
-
-cast-is-sound : tie.Need-cast-is-sound
-cast-is-sound c = search needs
-
-cast-is-sound-2 : tie.Need-cast-is-sound-2
-cast-is-sound-2 c = search needs
-
-cast-is-sound-3 : tie.Need-cast-is-sound-3
-cast-is-sound-3 c = search needs
-
-is-sound-requires : tie.Need-is-sound-requires
-is-sound-requires c κs =
-    let s = c .before .before .before .before .before .before .before .before .before .before .before .before .before .before .before .before .before .before .before .before in
-    let f = listsFit-facts (s .args .lists) (s .pre .1) in (
-      s .pre .0,
-      record { s-long = search needs; few-s = f .states; t-long = search needs; few-t = f .rules; c-long = length-unmapped ℕ (s .args .lists .c) 289 (s .good .1 .0 .1 .1 .1 .1 .1 .1 .1 .1 .1 .1 .0 .1 .0 .1); few-c = f .contexts },
-      record { holes-long = refl; head-long = refl; next-long = refl; mix-long = refl; table-long = refl; places-long = refl; reps-long = refl },
-    )
+lists-sound-requires : tie.Need-lists-sound-requires
+lists-sound-requires c κs =
+    let s = c .before .before .before .before .before .before .before .before in
+    (s .pre .0, s .pre .1, record { holes-long = refl; head-long = refl; next-long = refl; mix-long = refl; table-long = refl; places-long = refl; reps-long = refl })
 
 returns : tie.Need-returns
-returns c = search needs
+returns c = c .lists-sound .ensures .0
 
 pub lent-sound-spec : {M : Type 1} → statement M
-lent-sound-spec =
-    tie.close
-    (tie.spec
-    cast-letters
-    array-share-prefix-counts
-    slice-aggregate-is-sound
-    cast-is-sound
-    cast-is-sound-2
-    cast-is-sound-3
-    is-sound-requires
-    returns)
+lent-sound-spec = tie.close (tie.spec lists-sound-requires returns)

@@ -1,56 +1,16 @@
 -- `offer::offer_within` meets its contract: 30 for unsound tables, then the offer's own lines, then the step.
-use mathlib.Core.Path.{_≡_, refl, sym, _∙_}
-use native.Mathlib.Omega.{arith}
+use mathlib.Core.Path.{refl, sym, _∙_}
 use borrow.Author.Tests.{not-true, not-false}
-use borrow.Author.Needs.{needs, length-unmapped}
-use Prim.Native.Nat.{ℕ}
-use lib.ListN.{length}
-use lib.Seq.{length-take-le}
+use borrow.Author.Needs.{needs}
 use Rattle.model.specs.Calls.{offers}
-use Rattle.model.proofs.Laws.Lent.{listsFit-facts}
 use Rattle.learner.proofs.Laws.Called.{called-unsound, called-fault}
 use Rattle.learner.proofs.offer.offer_within.Statement.{statement}
 use Rattle.learner.proofs.offer.offer_within.Tie as tie
 
-cast-letters : tie.Need-cast-letters
-cast-letters c = search needs
-
-array-share-prefix-counts : tie.Need-array-share-prefix-counts
-array-share-prefix-counts c =
-    let s = c .before .before .before .before .before .before .before .before in
-    let e : length (s .args .lists .counts) ≡ 64 = search needs in
-    omega (arith, listsFit-facts (s .args .lists) (s .pre .1) .letters)
-
-slice-aggregate-is-sound : tie.Need-slice-aggregate-is-sound
-slice-aggregate-is-sound c =
-    let s = c .before .before .before .before .before .before .before .before .before in
-    let e : length (s .args .lists .counts) ≡ 64 = search needs in
-    sym (length-take-le (s .args .lists .letters) (s .args .lists .counts) (omega (arith, listsFit-facts (s .args .lists) (s .pre .1) .letters)))
-
-cast-is-sound : tie.Need-cast-is-sound
-cast-is-sound c = search needs
-
-cast-is-sound-2 : tie.Need-cast-is-sound-2
-cast-is-sound-2 c = search needs
-
-cast-is-sound-3 : tie.Need-cast-is-sound-3
-cast-is-sound-3 c = search needs
-
-is-sound-requires : tie.Need-is-sound-requires
-is-sound-requires c κs =
-    let s = c .before .before .before .before .before .before .before .before .before .before .before .before .before .before .before .before .before .before .before .before .before .before in
-    let f = listsFit-facts (s .args .lists) (s .pre .1) in (
-      s .pre .0,
-      record {
-        s-long = search needs;
-        few-s = f .states;
-        t-long = search needs;
-        few-t = f .rules;
-        c-long = length-unmapped ℕ (s .args .lists .c) 289 (s .good .1 .0 .1 .1 .1 .1 .1 .1 .1 .1 .1 .1 .0 .1 .0 .1);
-        few-c = f .contexts;
-      },
-      record { holes-long = refl; head-long = refl; next-long = refl; mix-long = refl; table-long = refl; places-long = refl; reps-long = refl },
-    )
+lists-sound-requires : tie.Need-lists-sound-requires
+lists-sound-requires c κs =
+    let s = c .before .before .before .before .before .before .before .before .before .before in
+    (s .pre .0, s .pre .1, record { holes-long = refl; head-long = refl; next-long = refl; mix-long = refl; table-long = refl; places-long = refl; reps-long = refl })
 
 refuse-requires : tie.Need-refuse-requires
 refuse-requires c κs = search needs
@@ -60,14 +20,14 @@ same-length c = search needs
 
 returns : tie.Need-returns
 returns c =
-    let s = c .before .before .before .before .before .before .before .before .before .before .before .before .before .before .before .before .before .before .before .before .before .before .before .before .before in
+    let s = c .before .before .before .before .before .before .before .before .before .before .before .before .before in
     called-unsound (s .args .words .now) (s .args .lists) (offers (s .args .symbols .now) (s .args .mark)) (c .refuse .result) (s .pre .0) (s .pre .1)
-    (sym (c .before .before .is-sound .ensures .0) ∙ not-true (c .before .before .is-sound .result) (c .before .if1 .taken)) (c .refuse .ensures .0) (c .refuse .ensures .1)
+    (sym (c .before .before .lists-sound .ensures .0) ∙ not-true (c .before .before .lists-sound .result) (c .before .if1 .taken)) (c .refuse .ensures .0) (c .refuse .ensures .1)
 
 fault-of-requires : tie.Need-fault-of-requires
 fault-of-requires c κs =
-    let s = c .before .before .before .before .before .before .before .before .before .before .before .before .before .before .before .before .before .before .before .before .before .before .before .before .before .before .before .before .before .before .before .before in
-    let w = c .before .before .before .before .before .before .before .before .before .is-sound in
+    let s = c .before .before .before .before .before .before .before .before .before .before .before .before .before .before .before .before .before .before .before .before in
+    let w = c .before .before .before .before .before .before .before .before .before .lists-sound in
     let t = not-false (w .result) (c .before .before .before .before .before .before .before .before .if1 .left) in
     (s .pre .0, s .pre .1, sym (w .ensures .0) ∙ t, w .ensures .1 t)
 
@@ -79,15 +39,15 @@ same-length-2 c = search needs
 
 returns-2 : tie.Need-returns-2
 returns-2 c =
-    let s = c .before .before .before .before .before .before .before .before .before .before .before .before .before .before .before .before .before .before .before .before .before .before .before .before .before .before .before .before .before .before .before .before .before .before .before in
-    let w = c .before .before .before .before .before .before .before .before .before .before .before .before .is-sound in
+    let s = c .before .before .before .before .before .before .before .before .before .before .before .before .before .before .before .before .before .before .before .before .before .before .before in
+    let w = c .before .before .before .before .before .before .before .before .before .before .before .before .lists-sound in
     called-fault (s .args .words .now) (s .args .lists) (offers (s .args .symbols .now) (s .args .mark)) (c .refuse2 .result) (s .pre .0) (s .pre .1)
     (sym (w .ensures .0) ∙ not-false (w .result) (c .before .before .before .before .before .before .before .before .before .before .before .if1 .left)) (c .before .before .fault-of .result) (sym (c .before .before .fault-of .ensures)) (c .before .if2 .taken) (c .refuse2 .ensures .0) (c .refuse2 .ensures .1)
 
 take-offer-requires : tie.Need-take-offer-requires
 take-offer-requires c κs =
-    let s = c .before .before .before .before .before .before .before .before .before .before .before .before .before .before .before .before .before .before .before .before .before .before .before .before .before .before .before .before .before .before .before .before .before .before .before .before .before .before .before .before .before .before in
-    let w = c .before .before .before .before .before .before .before .before .before .before .before .before .before .before .before .before .before .before .before .is-sound in
+    let s = c .before .before .before .before .before .before .before .before .before .before .before .before .before .before .before .before .before .before .before .before .before .before .before .before .before .before .before .before .before .before in
+    let w = c .before .before .before .before .before .before .before .before .before .before .before .before .before .before .before .before .before .before .before .lists-sound in
     let t = not-false (w .result) (c .before .before .before .before .before .before .before .before .before .before .before .before .before .before .before .before .before .before .if1 .left) in
     (s .pre .0, s .pre .1, sym (w .ensures .0) ∙ t, sym (c .before .before .before .before .before .before .before .before .before .fault-of .ensures) ∙ c .before .before .before .before .before .before .before .before .if2 .left, w .ensures .1 t)
 
@@ -101,13 +61,7 @@ pub offer-within-spec : {M : Type 1} → statement M
 offer-within-spec =
     tie.close
     (tie.spec
-    cast-letters
-    array-share-prefix-counts
-    slice-aggregate-is-sound
-    cast-is-sound
-    cast-is-sound-2
-    cast-is-sound-3
-    is-sound-requires
+    lists-sound-requires
     refuse-requires
     same-length
     returns
