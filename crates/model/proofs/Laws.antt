@@ -50,6 +50,9 @@ pub mod Answer
 pub mod Step
 pub mod Faults
 pub mod Fresh
+-- another number of rows lent
+pub mod Room
+pub mod Lending
 -- soundness, tested and as facts
 pub mod ReflectLists
 pub mod ReflectRows
@@ -60,6 +63,7 @@ pub mod Lent
 pub mod Taken
 pub mod Took
 pub mod Along
+pub mod LentPart
 -- runs: call after call
 pub mod RunStep
 pub mod AgreeRun
