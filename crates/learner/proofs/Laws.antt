@@ -1,5 +1,6 @@
 -- The laws, in reading order: a file leans on those above it.
 pub mod Called
+pub mod First
 pub mod Started
 pub mod Accepted
 pub mod Answered

@@ -8,7 +8,7 @@ ghost use Rattle.model.specs.Sound.{isSound};
 ghost use Rattle.model.specs.Entry.{sizeFits, listsFit, tablesOf, refused};
 ghost use Rattle.sound.specs.Working.{Working};
 ghost use Rattle.step.specs.Stepping.{countsIn, closed as closedOf, accepting as acceptingOf};
-ghost use Rattle.learner.specs.Calls.{CallAs};
+ghost use Rattle.learner.specs.Calls.{CallAs, FirstDo, FirstAs};
 use bank::rows;
 use model::Lists;
 use model::Row;
@@ -46,6 +46,7 @@ fn take_answer(
     words: &mut [u32],
     lists: Lists,
     mark: u8,
+    saved: &mut [u32],
     holes: &mut [u8; 16384],
     head: &mut [u16; 16384],
     next: &mut [u16; 16384],
@@ -54,18 +55,17 @@ fn take_answer(
     places: &[u16; 32],
     reps: &[u16; 16384],
 ) -> Done
-    requires { ⌜ (sizeFits (now words) ≡ true) × (listsFit lists ≡ true) × (isSound (tablesOf (now words) lists) ≡ true) × (lists .asked ≡ 0 → ⊥) × (mark ≤ 1) × Working (now words) (countsIn lists) (lists .used) (lists .s) (lists .states) (lists .t) (lists .rules) (lists .c) (lists .contexts) (now holes) (now head) (now next) (now mix) (now table) (now places) (now reps) ⌝ }
+    requires { ⌜ (sizeFits (now words) ≡ true) × (listsFit lists ≡ true) × (isSound (tablesOf (now words) lists) ≡ true) × (lists .asked ≡ 0 → ⊥) × (mark ≤ 1) × Working (now words) (countsIn lists) (lists .used) (lists .s) (lists .states) (lists .t) (lists .rules) (lists .c) (lists .contexts) (now holes) (now head) (now next) (now mix) (now table) (now places) (now reps) × (length (now words) ≤ length (now saved)) ⌝ }
     ensures { λ r. ⌜ CallAs (now (words .entry)) lists (answers mark) r (now (words .exit)) ⌝ }
 {
-    let mut saved = [0u32; 98304];
-    undo::save(words, lists.used, &mut saved);
+    undo::save(words, lists.used, saved);
     let asked = Row(lists.asked);
     rows::set_answer(words, asked, mark as u32 + 1);
     let given = closed(lists);
     let stepped = advance::advance(words, given, holes, head, next, mix, table, reps);
     let number = stepped.number;
     if number != 0 {
-        undo::restore(words, lists.used, &saved);
+        undo::restore(words, lists.used, saved);
         rows::set_answer(words, asked, 0);
         return refuse(number, lists);
     }
@@ -76,9 +76,9 @@ fn take_answer(
     }
 }
 
-// An answer to tables of a size that fits, in lists that fit.
-fn answer_within(words: &mut [u32], lists: Lists, mark: u8) -> Done
-    requires { ⌜ (sizeFits (now words) ≡ true) × (listsFit lists ≡ true) ⌝ }
+// An answer to tables of a size that fits, in lists that fit, with room to save the rows in.
+fn answer_within(words: &mut [u32], lists: Lists, mark: u8, saved: &mut [u32]) -> Done
+    requires { ⌜ (sizeFits (now words) ≡ true) × (listsFit lists ≡ true) × (length (now words) ≤ length (now saved)) ⌝ }
     ensures { λ r. ⌜ CallAs (now (words .entry)) lists (answers mark) r (now (words .exit)) ⌝ }
 {
     let mut holes = [0u8; 16384];
@@ -111,6 +111,7 @@ fn answer_within(words: &mut [u32], lists: Lists, mark: u8) -> Done
         words,
         lists,
         mark,
+        saved,
         &mut holes,
         &mut head,
         &mut next,
@@ -119,6 +120,50 @@ fn answer_within(words: &mut [u32], lists: Lists, mark: u8) -> Done
         &places,
         &reps,
     )
+}
+
+// Whether a call is tried on the first 2,048 rows alone: there are more, and half of these are free. To save fewer rows is faster.
+pub fn first_do(words: &[u32], used: u16) -> bool
+    ensures { λ r. ⌜ (r ≡ true → FirstDo (now (words .entry)) used) ⌝ }
+{
+    if words.len() <= 12288 {
+        return false;
+    }
+    used <= 1024
+}
+
+// The same on the first 2,048 rows alone: 34 where they are not enough.
+fn answer_first(words: &mut [u32], lists: Lists, mark: u8) -> Done
+    requires { ⌜ (sizeFits (now words) ≡ true) × (listsFit lists ≡ true) × FirstDo (now words) (lists .used) ⌝ }
+    ensures { λ r. ⌜ FirstAs (now (words .entry)) lists (answers mark) r (now (words .exit)) ⌝ }
+{
+    let mut saved = [0u32; 12288];
+    answer_within(&mut words[..12288], lists, mark, &mut saved)
+}
+
+// The same on all rows.
+fn answer_all(words: &mut [u32], lists: Lists, mark: u8) -> Done
+    requires { ⌜ (sizeFits (now words) ≡ true) × (listsFit lists ≡ true) ⌝ }
+    ensures { λ r. ⌜ CallAs (now (words .entry)) lists (answers mark) r (now (words .exit)) ⌝ }
+{
+    let mut saved = [0u32; 98304];
+    answer_within(words, lists, mark, &mut saved)
+}
+
+// The same on the first rows where they may do, else on all.
+fn answer_lent(words: &mut [u32], lists: Lists, mark: u8) -> Done
+    requires { ⌜ (sizeFits (now words) ≡ true) × (listsFit lists ≡ true) ⌝ }
+    ensures { λ r. ⌜ CallAs (now (words .entry)) lists (answers mark) r (now (words .exit)) ⌝ }
+{
+    if !first_do(words, lists.used) {
+        return answer_all(words, lists, mark);
+    }
+    let done = answer_first(words, lists, mark);
+    let seen = done.seen;
+    if seen.number != 34 {
+        return done;
+    }
+    answer_all(words, lists, mark)
 }
 
 // An answer: 18, 30, 31, 16, then the step.
@@ -131,7 +176,7 @@ pub fn answer(words: &mut [u32], lists: Lists, mark: u8) -> Done
     if !observe::lists_fit(lists) {
         return refuse(30, lists);
     }
-    answer_within(words, lists, mark)
+    answer_lent(words, lists, mark)
 }
 
 // The lists with the run accepted.

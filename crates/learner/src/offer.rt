@@ -1,12 +1,14 @@
 // Offers (§3.4), by value: 18, 30, 31, 11 to 16, 32, 33, then the step; a refusal leaves words and lists as they were.
 ghost use mathlib.Core.Path.{_≡_};
 ghost use mathlib.Core.Bool.{true, false};
+ghost use Prim.Native.Nat.{_≤_};
+ghost use lib.ListN.{length};
 ghost use Rattle.model.specs.Calls.{offers, offerFault};
 ghost use Rattle.model.specs.Sound.{isSound};
 ghost use Rattle.model.specs.Entry.{sizeFits, listsFit, tablesOf};
 ghost use Rattle.sound.specs.Working.{Working};
 ghost use Rattle.step.specs.Stepping.{countsIn, takenUp};
-ghost use Rattle.learner.specs.Calls.{CallAs};
+ghost use Rattle.learner.specs.Calls.{CallAs, FirstDo, FirstAs};
 use crate::calls;
 use crate::calls::Done;
 use bank::add::Grown;
@@ -106,6 +108,7 @@ fn take_offer(
     lists: Lists,
     symbols: &[u8],
     mark: u8,
+    saved: &mut [u32],
     holes: &mut [u8; 16384],
     head: &mut [u16; 16384],
     next: &mut [u16; 16384],
@@ -114,13 +117,12 @@ fn take_offer(
     places: &[u16; 32],
     reps: &[u16; 16384],
 ) -> Done
-    requires { ⌜ (sizeFits (now words) ≡ true) × (listsFit lists ≡ true) × (isSound (tablesOf (now words) lists) ≡ true) × (offerFault (tablesOf (now words) lists) (now symbols) mark ≡ 0) × Working (now words) (countsIn lists) (lists .used) (lists .s) (lists .states) (lists .t) (lists .rules) (lists .c) (lists .contexts) (now holes) (now head) (now next) (now mix) (now table) (now places) (now reps) ⌝ }
+    requires { ⌜ (sizeFits (now words) ≡ true) × (listsFit lists ≡ true) × (isSound (tablesOf (now words) lists) ≡ true) × (offerFault (tablesOf (now words) lists) (now symbols) mark ≡ 0) × Working (now words) (countsIn lists) (lists .used) (lists .s) (lists .states) (lists .t) (lists .rules) (lists .c) (lists .contexts) (now holes) (now head) (now next) (now mix) (now table) (now places) (now reps) × (length (now words) ≤ length (now saved)) ⌝ }
     ensures { λ r. ⌜ CallAs (now (words .entry)) lists (offers (now (symbols .entry)) mark) r (now (words .exit)) ⌝ }
 {
     let letters = lists.letters as usize;
     let counts = lists.counts;
-    let mut saved = [0u32; 98304];
-    undo::save(words, lists.used, &mut saved);
+    undo::save(words, lists.used, saved);
     match listed::store(
         words,
         &counts[..letters],
@@ -132,7 +134,7 @@ fn take_offer(
         symbols,
     ) {
         Grown::Full => {
-            undo::restore(words, lists.used, &saved);
+            undo::restore(words, lists.used, saved);
             calls::refuse(34, lists)
         }
         Grown::At(row, n) => {
@@ -143,7 +145,7 @@ fn take_offer(
             let number = stepped.number;
             if number != 0 {
                 rows::set_answer(words, row, old);
-                undo::restore(words, lists.used, &saved);
+                undo::restore(words, lists.used, saved);
                 return calls::refuse(number, lists);
             }
             let left = stepped.lists;
@@ -155,9 +157,15 @@ fn take_offer(
     }
 }
 
-// An offer to tables of a size that fits, in lists that fit.
-fn offer_within(words: &mut [u32], lists: Lists, symbols: &[u8], mark: u8) -> Done
-    requires { ⌜ (sizeFits (now words) ≡ true) × (listsFit lists ≡ true) ⌝ }
+// An offer to tables of a size that fits, in lists that fit, with room to save the rows in.
+fn offer_within(
+    words: &mut [u32],
+    lists: Lists,
+    symbols: &[u8],
+    mark: u8,
+    saved: &mut [u32],
+) -> Done
+    requires { ⌜ (sizeFits (now words) ≡ true) × (listsFit lists ≡ true) × (length (now words) ≤ length (now saved)) ⌝ }
     ensures { λ r. ⌜ CallAs (now (words .entry)) lists (offers (now (symbols .entry)) mark) r (now (words .exit)) ⌝ }
 {
     let mut holes = [0u8; 16384];
@@ -201,6 +209,7 @@ fn offer_within(words: &mut [u32], lists: Lists, symbols: &[u8], mark: u8) -> Do
         lists,
         symbols,
         mark,
+        saved,
         &mut holes,
         &mut head,
         &mut next,
@@ -209,6 +218,40 @@ fn offer_within(words: &mut [u32], lists: Lists, symbols: &[u8], mark: u8) -> Do
         &places,
         &reps,
     )
+}
+
+// The same on the first 2,048 rows alone: 34 where they are not enough.
+fn offer_first(words: &mut [u32], lists: Lists, symbols: &[u8], mark: u8) -> Done
+    requires { ⌜ (sizeFits (now words) ≡ true) × (listsFit lists ≡ true) × FirstDo (now words) (lists .used) ⌝ }
+    ensures { λ r. ⌜ FirstAs (now (words .entry)) lists (offers (now (symbols .entry)) mark) r (now (words .exit)) ⌝ }
+{
+    let mut saved = [0u32; 12288];
+    offer_within(&mut words[..12288], lists, symbols, mark, &mut saved)
+}
+
+// The same on all rows.
+fn offer_all(words: &mut [u32], lists: Lists, symbols: &[u8], mark: u8) -> Done
+    requires { ⌜ (sizeFits (now words) ≡ true) × (listsFit lists ≡ true) ⌝ }
+    ensures { λ r. ⌜ CallAs (now (words .entry)) lists (offers (now (symbols .entry)) mark) r (now (words .exit)) ⌝ }
+{
+    let mut saved = [0u32; 98304];
+    offer_within(words, lists, symbols, mark, &mut saved)
+}
+
+// The same on the first rows where they may do, else on all.
+fn offer_lent(words: &mut [u32], lists: Lists, symbols: &[u8], mark: u8) -> Done
+    requires { ⌜ (sizeFits (now words) ≡ true) × (listsFit lists ≡ true) ⌝ }
+    ensures { λ r. ⌜ CallAs (now (words .entry)) lists (offers (now (symbols .entry)) mark) r (now (words .exit)) ⌝ }
+{
+    if !calls::first_do(words, lists.used) {
+        return offer_all(words, lists, symbols, mark);
+    }
+    let done = offer_first(words, lists, symbols, mark);
+    let seen = done.seen;
+    if seen.number != 34 {
+        return done;
+    }
+    offer_all(words, lists, symbols, mark)
 }
 
 // An offer: 18, 30, its own lines, then the step.
@@ -221,5 +264,5 @@ pub fn offer(words: &mut [u32], lists: Lists, symbols: &[u8], mark: u8) -> Done
     if !observe::lists_fit(lists) {
         return calls::refuse(30, lists);
     }
-    offer_within(words, lists, symbols, mark)
+    offer_lent(words, lists, symbols, mark)
 }

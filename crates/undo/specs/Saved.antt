@@ -7,7 +7,7 @@ use Rattle.model.specs.Limits.{rowWidth}
 
 -- the words from the n-th row to the i-th word, each at its place
 pub record SavedTo (words : List ℕ) (n i : ℕ) (saved : List ℕ) : Type 0 where
-  pub long : length saved ≡ 98304
+  pub long : length words ≤ length saved
   pub kept : (j : ℕ) → rowWidth * n ≤ j → j < i → j < length words → getD saved j 0 ≡ getD words j 0
 
 abbrev pub Saved : (words : List ℕ) → (n : ℕ) → (saved : List ℕ) → Type 0

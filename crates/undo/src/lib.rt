@@ -6,9 +6,9 @@ ghost use lib.ListN.{length};
 ghost use Rattle.undo.specs.Saved.{Saved, PutBack};
 use bank::rows;
 
-// Saves the rows from `used` on.
-pub fn save(words: &[u32], used: u16, saved: &mut [u32; 98304])
-    requires { ⌜ (length (now words) ≤ 98304) × (length (now saved) ≡ 98304) ⌝ }
+// Saves the rows from `used` on, each word at its place.
+pub fn save(words: &[u32], used: u16, saved: &mut [u32])
+    requires { ⌜ length (now words) ≤ length (now saved) ⌝ }
     ensures { λ _. ⌜ Saved (now (words .entry)) used (now (saved .exit)) ⌝ }
 {
     let mut i = rows::WIDTH * used as usize;
@@ -19,8 +19,8 @@ pub fn save(words: &[u32], used: u16, saved: &mut [u32; 98304])
 }
 
 // Puts them back.
-pub fn restore(words: &mut [u32], used: u16, saved: &[u32; 98304])
-    requires { ⌜ (length (now words) ≤ 98304) × (6 * used ≤ length (now words)) × (length (now saved) ≡ 98304) ⌝ }
+pub fn restore(words: &mut [u32], used: u16, saved: &[u32])
+    requires { ⌜ (6 * used ≤ length (now words)) × (length (now words) ≤ length (now saved)) ⌝ }
     ensures { λ _. ⌜ PutBack (now (words .entry)) used (now (saved .entry)) (now (words .exit)) ⌝ }
 {
     let mut at = rows::WIDTH * used as usize;

@@ -17,7 +17,7 @@ use Rattle.model.specs.Steps as steps
 use Rattle.model.specs.Calls.{answers, refuses, leaves, endOf, doneBy, look}
 use Rattle.model.specs.Entry.{rowsLent, sizeFits, listsFit, tablesOf, listsOf, seenOf, refused}
 use Rattle.model.specs.declared.Lists.{Lists}
-use Rattle.model.proofs.Laws.Lent.{sizeFits-facts, listsOf-within, listsFit-true, rows-within}
+use Rattle.model.proofs.Laws.Lent.{listsOf-within, listsFit-true, rows-within}
 use Rattle.model.proofs.Laws.Step as step
 use Rattle.model.proofs.Laws.Step.{AnswerOk, StepOk, step-left}
 use Rattle.bank.specs.Rows.{answerIn, withAnswer, Within}
@@ -43,7 +43,7 @@ answer-undone ws n i v saved us ps zs l z s k p e =
     later : Saved (withAnswer ws i v) n saved
     later =
         record {
-          long = s .long;
+          long = omega (arith, s .long, length-set ws (rowWidth * i + 1) v);
           kept = λ j a b c. s .kept j a (omega (arith, b, length-set ws (rowWidth * i + 1) v)) (omega (arith, c, length-set ws (rowWidth * i + 1) v)) ∙ sym (getD-set-other ws (rowWidth * i + 1) j v 0 (λ q. absurd (omega (arith, q))));
         }
 
@@ -108,9 +108,6 @@ module _ (ws : List ℕ) (l : Lists) (m : ℕ) (size : sizeFits ws ≡ true) (fi
 
     pub short-length : length us ≡ length ws
     short-length = came-short .kept .same-size ∙ W-long
-
-    pub short-few : length us ≤ 98304
-    short-few = let s = sizeFits-facts ws size in omega (arith, short-length, s .whole, s .most)
 
     pub short-within : rowWidth * l .used ≤ length us
     short-within = omega (arith, short-length, sound-within ws l sound)

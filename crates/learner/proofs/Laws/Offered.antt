@@ -21,7 +21,7 @@ use Rattle.model.specs.TableFacts.{Tidy, Few, Whole, HandFits}
 use Rattle.model.specs.Phase.{Sounds}
 use Rattle.model.specs.Entry.{storeOf, answersIn, sizeFits, listsFit, tablesOf, listsOf, rowsLent, refused, seenOf}
 use Rattle.model.specs.declared.Lists.{Lists}
-use Rattle.model.proofs.Laws.Lent.{good-four, rows-within, over-take, sizeFits-facts, listsFit-facts, listsFit-true, listsOf-within}
+use Rattle.model.proofs.Laws.Lent.{good-four, rows-within, over-take, listsFit-facts, listsFit-true, listsOf-within}
 use Rattle.model.proofs.Laws.Listed.{stored}
 use Rattle.model.proofs.Laws.Sounds.{sound-facts}
 use Rattle.model.proofs.Laws.Step as Step
@@ -86,9 +86,6 @@ module _ {ws : List ℕ} {l : Lists} {xs : List ℕ} {m : ℕ} {holes head next 
   tidy : Tidy X
   tidy = sounds .nearly .tidy
 
-  pub words-few : length ws ≤ 98304
-  words-few = let r = sizeFits-facts ws (t .size) in omega (arith, r .whole, r .most)
-
   pub rows-held : 6 * l .used ≤ length ws
   rows-held = t .working .ready .finding .room
 
@@ -101,8 +98,8 @@ module _ {ws : List ℕ} {l : Lists} {xs : List ℕ} {m : ℕ} {holes head next 
       go full d = (refl, d .came .1)
       go (built i y) d = absurd (let e = d .came .0 in let z : _≡_ {A = ℕ} 0 1 = cc in omega arith)
 
-  pub full-few : {us hs he ne : List ℕ} → Comes ws (countsIn l) (l .used) (storeFrom (storeOf ws (countsIn l) (l .used)) xs []) Grown.Full us hs he ne mix → length us ≤ 98304
-  full-few d = omega (arith, words-few, offer-full d .1 .same-size)
+  pub full-size : {us hs he ne : List ℕ} → Comes ws (countsIn l) (l .used) (storeFrom (storeOf ws (countsIn l) (l .used)) xs []) Grown.Full us hs he ne mix → length us ≡ length ws
+  full-size d = offer-full d .1 .same-size
 
   pub full-held : {us hs he ne : List ℕ} → Comes ws (countsIn l) (l .used) (storeFrom (storeOf ws (countsIn l) (l .used)) xs []) Grown.Full us hs he ne mix → 6 * l .used ≤ length us
   full-held d = omega (arith, rows-held, offer-full d .1 .same-size)
@@ -267,8 +264,8 @@ module _ {ws : List ℕ} {l : Lists} {xs : List ℕ} {m : ℕ} {holes head next 
                 let more : l .used ≤ v = omega (arith, q .ext .more, used-of ws (countsIn l) (l .used), q .stands .count) in
                 subst (λ (bs : List ℕ). Kept ws (l .used) bs) (sym p) (kept-back ws us vs (l .used) v j (m + 1) old kept more j-within v-room kept-short e)
 
-            pub back-few : length vs' ≤ 98304
-            back-few = omega (arith, words-few, kept-again .same-size)
+            pub back-size : length vs' ≡ length ws
+            back-size = kept-again .same-size
 
             pub back-held : 6 * l .used ≤ length vs'
             back-held = omega (arith, rows-held, kept-again .same-size)

@@ -14,13 +14,13 @@ use Rattle.bank.specs.Ready.{Kept}
 use Rattle.bank.proofs.Laws.Chains.{by-equal}
 use Rattle.undo.specs.Saved.{SavedTo, Saved, BackTo, PutBack}
 
-pub save-none : (ws : List ℕ) (n : ℕ) (vs : List ℕ) → length vs ≡ 98304 → SavedTo ws n (rowWidth * n) vs
+pub save-none : (ws : List ℕ) (n : ℕ) (vs : List ℕ) → length ws ≤ length vs → SavedTo ws n (rowWidth * n) vs
 save-none ws n vs e = record { long = e; kept = λ j a b l. absurd (omega arith) }
 
-pub save-more : (ws : List ℕ) (n i : ℕ) (vs : List ℕ) → SavedTo ws n i vs → i < 98304 → SavedTo ws n (i + 1) (set vs i (getD ws i 0))
+pub save-more : (ws : List ℕ) (n i : ℕ) (vs : List ℕ) → SavedTo ws n i vs → i < length ws → SavedTo ws n (i + 1) (set vs i (getD ws i 0))
 save-more ws n i vs y h =
     record {
-      long = length-set vs i (getD ws i 0) ∙ y .long;
+      long = omega (arith, y .long, length-set vs i (getD ws i 0));
       kept = λ j a b l.
           by-equal j i (λ e. ap (λ (k : ℕ). getD (set vs i (getD ws i 0)) k 0) e ∙ getD-set-same vs i (getD ws i 0) 0 (omega (arith, y .long)) ∙ ap (λ (k : ℕ). getD ws k 0) (sym e))
           (λ d. getD-set-other vs i j (getD ws i 0) 0 d ∙ y .kept j a (omega (arith, d)) l);

@@ -1,6 +1,5 @@
 -- `undo::restore` meets its contract. The invariant: the words before the i-th are put back.
-use mathlib.Core.Path.{_≡_, refl}
-use Prim.Native.Nat.{ℕ, _*_, _-_, _≤_, _<_}
+use Prim.Native.Nat.{_*_, _-_, _≤_}
 use native.Mathlib.Omega.{arith}
 use borrow.Author.Needs.{needs}
 use lib.ListN.{length}
@@ -24,8 +23,8 @@ loop-holds c = (omega arith, omega arith, back-none (c .args .words .now) (c .ar
 mul-words : tie.Need-mul-words Inv-loop μ-loop
 mul-words c = search needs
 
-element-copy-out-words : tie.Need-element-copy-out-words Inv-loop μ-loop
-element-copy-out-words c = search needs
+shared-slice-read-words : tie.Need-shared-slice-read-words Inv-loop μ-loop
+shared-slice-read-words c = search needs
 
 mul-words-2 : tie.Need-mul-words-2 Inv-loop μ-loop
 mul-words-2 c = search needs
@@ -63,7 +62,7 @@ restore-spec =
     mul-at
     loop-holds
     mul-words
-    element-copy-out-words
+    shared-slice-read-words
     mul-words-2
     slice-write-words
     add-at

@@ -1,16 +1,16 @@
 -- `undo::save` meets its contract. The invariant: the words before the i-th are saved.
-use mathlib.Core.Path.{_≡_, refl}
-use Prim.Native.Nat.{ℕ, _*_, _-_, _≤_, _<_}
+use mathlib.Core.Path.{_≡_, refl, _∙_}
+use Prim.Native.Nat.{_-_}
 use native.Mathlib.Omega.{arith}
 use borrow.Author.Needs.{needs}
-use lib.ListN.{length}
+use lib.ListN.{length, getD, length-set}
 use Rattle.undo.specs.Saved.{SavedTo}
 use Rattle.undo.proofs.Laws.Words.{save-none, save-more, save-all}
 use Rattle.undo.proofs.save.Statement.{statement}
 use Rattle.undo.proofs.save.Tie as tie
 
 abbrev Inv-loop : tie.InvT-loop
-Inv-loop words used saved₀ i₀ saved i = SavedTo words used i saved
+Inv-loop words used saved₀ i₀ saved i = (length saved ≡ length saved₀) × SavedTo words used i saved
 
 abbrev μ-loop : tie.MeasureT-loop
 μ-loop words used saved₀ i₀ saved i = length words - i
@@ -19,7 +19,7 @@ mul-i : tie.Need-mul-i Inv-loop μ-loop
 mul-i c = search needs
 
 loop-holds : tie.Need-loop-holds Inv-loop μ-loop
-loop-holds c = save-none (c .args .words .now) (c .args .used) (c .args .saved .now) (c .pre .1)
+loop-holds c = (refl, save-none (c .args .words .now) (c .args .used) (c .args .saved .now) (c .pre))
 
 mul-saved : tie.Need-mul-saved Inv-loop μ-loop
 mul-saved c = search needs
@@ -30,8 +30,8 @@ shared-slice-read-saved c = search needs
 mul-saved-2 : tie.Need-mul-saved-2 Inv-loop μ-loop
 mul-saved-2 c = search needs
 
-element-write-saved : tie.Need-element-write-saved Inv-loop μ-loop
-element-write-saved c = search needs
+slice-write-saved : tie.Need-slice-write-saved Inv-loop μ-loop
+slice-write-saved c = search needs
 
 add-i : tie.Need-add-i Inv-loop μ-loop
 add-i c = search needs
@@ -43,13 +43,16 @@ loop-again : tie.Need-loop-again Inv-loop μ-loop
 loop-again c =
     let s = c .before .before .before in
     let l = c .before .before .loop in
-    save-more (s .args .words .now) (s .args .used) (l .i) (l .saved) (l .inv) (omega arith)
+    (length-set (l .saved) (l .i) (getD (s .args .words .now) (l .i) 0) ∙ l .inv .0, save-more (s .args .words .now) (s .args .used) (l .i) (l .saved) (l .inv .1) (omega arith))
+
+same-length : tie.Need-same-length Inv-loop μ-loop
+same-length c = c .before .loop .inv .0
 
 returns : tie.Need-returns Inv-loop μ-loop
 returns c =
     let s = c .before .before in
     let l = c .before .loop in
-    save-all (s .args .words .now) (s .args .used) (l .i) (l .saved) (l .inv) (omega arith)
+    save-all (s .args .words .now) (s .args .used) (l .i) (l .saved) (l .inv .1) (omega arith)
 
 pub save-spec : {M : Type 1} → statement M
 save-spec =
@@ -62,8 +65,9 @@ save-spec =
     mul-saved
     shared-slice-read-saved
     mul-saved-2
-    element-write-saved
+    slice-write-saved
     add-i
     loop-less
     loop-again
+    same-length
     returns)

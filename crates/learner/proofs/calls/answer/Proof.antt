@@ -39,8 +39,8 @@ returns-2 c =
     called-lists (s .args .words .now) (s .args .lists) (answers (s .args .mark)) (c .refuse2 .result) (sym (z .ensures) ∙ not-false (z .result) (c .before .before .before .if1 .left))
     (sym (y .ensures) ∙ not-true (y .result) (c .before .if2 .taken)) (c .refuse2 .ensures .0) (c .refuse2 .ensures .1)
 
-answer-within-requires : tie.Need-answer-within-requires
-answer-within-requires c κs =
+answer-lent-requires : tie.Need-answer-lent-requires
+answer-lent-requires c κs =
     let z = c .before .before .before .before .size-fits in
     let y = c .before .before .lists-fit in
     (sym (z .ensures) ∙ not-false (z .result) (c .before .before .before .if1 .left), sym (y .ensures) ∙ not-false (y .result) (c .before .if2 .left))
@@ -63,6 +63,6 @@ answer-spec =
     refuse-requires-2
     same-length-2
     returns-2
-    answer-within-requires
+    answer-lent-requires
     same-length-3
     returns-3)

@@ -1,5 +1,4 @@
 -- `calls::answer_within` meets its contract: 30 by the soundness test, 31 and 16, the rest by `take_answer`.
-use mathlib.Core.Path.{refl}
 use native.Mathlib.Omega.{arith}
 use borrow.Author.Tests.{not-false}
 use borrow.Author.Needs.{needs}
@@ -11,9 +10,7 @@ use Rattle.learner.proofs.calls.answer_within.Statement.{statement}
 use Rattle.learner.proofs.calls.answer_within.Tie as tie
 
 lists-sound-requires : tie.Need-lists-sound-requires
-lists-sound-requires c κs =
-    let s = c .before .before .before .before .before .before .before .before .before in
-    (s .pre .0, s .pre .1, record { holes-long = refl {a = 16384}; head-long = refl {a = 16384}; next-long = refl {a = 16384}; mix-long = refl {a = 5}; table-long = refl {a = 73984}; places-long = refl {a = 32}; reps-long = refl {a = 16384} })
+lists-sound-requires c κs = search needs
 
 refuse-requires : tie.Need-refuse-requires
 refuse-requires c κs = search needs
@@ -23,7 +20,7 @@ same-length c = search needs
 
 returns : tie.Need-returns
 returns c =
-    let s = c .before .before .before .before .before .before .before .before .before .before .before .before in
+    let s = c .before .before .before .before .before .before .before .before .before .before .before .before .before in
     let z = c .before .before .lists-sound in
     called-unsound (s .args .words .now) (s .args .lists) (answers (s .args .mark)) (c .refuse .result) (s .pre .0) (s .pre .1) (told-unsound (s .args .words .now) (s .args .lists) (z .result) (z .ensures .0) (c .before .if1 .taken)) (c .refuse .ensures .0) (c .refuse .ensures .1)
 
@@ -35,7 +32,7 @@ same-length-2 c = search needs
 
 returns-2 : tie.Need-returns-2
 returns-2 c =
-    let s = c .before .before .before .before .before .before .before .before .before .before .before .before .before .before in
+    let s = c .before .before .before .before .before .before .before .before .before .before .before .before .before .before .before in
     let z = c .before .before .before .before .lists-sound in
     called-fault (s .args .words .now) (s .args .lists) (answers (s .args .mark)) (c .refuse2 .result) (s .pre .0) (s .pre .1) (told-sound (s .args .words .now) (s .args .lists) (z .result) (z .ensures .0) (c .before .before .before .if1 .left)) 31
     (unasked-fault (tablesOf (s .args .words .now) (s .args .lists)) (s .args .mark) (c .before .if2 .taken)) (λ e. absurd (omega (arith, e))) (c .refuse2 .ensures .0) (c .refuse2 .ensures .1)
@@ -48,20 +45,23 @@ same-length-3 c = search needs
 
 returns-3 : tie.Need-returns-3
 returns-3 c =
-    let s = c .before .before .before .before .before .before .before .before .before .before .before .before .before .before .before in
+    let s = c .before .before .before .before .before .before .before .before .before .before .before .before .before .before .before .before in
     let z = c .before .before .before .before .before .lists-sound in
     called-fault (s .args .words .now) (s .args .lists) (answers (s .args .mark)) (c .refuse3 .result) (s .pre .0) (s .pre .1) (told-sound (s .args .words .now) (s .args .lists) (z .result) (z .ensures .0) (c .before .before .before .before .if1 .left)) 16
     (mark-fault (tablesOf (s .args .words .now) (s .args .lists)) (s .args .mark) (c .before .before .if2 .left) (c .before .if3 .taken)) (λ e. absurd (omega (arith, e))) (c .refuse3 .ensures .0) (c .refuse3 .ensures .1)
 
 take-answer-requires : tie.Need-take-answer-requires
 take-answer-requires c κs =
-    let s = c .before .before .before .before .before .before .before .before .before .before .before .before .before .before .before .before .before .before .before .before .before .before in
-    let z = c .before .before .before .before .before .before .before .before .before .before .before .before .lists-sound in
-    let d = c .before .before .before .before .before .before .before .before .before .before .before .if1 .left in
-    (s .pre .0, s .pre .1, told-sound (s .args .words .now) (s .args .lists) (z .result) (z .ensures .0) d, c .before .before .before .before .before .before .before .before .before .if2 .left, c .before .before .before .before .before .before .before .before .if3 .left, z .ensures .1 (not-false (z .result) d))
+    let s = c .before .before .before .before .before .before .before .before .before .before .before .before .before .before .before .before .before .before .before .before .before .before .before .before in
+    let z = c .before .before .before .before .before .before .before .before .before .before .before .before .before .lists-sound in
+    let d = c .before .before .before .before .before .before .before .before .before .before .before .before .if1 .left in
+    (s .pre .0, s .pre .1, told-sound (s .args .words .now) (s .args .lists) (z .result) (z .ensures .0) d, c .before .before .before .before .before .before .before .before .before .before .if2 .left, c .before .before .before .before .before .before .before .before .before .if3 .left, z .ensures .1 (not-false (z .result) d), s .pre .2)
 
 same-length-4 : tie.Need-same-length-4
 same-length-4 c = search needs
+
+same-length-5 : tie.Need-same-length-5
+same-length-5 c = search needs
 
 returns-4 : tie.Need-returns-4
 returns-4 c = search needs
@@ -82,4 +82,5 @@ answer-within-spec =
     returns-3
     take-answer-requires
     same-length-4
+    same-length-5
     returns-4)

@@ -5,25 +5,21 @@ use native.Mathlib.Omega.{arith}
 use borrow.Author.Needs.{needs, length-unmapped}
 use lib.ListN.{length}
 use Rattle.model.specs.declared.Lists.{Lists}
-use Rattle.model.proofs.Laws.Lent.{sizeFits-facts}
 use Rattle.learner.proofs.Laws.Accepted.{in-arrays}
 use Rattle.learner.proofs.Laws.Answered.{asked-within, stepping-answered, hand-answered}
-use Rattle.learner.proofs.Laws.AnswerTaken.{short-few, short-within, asked-within-back, words-back, answer-short, left-fit, answer-left}
+use Rattle.learner.proofs.Laws.AnswerTaken.{short-length, short-within, asked-within-back, words-back, answer-short, left-fit, answer-left}
 use Rattle.learner.proofs.calls.take_answer.Statement.{statement}
 use Rattle.learner.proofs.calls.take_answer.Tie as tie
 
 save-requires : tie.Need-save-requires
-save-requires c κs =
-    let s = c .before .before .before in
-    let z = sizeFits-facts (s .args .words .now) (s .pre .0) in
-    (omega (arith, z .whole, z .most), refl)
+save-requires c κs = search needs
 
 add-set-answer : tie.Need-add-set-answer
 add-set-answer c = search needs
 
 set-answer-requires : tie.Need-set-answer-requires
 set-answer-requires c κs =
-    let s = c .before .before .before .before .before in
+    let s = c .before .before .before .before .before .before .before .before in
     asked-within (s .args .words .now) (s .args .lists) (s .args .mark) (s .pre .1) (s .pre .2) (s .pre .3) (s .pre .4)
 
 closed-requires : tie.Need-closed-requires
@@ -31,7 +27,7 @@ closed-requires c κs = search needs
 
 advance-requires : tie.Need-advance-requires
 advance-requires c κs =
-    let s = c .before .before .before .before .before .before .before .before .before .before .before .before .before .before in
+    let s = c .before .before .before .before .before .before .before .before .before .before .before .before .before .before .before .before .before in
     let ws = s .args .words .now in
     let l = s .args .lists in
     let w = s .pre .5 in
@@ -52,54 +48,60 @@ advance-requires c κs =
 
 restore-requires : tie.Need-restore-requires
 restore-requires c κs =
-    let s = c .before .before .before .before .before .before .before .before .before .before .before .before .before .before .before .before .before .before .before .before in
+    let s = c .before .before .before .before .before .before .before .before .before .before .before .before .before .before .before .before .before .before .before .before .before .before .before in
     let v = c .before .before .before .before .before .advance in
     let e = c .before .before .before .before .before .before .before .before .before .before .before .before .before .before .set-answer .ensures in
     let f = c .before .before .before .before .before .before .before .before .before .before .before .closed .ensures in
     let d = c .before .before .if1 .taken in
-    (short-few (s .args .words .now) (s .args .lists) (s .args .mark) (s .pre .0) (s .pre .1) (s .pre .2) (s .pre .3) (s .pre .4) e f (v .result) (v .last .0) (v .ensures) d, short-within (s .args .words .now) (s .args .lists) (s .args .mark) (s .pre .0) (s .pre .1) (s .pre .2) (s .pre .3) (s .pre .4) e f (v .result) (v .last .0) (v .ensures) d, c .before .before .before .before .before .before .before .before .before .before .before .before .before .before .before .before .save .ensures .long)
+    (short-within (s .args .words .now) (s .args .lists) (s .args .mark) (s .pre .0) (s .pre .1) (s .pre .2) (s .pre .3) (s .pre .4) e f (v .result) (v .last .0) (v .ensures) d, omega (arith, short-length (s .args .words .now) (s .args .lists) (s .args .mark) (s .pre .0) (s .pre .1) (s .pre .2) (s .pre .3) (s .pre .4) e f (v .result) (v .last .0) (v .ensures) d, c .before .before .before .before .before .before .before .before .before .before .before .before .before .before .before .before .before .before .save .ensures .long))
 
 set-answer-requires-2 : tie.Need-set-answer-requires-2
 set-answer-requires-2 c κs =
-    let s = c .before .before .before .before .before .before .before .before .before .before .before .before .before .before .before .before .before .before .before .before .before .before .before .before in
+    let s = c .before .before .before .before .before .before .before .before .before .before .before .before .before .before .before .before .before .before .before .before .before .before .before .before .before .before .before in
     let v = c .before .before .before .before .before .before .before .before .before .advance in
     let e = c .before .before .before .before .before .before .before .before .before .before .before .before .before .before .before .before .before .before .set-answer .ensures in
     let f = c .before .before .before .before .before .before .before .before .before .before .before .before .before .before .before .closed .ensures in
-    asked-within-back (s .args .words .now) (s .args .lists) (s .args .mark) (s .pre .0) (s .pre .1) (s .pre .2) (s .pre .3) (s .pre .4) e f (v .result) (v .last .0) (v .ensures) (c .before .before .before .before .before .before .if1 .taken) _ (c .before .before .before .restore .last .0) (c .before .before .before .before .before .before .before .before .before .before .before .before .before .before .before .before .before .before .before .before .save .ensures) (c .before .before .before .restore .ensures)
+    asked-within-back (s .args .words .now) (s .args .lists) (s .args .mark) (s .pre .0) (s .pre .1) (s .pre .2) (s .pre .3) (s .pre .4) e f (v .result) (v .last .0) (v .ensures) (c .before .before .before .before .before .before .if1 .taken) _ (c .before .before .before .restore .last .0) (c .before .before .before .before .before .before .before .before .before .before .before .before .before .before .before .before .before .before .before .before .before .before .save .ensures) (c .before .before .before .restore .ensures)
 
 refuse-requires : tie.Need-refuse-requires
 refuse-requires c κs = search needs
 
 same-length : tie.Need-same-length
 same-length c =
-    let s = c .before .before .before .before .before .before .before .before .before .before .before .before .before .before .before .before .before .before .before .before .before .before .before .before .before .before .before .before in
+    let s = c .before .before .before .before .before .before .before .before .before .before .before .before .before .before .before .before .before .before .before .before .before .before .before .before .before .before .before .before .before .before .before in
     let v = c .before .before .before .before .before .before .before .before .before .before .before .before .before .advance in
     let e = c .before .before .before .before .before .before .before .before .before .before .before .before .before .before .before .before .before .before .before .before .before .before .set-answer .ensures in
     let f = c .before .before .before .before .before .before .before .before .before .before .before .before .before .before .before .before .before .before .before .closed .ensures in
-    ap length (words-back (s .args .words .now) (s .args .lists) (s .args .mark) (s .pre .0) (s .pre .1) (s .pre .2) (s .pre .3) (s .pre .4) e f (v .result) (v .last .0) (v .ensures) (c .before .before .before .before .before .before .before .before .before .before .if1 .taken) _ (c .before .before .before .before .before .before .before .restore .last .0) (c .before .before .before .before .before .before .before .before .before .before .before .before .before .before .before .before .before .before .before .before .before .before .before .before .save .ensures) (c .before .before .before .before .before .before .before .restore .ensures) _ (c .before .before .before .set-answer2 .ensures))
+    ap length (words-back (s .args .words .now) (s .args .lists) (s .args .mark) (s .pre .0) (s .pre .1) (s .pre .2) (s .pre .3) (s .pre .4) e f (v .result) (v .last .0) (v .ensures) (c .before .before .before .before .before .before .before .before .before .before .if1 .taken) _ (c .before .before .before .before .before .before .before .restore .last .0) (c .before .before .before .before .before .before .before .before .before .before .before .before .before .before .before .before .before .before .before .before .before .before .before .before .before .before .save .ensures) (c .before .before .before .before .before .before .before .restore .ensures) _ (c .before .before .before .set-answer2 .ensures))
+
+same-length-2 : tie.Need-same-length-2
+same-length-2 c = c .before .before .before .before .before .before .before .before .before .before .before .before .before .before .before .before .before .before .before .before .before .before .before .before .before .before .save .kept .1 .1 .0
 
 returns : tie.Need-returns
 returns c =
-    let s = c .before .before .before .before .before .before .before .before .before .before .before .before .before .before .before .before .before .before .before .before .before .before .before .before .before .before .before .before in
+    let s = c .before .before .before .before .before .before .before .before .before .before .before .before .before .before .before .before .before .before .before .before .before .before .before .before .before .before .before .before .before .before .before in
     let v = c .before .before .before .before .before .before .before .before .before .before .before .before .before .advance in
     let e = c .before .before .before .before .before .before .before .before .before .before .before .before .before .before .before .before .before .before .before .before .before .before .set-answer .ensures in
     let f = c .before .before .before .before .before .before .before .before .before .before .before .before .before .before .before .before .before .before .before .closed .ensures in
-    answer-short (s .args .words .now) (s .args .lists) (s .args .mark) (s .pre .0) (s .pre .1) (s .pre .2) (s .pre .3) (s .pre .4) e f (v .result) (v .last .0) (v .ensures) (c .before .before .before .before .before .before .before .before .before .before .if1 .taken) _ (c .before .before .before .before .before .before .before .restore .last .0) (c .before .before .before .before .before .before .before .before .before .before .before .before .before .before .before .before .before .before .before .before .before .before .before .before .save .ensures) (c .before .before .before .before .before .before .before .restore .ensures) _ (c .before .before .before .set-answer2 .ensures) (c .refuse .result) (c .refuse .ensures .0) (c .refuse .ensures .1)
+    answer-short (s .args .words .now) (s .args .lists) (s .args .mark) (s .pre .0) (s .pre .1) (s .pre .2) (s .pre .3) (s .pre .4) e f (v .result) (v .last .0) (v .ensures) (c .before .before .before .before .before .before .before .before .before .before .if1 .taken) _ (c .before .before .before .before .before .before .before .restore .last .0) (c .before .before .before .before .before .before .before .before .before .before .before .before .before .before .before .before .before .before .before .before .before .before .before .before .before .before .save .ensures) (c .before .before .before .before .before .before .before .restore .ensures) _ (c .before .before .before .set-answer2 .ensures) (c .refuse .result) (c .refuse .ensures .0) (c .refuse .ensures .1)
 
 told-requires : tie.Need-told-requires
 told-requires c κs =
-    let s = c .before .before .before .before .before .before .before .before .before .before .before .before .before .before .before .before .before .before .before .before in
+    let s = c .before .before .before .before .before .before .before .before .before .before .before .before .before .before .before .before .before .before .before .before .before .before .before in
     let v = c .before .before .before .before .before .advance in
     let e = c .before .before .before .before .before .before .before .before .before .before .before .before .before .before .set-answer .ensures in
     let f = c .before .before .before .before .before .before .before .before .before .before .before .closed .ensures in
     left-fit (s .args .words .now) (s .args .lists) (s .args .mark) (s .pre .0) (s .pre .1) (s .pre .2) (s .pre .3) (s .pre .4) e f (v .result) (v .last .0) (v .ensures) (c .before .before .if1 .left)
 
-same-length-2 : tie.Need-same-length-2
-same-length-2 c = search needs
+same-length-3 : tie.Need-same-length-3
+same-length-3 c = search needs
+
+same-length-4 : tie.Need-same-length-4
+same-length-4 c = c .before .before .before .before .before .before .before .before .before .before .before .before .before .before .before .before .before .before .before .save .kept .1 .1 .0
 
 returns-2 : tie.Need-returns-2
 returns-2 c =
-    let s = c .before .before .before .before .before .before .before .before .before .before .before .before .before .before .before .before .before .before .before .before .before in
+    let s = c .before .before .before .before .before .before .before .before .before .before .before .before .before .before .before .before .before .before .before .before .before .before .before .before in
     let v = c .before .before .before .before .before .before .advance in
     let e = c .before .before .before .before .before .before .before .before .before .before .before .before .before .before .before .set-answer .ensures in
     let f = c .before .before .before .before .before .before .before .before .before .before .before .before .closed .ensures in
@@ -118,7 +120,9 @@ take-answer-spec =
     set-answer-requires-2
     refuse-requires
     same-length
+    same-length-2
     returns
     told-requires
-    same-length-2
+    same-length-3
+    same-length-4
     returns-2)

@@ -39,8 +39,8 @@ returns-2 c =
     (sym (c .before .before .before .before .size-fits .ensures) ∙ not-false (c .before .before .before .before .size-fits .result) (c .before .before .before .if1 .left))
     (sym (c .before .before .lists-fit .ensures) ∙ not-true (c .before .before .lists-fit .result) (c .before .if2 .taken)) (c .refuse2 .ensures .0) (c .refuse2 .ensures .1)
 
-offer-within-requires : tie.Need-offer-within-requires
-offer-within-requires c κs =
+offer-lent-requires : tie.Need-offer-lent-requires
+offer-lent-requires c κs =
     (sym (c .before .before .before .before .size-fits .ensures) ∙ not-false (c .before .before .before .before .size-fits .result) (c .before .before .before .if1 .left), sym (c .before .before .lists-fit .ensures) ∙ not-false (c .before .before .lists-fit .result) (c .before .if2 .left))
 
 same-length-3 : tie.Need-same-length-3
@@ -61,6 +61,6 @@ offer-spec =
     refuse-requires-2
     same-length-2
     returns-2
-    offer-within-requires
+    offer-lent-requires
     same-length-3
     returns-3)

@@ -1,5 +1,5 @@
 -- `offer::offer_within` meets its contract: 30 for unsound tables, then the offer's own lines, then the step.
-use mathlib.Core.Path.{refl, sym, _∙_}
+use mathlib.Core.Path.{sym, _∙_}
 use borrow.Author.Tests.{not-true, not-false}
 use borrow.Author.Needs.{needs}
 use Rattle.model.specs.Calls.{offers}
@@ -8,9 +8,7 @@ use Rattle.learner.proofs.offer.offer_within.Statement.{statement}
 use Rattle.learner.proofs.offer.offer_within.Tie as tie
 
 lists-sound-requires : tie.Need-lists-sound-requires
-lists-sound-requires c κs =
-    let s = c .before .before .before .before .before .before .before .before .before .before in
-    (s .pre .0, s .pre .1, record { holes-long = refl; head-long = refl; next-long = refl; mix-long = refl; table-long = refl; places-long = refl; reps-long = refl })
+lists-sound-requires c κs = search needs
 
 refuse-requires : tie.Need-refuse-requires
 refuse-requires c κs = search needs
@@ -20,13 +18,13 @@ same-length c = search needs
 
 returns : tie.Need-returns
 returns c =
-    let s = c .before .before .before .before .before .before .before .before .before .before .before .before .before in
+    let s = c .before .before .before .before .before .before .before .before .before .before .before .before .before .before in
     called-unsound (s .args .words .now) (s .args .lists) (offers (s .args .symbols .now) (s .args .mark)) (c .refuse .result) (s .pre .0) (s .pre .1)
     (sym (c .before .before .lists-sound .ensures .0) ∙ not-true (c .before .before .lists-sound .result) (c .before .if1 .taken)) (c .refuse .ensures .0) (c .refuse .ensures .1)
 
 fault-of-requires : tie.Need-fault-of-requires
 fault-of-requires c κs =
-    let s = c .before .before .before .before .before .before .before .before .before .before .before .before .before .before .before .before .before .before .before .before in
+    let s = c .before .before .before .before .before .before .before .before .before .before .before .before .before .before .before .before .before .before .before .before .before in
     let w = c .before .before .before .before .before .before .before .before .before .lists-sound in
     let t = not-false (w .result) (c .before .before .before .before .before .before .before .before .if1 .left) in
     (s .pre .0, s .pre .1, sym (w .ensures .0) ∙ t, w .ensures .1 t)
@@ -39,20 +37,23 @@ same-length-2 c = search needs
 
 returns-2 : tie.Need-returns-2
 returns-2 c =
-    let s = c .before .before .before .before .before .before .before .before .before .before .before .before .before .before .before .before .before .before .before .before .before .before .before in
+    let s = c .before .before .before .before .before .before .before .before .before .before .before .before .before .before .before .before .before .before .before .before .before .before .before .before in
     let w = c .before .before .before .before .before .before .before .before .before .before .before .before .lists-sound in
     called-fault (s .args .words .now) (s .args .lists) (offers (s .args .symbols .now) (s .args .mark)) (c .refuse2 .result) (s .pre .0) (s .pre .1)
     (sym (w .ensures .0) ∙ not-false (w .result) (c .before .before .before .before .before .before .before .before .before .before .before .if1 .left)) (c .before .before .fault-of .result) (sym (c .before .before .fault-of .ensures)) (c .before .if2 .taken) (c .refuse2 .ensures .0) (c .refuse2 .ensures .1)
 
 take-offer-requires : tie.Need-take-offer-requires
 take-offer-requires c κs =
-    let s = c .before .before .before .before .before .before .before .before .before .before .before .before .before .before .before .before .before .before .before .before .before .before .before .before .before .before .before .before .before .before in
-    let w = c .before .before .before .before .before .before .before .before .before .before .before .before .before .before .before .before .before .before .before .lists-sound in
-    let t = not-false (w .result) (c .before .before .before .before .before .before .before .before .before .before .before .before .before .before .before .before .before .before .if1 .left) in
-    (s .pre .0, s .pre .1, sym (w .ensures .0) ∙ t, sym (c .before .before .before .before .before .before .before .before .before .fault-of .ensures) ∙ c .before .before .before .before .before .before .before .before .if2 .left, w .ensures .1 t)
+    let s = c .before .before .before .before .before .before .before .before .before .before .before .before .before .before .before .before .before .before .before .before .before .before .before .before .before .before .before .before .before .before .before .before in
+    let w = c .before .before .before .before .before .before .before .before .before .before .before .before .before .before .before .before .before .before .before .before .lists-sound in
+    let t = not-false (w .result) (c .before .before .before .before .before .before .before .before .before .before .before .before .before .before .before .before .before .before .before .if1 .left) in
+    (s .pre .0, s .pre .1, sym (w .ensures .0) ∙ t, sym (c .before .before .before .before .before .before .before .before .before .before .fault-of .ensures) ∙ c .before .before .before .before .before .before .before .before .before .if2 .left, w .ensures .1 t, s .pre .2)
 
 same-length-3 : tie.Need-same-length-3
 same-length-3 c = search needs
+
+same-length-4 : tie.Need-same-length-4
+same-length-4 c = search needs
 
 returns-3 : tie.Need-returns-3
 returns-3 c = search needs
@@ -71,4 +72,5 @@ offer-within-spec =
     returns-2
     take-offer-requires
     same-length-3
+    same-length-4
     returns-3)

@@ -16,7 +16,7 @@ use Rattle.model.proofs.Laws.Step.{offering}
 use Rattle.bank.proofs.Laws.Coming.{Comes, comes-as}
 use Rattle.step.specs.Stepping.{countsIn}
 use Rattle.learner.proofs.Laws.Ends.{Ends}
-use Rattle.learner.proofs.Laws.Offered.{Given, StoredAt, words-few, full-few, full-held, full-called, offer-stored, row-within, offer-stepping, offer-in-hand, no-question, not-accepted, short-within, back-few, back-held, words-back, short-called, left-size, left-fit, left-called}
+use Rattle.learner.proofs.Laws.Offered.{Given, StoredAt, full-size, full-held, full-called, offer-stored, row-within, offer-stepping, offer-in-hand, no-question, not-accepted, short-within, back-size, back-held, words-back, short-called, left-size, left-fit, left-called}
 use Rattle.learner.proofs.offer.take_offer.Statement.{statement}
 use Rattle.learner.proofs.offer.take_offer.Tie as tie
 use Rattle.learner.proofs.offer.take_offer.Reads as reads
@@ -105,7 +105,7 @@ given s =
     }
 
 abbrev begun : Stored → Start
-begun c = c .before .before .before .before .before .before .before .before .before .before .before .before .before
+begun c = c .before .before .before .before .before .before .before .before .before .before .before .before .before .before .before .before
 
 -- what storing came to
 came : (c : Stored) →
@@ -144,7 +144,7 @@ abbrev reading : Advanced → Reading
 reading c = c .before .before .before .before .before .before .before .before .before .before .before
 
 abbrev saving : Advanced → Saving
-saving c = c .before .before .before .before .before .before .before .before .before .before .before .before .before .before .before .before .before .before .before .before .before .before .before .before
+saving c = c .before .before .before .before .before .before .before .before .before .before .before .before .before .before .before .before .before .before .before .before .before .before .before .before .before .before
 
 ended : (c : Advanced) →
     Ends (marking c .set-answer .last .0) (taking c .taken-up .result) (advance (tablesOf (marking c .set-answer .last .0) (taking c .taken-up .result))) (c .advance .result) (c .advance .last .0)
@@ -161,23 +161,23 @@ cast-letters : tie.Need-cast-letters
 cast-letters c = search needs
 
 save-requires : tie.Need-save-requires
-save-requires c κs = (words-few (given (c .before .before .before .before .before .before)), refl)
+save-requires c κs = search needs
 
 array-share-prefix-counts : tie.Need-array-share-prefix-counts
 array-share-prefix-counts c =
-    let s = c .before .before .before .before .before .before .before .before in
+    let s = c .before .before .before .before .before .before .before .before .before .before .before in
     let e : length (s .args .lists .counts) ≡ 64 = search needs in
     omega (arith, listsFit-facts (s .args .lists) (s .pre .1) .letters)
 
 slice-aggregate-store : tie.Need-slice-aggregate-store
 slice-aggregate-store c =
-    let s = c .before .before .before .before .before .before .before .before .before in
+    let s = c .before .before .before .before .before .before .before .before .before .before .before .before in
     let e : length (s .args .lists .counts) ≡ 64 = search needs in
     sym (length-take-le (s .args .lists .letters) (s .args .lists .counts) (omega (arith, listsFit-facts (s .args .lists) (s .pre .1) .letters)))
 
 store-requires : tie.Need-store-requires
 store-requires c κs =
-    let s = c .before .before .before .before .before .before .before .before .before .before .before .before in
+    let s = c .before .before .before .before .before .before .before .before .before .before .before .before .before .before .before in
     let o = offering (tablesOf (s .args .words .now) (s .args .lists)) (s .args .symbols .now) (s .args .mark) (s .pre .3) in
     (s .pre .4 .ready, o .parsed, recordFault-parses (countsIn (s .args .lists)) (s .args .symbols .now) (o .fits) .2)
 
@@ -188,7 +188,7 @@ restore-requires : tie.Need-restore-requires
 restore-requires c κs =
     let f : Stored = c .before .before .before .before .before .before in
     let d = comes-as (c .before .before .enum-told .given .1) (came f) in
-    (full-few (given (begun f)) d, full-held (given (begun f)) d, c .before .before .before .before .before .before .before .before .before .before .before .before .save .ensures .long)
+    (full-held (given (begun f)) d, omega (arith, full-size (given (begun f)) d, c .before .before .before .before .before .before .before .before .before .before .before .before .before .before .save .ensures .long))
 
 refuse-requires : tie.Need-refuse-requires
 refuse-requires c κs = search needs
@@ -232,7 +232,7 @@ restore-requires-2 c κs =
     let u = taking d .taken-up .ensures in
     let o = reading d .answer-of .ensures in
     let w = e .set-answer2 .ensures in
-    (back-few g (stored a) p u (ended d) (shortage e) o w, back-held g (stored a) p u (ended d) (shortage e) o w, saving d .save .ensures .long)
+    (back-held g (stored a) p u (ended d) (shortage e) o w, omega (arith, back-size g (stored a) p u (ended d) (shortage e) o w, saving d .save .ensures .long))
 
 refuse-requires-2 : tie.Need-refuse-requires-2
 refuse-requires-2 c κs = search needs
@@ -245,6 +245,9 @@ same-length c =
     ap length
     (words-back (given (first a)) (stored a) (marking d .set-answer .ensures) (taking d .taken-up .ensures) (ended d) (shortage e) (reading d .answer-of .ensures) (e .set-answer2 .ensures) (saving d .save .ensures)
     (c .before .before .before .restore2 .ensures))
+
+same-length-2 : tie.Need-same-length-2
+same-length-2 c = c .before .before .before .before .before .before .before .before .before .before .before .before .before .before .before .before .before .before .before .before .before .before .before .before .before .before .before .before .before .before .before .before .before .before .before .before .before .before .before .save .kept .1 .1 .0
 
 returns : tie.Need-returns
 returns c =
@@ -260,19 +263,25 @@ told-requires c κs =
     let a = at-row d in
     left-fit (given (first a)) (stored a) (marking d .set-answer .ensures) (taking d .taken-up .ensures) (ended d) (c .before .before .if1 .left)
 
-same-length-2 : tie.Need-same-length-2
-same-length-2 c = search needs
+same-length-3 : tie.Need-same-length-3
+same-length-3 c = search needs
+
+same-length-4 : tie.Need-same-length-4
+same-length-4 c = c .before .before .before .before .before .before .before .before .before .before .before .before .before .before .before .before .before .before .save .kept .1 .1 .0
 
 returns-2 : tie.Need-returns-2
 returns-2 c =
     let f : Stored = c .before .before .before .before .before .before .before .before .before .before in
-    full-called (given (begun f)) (comes-as (c .before .before .before .before .before .before .enum-told .given .1) (came f)) (c .before .before .before .before .before .before .before .before .before .before .before .before .before .before .before .before .save .ensures) (c .before .before .before .restore .ensures) (c .refuse .ensures .0) (c .refuse .ensures .1)
+    full-called (given (begun f)) (comes-as (c .before .before .before .before .before .before .enum-told .given .1) (came f)) (c .before .before .before .before .before .before .before .before .before .before .before .before .before .before .before .before .before .before .save .ensures) (c .before .before .before .restore .ensures) (c .refuse .ensures .0) (c .refuse .ensures .1)
 
-same-length-3 : tie.Need-same-length-3
-same-length-3 c =
+same-length-5 : tie.Need-same-length-5
+same-length-5 c =
     let d : Advanced = c .before .before .before .before .before .before in
     let a = at-row d in
     left-size (given (first a)) (stored a) (marking d .set-answer .ensures) (taking d .taken-up .ensures) (ended d) (c .before .before .before .if1 .left)
+
+same-length-6 : tie.Need-same-length-6
+same-length-6 c = c .before .before .before .before .before .before .before .before .before .before .before .before .before .before .before .before .before .before .before .before .before .before .before .before .before .before .before .before .before .before .before .before .save .kept .1 .1 .0
 
 returns-3 : tie.Need-returns-3
 returns-3 c =
@@ -302,9 +311,12 @@ take-offer-spec =
     restore-requires-2
     refuse-requires-2
     same-length
+    same-length-2
     returns
     told-requires
-    same-length-2
-    returns-2
     same-length-3
+    same-length-4
+    returns-2
+    same-length-5
+    same-length-6
     returns-3)
