@@ -1,8 +1,7 @@
 -- What a call by value returns and leaves: what is seen, the lists, the words, each as model's Entry has it. Assumes nothing: these are definitions.
 use mathlib.Core.Path.{_≡_}
 use mathlib.Core.List.{List}
-use Prim.Native.Nat.{ℕ, _≤_}
-use lib.ListN.{length}
+use Prim.Native.Nat.{ℕ}
 use Rattle.model.specs.Calls.{Call}
 use Rattle.model.specs.Entry.{callSeen, callLists, callWords, startSeen, startLists, startWords}
 use Rattle.model.specs.declared.Lists.{Lists}
@@ -13,12 +12,7 @@ pub record CallAs (ws : List ℕ) (l : Lists) (k : Call) (r : Done) (after : Lis
   pub lists : r .lists ≡ callLists ws l k
   pub words : after ≡ callWords ws l k
 
--- the first 2,048 rows are there, and all used rows among them
-pub record FirstDo (ws : List ℕ) (used : ℕ) : Type 0 where
-  pub enough : 12288 ≤ length ws
-  pub held : used ≤ 2048
-
--- a call tried on them: short of rows, with the words as they were; or as the call on all rows
+-- a call tried on the first rows alone: short of rows, with the words as they were; or as the call on all rows
 pub record FirstAs (ws : List ℕ) (l : Lists) (k : Call) (r : Done) (after : List ℕ) : Type 0 where
   pub short : r .seen .number ≡ 34 → after ≡ ws
   pub done : (r .seen .number ≡ 34 → ⊥) → CallAs ws l k r after

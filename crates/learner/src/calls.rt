@@ -8,7 +8,7 @@ ghost use Rattle.model.specs.Sound.{isSound};
 ghost use Rattle.model.specs.Entry.{sizeFits, listsFit, tablesOf, refused};
 ghost use Rattle.sound.specs.Working.{Working};
 ghost use Rattle.step.specs.Stepping.{countsIn, closed as closedOf, accepting as acceptingOf};
-ghost use Rattle.learner.specs.Calls.{CallAs, FirstDo, FirstAs};
+ghost use Rattle.learner.specs.Calls.{CallAs, FirstAs};
 use bank::rows;
 use model::Lists;
 use model::Row;
@@ -122,22 +122,15 @@ fn answer_within(words: &mut [u32], lists: Lists, mark: u8, saved: &mut [u32]) -
     )
 }
 
-// Whether a call is tried on the first 2,048 rows alone: there are more, and half of these are free. To save fewer rows is faster.
-pub fn first_do(words: &[u32], used: u16) -> bool
-    ensures { λ r. ⌜ (r ≡ true → FirstDo (now (words .entry)) used) ⌝ }
-{
-    if words.len() <= 12288 {
-        return false;
-    }
-    used <= 1024
-}
-
-// The same on the first 2,048 rows alone: 34 where they are not enough.
+// The same on the first 2,048 rows alone, of which few are saved: 34 where they are not enough.
 fn answer_first(words: &mut [u32], lists: Lists, mark: u8) -> Done
-    requires { ⌜ (sizeFits (now words) ≡ true) × (listsFit lists ≡ true) × FirstDo (now words) (lists .used) ⌝ }
+    requires { ⌜ (sizeFits (now words) ≡ true) × (listsFit lists ≡ true) × (lists .used ≤ 2048) ⌝ }
     ensures { λ r. ⌜ FirstAs (now (words .entry)) lists (answers mark) r (now (words .exit)) ⌝ }
 {
     let mut saved = [0u32; 12288];
+    if words.len() <= 12288 {
+        return answer_within(words, lists, mark, &mut saved);
+    }
     answer_within(&mut words[..12288], lists, mark, &mut saved)
 }
 
@@ -150,12 +143,12 @@ fn answer_all(words: &mut [u32], lists: Lists, mark: u8) -> Done
     answer_within(words, lists, mark, &mut saved)
 }
 
-// The same on the first rows where they may do, else on all.
+// The same: tried on the first rows where at least 128 of them are free, then on all.
 fn answer_lent(words: &mut [u32], lists: Lists, mark: u8) -> Done
     requires { ⌜ (sizeFits (now words) ≡ true) × (listsFit lists ≡ true) ⌝ }
     ensures { λ r. ⌜ CallAs (now (words .entry)) lists (answers mark) r (now (words .exit)) ⌝ }
 {
-    if !first_do(words, lists.used) {
+    if 1920 < lists.used {
         return answer_all(words, lists, mark);
     }
     let done = answer_first(words, lists, mark);

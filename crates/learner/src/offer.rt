@@ -8,7 +8,7 @@ ghost use Rattle.model.specs.Sound.{isSound};
 ghost use Rattle.model.specs.Entry.{sizeFits, listsFit, tablesOf};
 ghost use Rattle.sound.specs.Working.{Working};
 ghost use Rattle.step.specs.Stepping.{countsIn, takenUp};
-ghost use Rattle.learner.specs.Calls.{CallAs, FirstDo, FirstAs};
+ghost use Rattle.learner.specs.Calls.{CallAs, FirstAs};
 use crate::calls;
 use crate::calls::Done;
 use bank::add::Grown;
@@ -220,12 +220,15 @@ fn offer_within(
     )
 }
 
-// The same on the first 2,048 rows alone: 34 where they are not enough.
+// The same on the first 2,048 rows alone, of which few are saved: 34 where they are not enough.
 fn offer_first(words: &mut [u32], lists: Lists, symbols: &[u8], mark: u8) -> Done
-    requires { ⌜ (sizeFits (now words) ≡ true) × (listsFit lists ≡ true) × FirstDo (now words) (lists .used) ⌝ }
+    requires { ⌜ (sizeFits (now words) ≡ true) × (listsFit lists ≡ true) × (lists .used ≤ 2048) ⌝ }
     ensures { λ r. ⌜ FirstAs (now (words .entry)) lists (offers (now (symbols .entry)) mark) r (now (words .exit)) ⌝ }
 {
     let mut saved = [0u32; 12288];
+    if words.len() <= 12288 {
+        return offer_within(words, lists, symbols, mark, &mut saved);
+    }
     offer_within(&mut words[..12288], lists, symbols, mark, &mut saved)
 }
 
@@ -238,12 +241,12 @@ fn offer_all(words: &mut [u32], lists: Lists, symbols: &[u8], mark: u8) -> Done
     offer_within(words, lists, symbols, mark, &mut saved)
 }
 
-// The same on the first rows where they may do, else on all.
+// The same: tried on the first rows where at least 128 of them are free, then on all.
 fn offer_lent(words: &mut [u32], lists: Lists, symbols: &[u8], mark: u8) -> Done
     requires { ⌜ (sizeFits (now words) ≡ true) × (listsFit lists ≡ true) ⌝ }
     ensures { λ r. ⌜ CallAs (now (words .entry)) lists (offers (now (symbols .entry)) mark) r (now (words .exit)) ⌝ }
 {
-    if !calls::first_do(words, lists.used) {
+    if 1920 < lists.used {
         return offer_all(words, lists, symbols, mark);
     }
     let done = offer_first(words, lists, symbols, mark);

@@ -1,18 +1,18 @@
--- A call on the first 2,048 rows: refused with 34 it leaves the words, and else it is the call on all rows (model's LentPart).
+-- A call tried on the first 2,048 rows: refused with 34 it leaves the words, and else it is the call on all rows (model's LentPart).
 use mathlib.Core.Path.{_≡_, refl, sym, ap, _∙_}
 use mathlib.Core.Logic.{_≢_}
 use mathlib.Core.Bool.{true}
 use mathlib.Core.List.{List, _++_}
-use Prim.Native.Nat.{ℕ}
+use Prim.Native.Nat.{ℕ, _≤_}
 use native.Mathlib.Omega.{arith}
-use lib.ListN.{take, drop, take-append-drop}
+use lib.ListN.{length, take, drop, take-append-drop}
 use Rattle.model.specs.Calls.{Call, Outcome, refuses, leaves, numberOf}
 use Rattle.model.specs.Entry.{sizeFits, listsFit, seenBy, wordsBy, callBy}
 use Rattle.model.specs.declared.Lists.{Lists}
 use Rattle.model.specs.declared.Seen.{Seen}
 use Rattle.model.proofs.Laws.LentPart.{part-fits, seen-part, lists-part, words-part}
 use Rattle.learner.specs.declared.calls.Done.{Done}
-use Rattle.learner.specs.Calls.{CallAs, FirstDo, FirstAs}
+use Rattle.learner.specs.Calls.{CallAs, FirstAs}
 
 seen-number : (o : Outcome) → seenBy o .number ≡ numberOf o
 seen-number (refuses n) = refl
@@ -22,9 +22,17 @@ refused-words : (ws : List ℕ) (o : Outcome) → numberOf o ≡ 34 → wordsBy 
 refused-words ws (refuses n) e = refl
 refused-words ws (leaves y) e = absurd (omega (arith, e))
 
-module _ (ws : List ℕ) (l : Lists) (k : Call) (size : sizeFits ws ≡ true) (fit : listsFit l ≡ true) (f : FirstDo ws (l .used)) where
+-- on all rows, it is tried too
+pub all-as : {ws : List ℕ} {l : Lists} {k : Call} {r : Done} {us : List ℕ} → CallAs ws l k r us → FirstAs ws l k r us
+all-as {ws} {l} {k} c =
+    record {
+      short = λ e. c .words ∙ refused-words ws (callBy ws l k) (sym (ap (λ (s : Seen). s .number) (c .seen) ∙ seen-number (callBy ws l k)) ∙ e);
+      done = λ n. c;
+    }
+
+module _ (ws : List ℕ) (l : Lists) (k : Call) (size : sizeFits ws ≡ true) (fit : listsFit l ≡ true) (held : l .used ≤ 2048) (enough : 12288 ≤ length ws) where
   pub first-fits : sizeFits (take 12288 ws) ≡ true
-  first-fits = part-fits ws l 2048 size fit (omega arith) (f .enough) (f .held)
+  first-fits = part-fits ws l 2048 size fit (omega arith) enough held
 
   pub first-as : {r : Done} {us : List ℕ} → CallAs (take 12288 ws) l k r us → FirstAs ws l k r (us ++ drop 12288 ws)
   first-as {r} {us} c =
@@ -33,9 +41,9 @@ module _ (ws : List ℕ) (l : Lists) (k : Call) (size : sizeFits ws ≡ true) (f
         done = λ n.
             let d : numberOf (callBy (take 12288 ws) l k) ≢ 34 = λ e. n (number ∙ e) in
             record {
-              seen = c .seen ∙ sym (seen-part ws l 2048 size fit (omega arith) (f .enough) (f .held) k d);
-              lists = c .lists ∙ sym (lists-part ws l 2048 size fit (omega arith) (f .enough) (f .held) k d);
-              words = ap (λ (zs : List ℕ). zs ++ drop 12288 ws) (c .words) ∙ sym (words-part ws l 2048 size fit (omega arith) (f .enough) (f .held) k d);
+              seen = c .seen ∙ sym (seen-part ws l 2048 size fit (omega arith) enough held k d);
+              lists = c .lists ∙ sym (lists-part ws l 2048 size fit (omega arith) enough held k d);
+              words = ap (λ (zs : List ℕ). zs ++ drop 12288 ws) (c .words) ∙ sym (words-part ws l 2048 size fit (omega arith) enough held k d);
             };
       }
     where

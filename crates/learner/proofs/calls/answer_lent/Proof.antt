@@ -3,16 +3,12 @@ use mathlib.Core.Path.{_≡_, sym, subst}
 use mathlib.Core.Bool.{true}
 use mathlib.Core.List.{List}
 use Prim.Native.Nat.{ℕ}
-use borrow.Author.Tests.{not-false}
 use borrow.Author.Needs.{needs}
 use Rattle.model.specs.Calls.{answers}
 use Rattle.model.specs.Entry.{sizeFits}
 use Rattle.learner.specs.Calls.{CallAs}
 use Rattle.learner.proofs.calls.answer_lent.Statement.{statement}
 use Rattle.learner.proofs.calls.answer_lent.Tie as tie
-
-first-do-requires : tie.Need-first-do-requires
-first-do-requires c κs = search needs
 
 answer-all-requires : tie.Need-answer-all-requires
 answer-all-requires c κs = search needs
@@ -24,9 +20,7 @@ returns : tie.Need-returns
 returns c = search needs
 
 answer-first-requires : tie.Need-answer-first-requires
-answer-first-requires c κs =
-    let s = c .before .before .before .before .before in
-    (s .pre .0, s .pre .1, c .before .before .first-do .ensures (not-false (c .before .before .first-do .result) (c .before .if1 .left)))
+answer-first-requires c κs = search needs
 
 same-length-2 : tie.Need-same-length-2
 same-length-2 c = search needs
@@ -36,7 +30,7 @@ returns-2 c = c .before .before .before .before .before .answer-first .ensures .
 
 answer-all-requires-2 : tie.Need-answer-all-requires-2
 answer-all-requires-2 c κs =
-    let s = c .before .before .before .before .before .before .before .before .before .before .before .before in
+    let s = c .before .before .before .before .before .before .before .before .before .before .before in
     (subst (λ (ws : List ℕ). sizeFits ws ≡ true) (sym (c .before .before .before .before .before .before .answer-first .ensures .short (c .before .if2 .left))) (s .pre .0), s .pre .1)
 
 same-length-3 : tie.Need-same-length-3
@@ -44,14 +38,13 @@ same-length-3 c = search needs
 
 returns-3 : tie.Need-returns-3
 returns-3 c =
-    let s = c .before .before .before .before .before .before .before .before .before .before .before .before .before .before .before in
+    let s = c .before .before .before .before .before .before .before .before .before .before .before .before .before .before in
     subst (λ (ws : List ℕ). CallAs ws (s .args .lists) (answers (s .args .mark)) (c .before .before .answer-all2 .result) (c .before .before .answer-all2 .last .0)) (c .before .before .before .before .before .before .before .before .before .answer-first .ensures .short (c .before .before .before .before .if2 .left)) (c .before .before .answer-all2 .ensures)
 
 pub answer-lent-spec : {M : Type 1} → statement M
 answer-lent-spec =
     tie.close
     (tie.spec
-    first-do-requires
     answer-all-requires
     same-length
     returns
