@@ -9,6 +9,7 @@ ghost use Rattle.model.specs.Entry.{sizeFits, listsFit, tablesOf};
 ghost use Rattle.sound.specs.Working.{Working};
 ghost use Rattle.step.specs.Stepping.{countsIn, takenUp};
 ghost use Rattle.learner.specs.Calls.{CallAs, FirstAs};
+ghost use Rattle.learner.specs.Lines.{InputFault};
 use crate::calls;
 use crate::calls::Done;
 use bank::add::Grown;
@@ -30,6 +31,29 @@ fn taken_up(lists: Lists, row: Row, used: u16) -> Lists
     left
 }
 
+// The number of the first line that refuses an offer without a look at the tables, 31 or 11 to 16; 0 for none.
+fn input_fault(lists: Lists, symbols: &[u8], mark: u8) -> u8
+    requires { ⌜ listsFit lists ≡ true ⌝ }
+    ensures { λ r. ⌜ InputFault lists (now (symbols .entry)) mark r ⌝ }
+{
+    if lists.asked != 0 {
+        return 31;
+    }
+    if lists.accepted == 1 {
+        return 31;
+    }
+    let letters = lists.letters as usize;
+    let counts = lists.counts;
+    let number = listed::record_fault(&counts[..letters], symbols);
+    if number != 0 {
+        return number;
+    }
+    if 1 < mark {
+        return 16;
+    }
+    0
+}
+
 // The number of the first line that refuses an offer to sound tables; 0 for none.
 fn fault_of(
     words: &[u32],
@@ -47,21 +71,12 @@ fn fault_of(
     requires { ⌜ (sizeFits (now words) ≡ true) × (listsFit lists ≡ true) × (isSound (tablesOf (now words) lists) ≡ true) × Working (now words) (countsIn lists) (lists .used) (lists .s) (lists .states) (lists .t) (lists .rules) (lists .c) (lists .contexts) (now holes) (now head) (now next) (now mix) (now table) (now places) (now reps) ⌝ }
     ensures { λ r. ⌜ r ≡ offerFault (tablesOf (now (words .entry)) lists) (now (symbols .entry)) mark ⌝ }
 {
-    if lists.asked != 0 {
-        return 31;
-    }
-    if lists.accepted == 1 {
-        return 31;
-    }
-    let letters = lists.letters as usize;
-    let counts = lists.counts;
-    let fault = listed::record_fault(&counts[..letters], symbols);
+    let fault = input_fault(lists, symbols, mark);
     if fault != 0 {
         return fault;
     }
-    if 1 < mark {
-        return 16;
-    }
+    let letters = lists.letters as usize;
+    let counts = lists.counts;
     let s = lists.s;
     let t = lists.t;
     let yes = hypothesis::accepts_list(

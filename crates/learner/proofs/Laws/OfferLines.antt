@@ -27,13 +27,7 @@ use Rattle.hypothesis.specs.Rules.{hypothesis, Ruled}
 use Rattle.sound.specs.Working.{Arrays, Working, preparedFit, judgedFit}
 use Rattle.sound.proofs.Laws.Judged.{sound-parts, ruled, hypothesis-is}
 use Rattle.step.specs.Stepping.{countsIn}
-
--- no question open, not accepted, 11 to 16 not given
-pub record Tested (l : Lists) (xs : List ℕ) (m : ℕ) : Type 0 where
-  pub idle : l .asked ≡ 0
-  pub running : l .accepted ≡ 1 → ⊥
-  pub faultless : recordFault (countsIn l) xs ≡ 0
-  pub mark : m ≤ 1
+use Rattle.learner.specs.Lines.{Tested}
 
 -- THE LINES
 module _ (ws : List ℕ) (l : Lists) (xs : List ℕ) (m : ℕ) where
