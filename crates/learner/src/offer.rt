@@ -44,9 +44,9 @@ fn input_fault(lists: Lists, symbols: &[u8], mark: u8) -> u8
     }
     let letters = lists.letters as usize;
     let counts = lists.counts;
-    let number = listed::record_fault(&counts[..letters], symbols);
-    if number != 0 {
-        return number;
+    let line = listed::record_fault(&counts[..letters], symbols);
+    if line != 0 {
+        return line;
     }
     if 1 < mark {
         return 16;
