@@ -1,9 +1,3 @@
-pub mod Reading
-pub mod Runs
-pub mod Telling
-pub mod Printing
-pub mod Printed
-pub mod Seen
 pub mod Opening
 pub mod Asking
 pub mod Left

@@ -2,12 +2,10 @@
 use mathlib.Core.Path.{_≡_}
 use mathlib.Core.Bool.{_&&_, cond}
 use mathlib.Core.List.{List}
-use Prim.Native.Nat.{ℕ, _<_}
+use Prim.Native.Nat.{ℕ}
 use lib.Dec.{leb}
 use lib.ListN.{length}
 use Rattle.model.specs.Base.{over, same}
-use Rattle.model.specs.declared.Seen.{Seen}
-use Rattle.sizes.specs.Sizes.{Stored}
 use Rattle.text.specs.Bytes.{yesWord, noWord, okWord, mostInput}
 use Rattle.text.specs.Lines.{isOffer, signMark}
 use Rattle.text.specs.Script.{Reply}
@@ -21,11 +19,6 @@ askedOf bs =
     (cond (same bs noWord) (Asked.Answer 0)
     (cond (same bs okWord) Asked.Accept
     (cond (isOffer bs && leb (length bs) mostInput) (Asked.Offer (signMark bs)) Asked.Nothing)))
-
--- a question that is told has a row in a good store
-pub record Tellable (words counts : List ℕ) (used : ℕ) (seen : Seen) : Type 0 where
-  pub stored : seen .number ≡ 0 → seen .phase ≡ 1 → Stored words counts used
-  pub within : seen .number ≡ 0 → seen .phase ≡ 1 → seen .row < used
 
 pub record ReplyAs (p : Reply) (r : Replied) (words' out out' : List ℕ) : Type 0 where
   pub size : r .size ≡ length (p .text)

@@ -7,14 +7,14 @@ ghost use Rattle.text.specs.Reading.{readText};
 ghost use Rattle.text.specs.Alphabet.{alphabetOf};
 ghost use Rattle.text.specs.Lines.{lineOf, offering, unreadText};
 ghost use Rattle.text.specs.Script.{reply as replyWith, script as scriptOf, told as toldOf, freshScript, lettersOf, countsOf, opened as openedOf, heard, replyTo};
-ghost use Rattle.notation.specs.Replies.{Tellable, ReplyAs};
+ghost use Rattle.printer.specs.Tells.{Tellable};
+ghost use Rattle.notation.specs.Replies.{ReplyAs};
 use crate::lines;
 use crate::lines::Asked;
 use crate::open;
-use crate::read;
-use crate::tell;
 use model::Lists;
 use model::Seen;
+use printer::tell;
 use text::Script;
 
 // The bytes of a reply, and the script after it.
@@ -142,7 +142,7 @@ fn offer(words: &mut [u32], script: Script, line: &[u8], mark: u8, out: &mut [u8
     let n = letters_in(lists.letters);
     let mut text = [0u8; 65536];
     let len = listing::put_bytes(&mut text, 0, &line[2..]);
-    let size = read::read_text(&mut text, len as u32, &letters[..n], &counts[..n]);
+    let size = reader::read_text(&mut text, len as u32, &letters[..n], &counts[..n]);
     if size == 0 {
         return unread(words, script, out);
     }

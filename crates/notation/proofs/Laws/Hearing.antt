@@ -24,8 +24,9 @@ use Rattle.text.specs.Script.{reply, script, lettersOf, countsOf, told, heard}
 use Rattle.text.specs.declared.Script.{Script}
 use Rattle.notation.specs.declared.lines.Asked.{Asked}
 use Rattle.notation.specs.declared.reply.Replied.{Replied}
-use Rattle.notation.specs.Reads.{TextAs}
-use Rattle.notation.specs.Replies.{askedOf, Tellable, ReplyAs}
+use Rattle.reader.specs.Reads.{TextAs}
+use Rattle.printer.specs.Tells.{Tellable}
+use Rattle.notation.specs.Replies.{askedOf, ReplyAs}
 use Rattle.notation.proofs.Laws.Left.{call-tellable}
 use Rattle.notation.proofs.Laws.Replying.{reply-by, letters-in, counts-in}
 

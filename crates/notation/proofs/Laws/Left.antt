@@ -25,7 +25,7 @@ use Rattle.model.proofs.Laws.Along.{Along, along}
 use Rattle.model.proofs.Promises.Calls.{counts-told}
 use Rattle.bank.proofs.Laws.Words.{used-of}
 use Rattle.sizes.specs.Sizes.{Stored}
-use Rattle.notation.specs.Replies.{Tellable}
+use Rattle.printer.specs.Tells.{Tellable}
 
 -- an outcome's number is the one that is seen
 number-seen : (o : Outcome) → seenBy o .number ≡ numberOf o

@@ -23,7 +23,8 @@ use Rattle.text.specs.declared.Script.{Script}
 use Rattle.notation.specs.declared.reply.Replied.{Replied}
 use Rattle.notation.specs.declared.open.Opened.{Opened}
 use Rattle.notation.specs.Opens.{OpenedAs}
-use Rattle.notation.specs.Replies.{Tellable, ReplyAs}
+use Rattle.printer.specs.Tells.{Tellable}
+use Rattle.notation.specs.Replies.{ReplyAs}
 
 -- THE ALPHABET'S PART of an array of 64
 module _ (xs : List ℕ) (long : length xs ≡ 64) (n : ℕ) where

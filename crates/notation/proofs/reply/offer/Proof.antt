@@ -9,7 +9,7 @@ use borrow.Author.Needs.{needs}
 use Rattle.model.specs.Calls.{offers}
 use Rattle.text.specs.Reading.{readText}
 use Rattle.text.specs.Script.{lettersOf, countsOf}
-use Rattle.notation.specs.Reads.{TextAs}
+use Rattle.reader.specs.Reads.{TextAs}
 use Rattle.notation.proofs.Laws.Replying.{in-within, in-counted}
 use Rattle.notation.proofs.Laws.Hearing.{made-tellable, made-heard, copied-length, copied-few, copied, text-read, text-within, offer-unread, offer-made}
 use Rattle.notation.proofs.reply.offer.Statement.{statement}
@@ -18,7 +18,7 @@ use Rattle.notation.proofs.reply.offer.Reads as reads
 use Rattle.notation.proofs.reply.offer.Lts as lts
 use Rattle.learner.proofs.offer.offer.Reads as offer-reads
 use Rattle.listing.proofs.put_bytes.Reads as put-bytes-reads
-use Rattle.notation.proofs.read.read_text.Reads as read-text-reads
+use Rattle.reader.proofs.read_text.Reads as read-text-reads
 use Rattle.notation.proofs.reply.letters_in.Reads as letters-in-reads
 use Rattle.notation.proofs.reply.told.Reads as told-reads
 use Rattle.notation.proofs.reply.unread.Reads as unread-reads
