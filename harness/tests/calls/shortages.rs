@@ -49,3 +49,36 @@ fn long_chain() {
     }
     met.at_least(10, [34]);
 }
+
+/// Two leaves learnt, then a chain over a third one offered.
+fn chained(rows: usize, length: usize, met: &mut Met) -> (Tables, u8) {
+    let mut tables = started(&[1, 0, 0, 0], rows);
+    for leaf in [2, 3] {
+        met.call(&mut tables, &Call::Offer(vec![leaf], 1));
+    }
+    let mut chain = vec![1];
+    chain.resize(length, 0);
+    let seen = met.call(&mut tables, &Call::Offer(chain, 1));
+    (tables, seen.number)
+}
+
+/// Calls that the first 2,048 rows are too few for, on which the library tries them: an answer that wants 2,080, and an
+/// offer that wants 3,073.
+#[test]
+fn past_the_first_rows() {
+    let mut met = Met::default();
+    let due = |rows: usize, wanted: usize| if rows < wanted { 34 } else { 0 };
+    for rows in [2_047, 2_048, 2_049, 2_079, 2_080, 2_081, 16_384] {
+        let (mut tables, _) = chained(rows, 520, &mut met);
+        assert_eq!(tables.lists.used, 1_561);
+        others(&tables, &mut met);
+        let seen = met.call(&mut tables, &Call::Answer(1));
+        assert_eq!(seen.number, due(rows, 2_080));
+    }
+    for rows in [2_048, 2_049, 3_072, 3_073, 16_384] {
+        let (tables, number) = chained(rows, 1_024, &mut met);
+        assert_eq!(number, due(rows, 3_073));
+        others(&tables, &mut met);
+    }
+    met.at_least(10, [34]);
+}
