@@ -122,28 +122,28 @@ fn ended_at(
     }
 }
 
-// With a record in hand: the search, and what its end asks for.
-fn in_hand(
-    words: &mut [u32],
+// The way down of every row, and where the search in hand ends.
+fn find(
+    words: &[u32],
     lists: Lists,
-    holes: &mut [u8; 16384],
-    head: &mut [u16; 16384],
-    next: &mut [u16; 16384],
+    holes: &[u8; 16384],
+    head: &[u16; 16384],
+    next: &[u16; 16384],
     mix: &[u32; 5],
-    table: &mut [u8; 73984],
     reps: &[u16; 16384],
-) -> Stepped
-    requires { ⌜ Stepping (now words) lists (now holes) (now head) (now next) (now mix) × (length (now table) ≡ 73984) × InHand (now words) lists (now reps) × (lists .hand ≡ 0 → ⊥) ⌝ }
-    ensures { λ r. ⌜ EndedAs (now (words .entry)) lists (advanceOf (tablesOf (now (words .entry)) lists)) r (now (words .exit)) ⌝ }
+    down: &mut [u8; 16384],
+    at: &mut [u16; 16384],
+    exchanged: &mut [u16; 16384],
+) -> Found
+    requires { ⌜ Stepping (now words) lists (now holes) (now head) (now next) (now mix) × InHand (now words) lists (now reps) × (length (now down) ≡ 16384) × (length (now at) ≡ 16384) × (length (now exchanged) ≡ 16384) ⌝ }
+    ensures { λ r. ⌜ Descended (tablesOf (now (words .entry)) lists .s) (now (reps .entry)) (tablesOf (now (words .entry)) lists .store) (now (down .exit)) (now (at .exit)) (now (exchanged .exit)) (lists .used) ⌝ }
+    ensures ended { λ r. ⌜ searchBy (tablesOf (now (words .entry)) lists .s) (now (reps .entry)) (tablesOf (now (words .entry)) lists .store) r ≡ search (tablesOf (now (words .entry)) lists .store) (tablesOf (now (words .entry)) lists .answers) (tablesOf (now (words .entry)) lists .s) (tablesOf (now (words .entry)) lists .t) (tablesOf (now (words .entry)) lists .c) (lists .hand) ⌝ }
 {
     let letters = lists.letters as usize;
     let counts = lists.counts;
     let s = lists.s;
     let t = lists.t;
     let c = lists.c;
-    let mut down = [0u8; 16384];
-    let mut at = [0u16; 16384];
-    let mut exchanged = [0u16; 16384];
     hand::descend(
         words,
         &counts[..letters],
@@ -159,11 +159,11 @@ fn in_hand(
         &c,
         lists.contexts as usize,
         reps,
-        &mut down,
-        &mut at,
-        &mut exchanged,
+        down,
+        at,
+        exchanged,
     );
-    let found = hand::search(
+    hand::search(
         words,
         &counts[..letters],
         lists.used,
@@ -178,10 +178,41 @@ fn in_hand(
         &c,
         lists.contexts as usize,
         reps,
-        &down,
-        &at,
-        &exchanged,
+        down,
+        at,
+        exchanged,
         Row(lists.hand),
+    )
+}
+
+// With a record in hand: the search, and what its end asks for.
+fn in_hand(
+    words: &mut [u32],
+    lists: Lists,
+    holes: &mut [u8; 16384],
+    head: &mut [u16; 16384],
+    next: &mut [u16; 16384],
+    mix: &[u32; 5],
+    table: &mut [u8; 73984],
+    reps: &[u16; 16384],
+) -> Stepped
+    requires { ⌜ Stepping (now words) lists (now holes) (now head) (now next) (now mix) × (length (now table) ≡ 73984) × InHand (now words) lists (now reps) × (lists .hand ≡ 0 → ⊥) ⌝ }
+    ensures { λ r. ⌜ EndedAs (now (words .entry)) lists (advanceOf (tablesOf (now (words .entry)) lists)) r (now (words .exit)) ⌝ }
+{
+    let mut down = [0u8; 16384];
+    let mut at = [0u16; 16384];
+    let mut exchanged = [0u16; 16384];
+    let found = find(
+        words,
+        lists,
+        holes,
+        head,
+        next,
+        mix,
+        reps,
+        &mut down,
+        &mut at,
+        &mut exchanged,
     );
     ended_at(
         words,
