@@ -2,7 +2,7 @@
 // that each of them fills to, from the one that its hole child fills to. Proved equal to model's answersOf.
 ghost use mathlib.Core.Path.{_≡_};
 ghost use mathlib.Core.Bool.{true};
-ghost use Prim.Native.Nat.{_*_, _-_, _<_, _≤_};
+ghost use Prim.Native.Nat.{_+_, _*_, _-_, _<_, _≤_};
 ghost use lib.ListN.{length, getD, take};
 ghost use lib.Seq.{sets};
 ghost use Rattle.model.specs.Limits.{mostContexts};
@@ -10,7 +10,7 @@ ghost use Rattle.model.specs.Store.{isContext, nextRow};
 ghost use Rattle.model.specs.Table.{answerIn, answersOf};
 ghost use Rattle.model.specs.Entry.{storeOf, answersIn};
 ghost use Rattle.bank.specs.Ready.{Ready, frameAt};
-ghost use Rattle.table.specs.Answers.{Observed};
+ghost use Rattle.table.specs.Answers.{Observed, ToGap};
 ghost use Rattle.answers.specs.Columns.{HoledRows, holeKid, Column, Answered, Contexts, Used};
 use bank::index;
 use bank::rows;
@@ -147,6 +147,45 @@ fn read_column(
     }
 }
 
+// The answers of the k-th transition at the first contexts, into the table behind those of the transitions before it.
+fn observe_row(
+    words: &[u32],
+    counts: &[u8],
+    used: u16,
+    holes: &[u8; 16384],
+    head: &[u16; 16384],
+    next: &[u16; 16384],
+    mix: &[u32; 5],
+    list: &[u16; 16384],
+    n: u16,
+    t: &[u16; 256],
+    k: usize,
+    c: &[u16; 289],
+    contexts: usize,
+    filled: &mut [u16; 16384],
+    table: &mut [u8; 73984],
+)
+    requires { ⌜ Ready (now words) (now counts) used (now holes) (now head) (now next) (now mix) × Answered (now words) used × HoledRows (now holes) used (now list) n × (length (now t) ≡ 256) × (k < 256) × (getD (now t) k 0 < used) × Contexts (storeOf (now words) (now counts) used) (now c) contexts × (length (now c) ≡ 289) × (contexts ≤ 289) × (length (now filled) ≡ 16384) × Observed (storeOf (now words) (now counts) used) (answersIn used (now words)) (now t) k (now c) contexts (now table) ⌝ }
+    ensures { λ _. ⌜ Observed (storeOf (now (words .entry)) (now (counts .entry)) used) (answersIn used (now (words .entry))) (now (t .entry)) (k + 1) (now (c .entry)) contexts (now (table .exit)) ⌝ }
+    ensures filled { λ _. ⌜ length (now (filled .exit)) ≡ 16384 ⌝ }
+{
+    let with = Row(t[k]);
+    fill_column(
+        words,
+        counts,
+        used,
+        holes,
+        head,
+        next,
+        mix,
+        list,
+        n,
+        with,
+        filled,
+    );
+    read_column(words, counts, used, with, filled, c, contexts, k, table);
+}
+
 // The answers of the first transitions at the first contexts, into the table.
 pub fn observe(
     words: &[u32],
@@ -170,8 +209,7 @@ pub fn observe(
     let n = holed_rows(used, holes, &mut list);
     let mut k = 0;
     while k < rules {
-        let with = Row(t[k]);
-        fill_column(
+        observe_row(
             words,
             counts,
             used,
@@ -181,10 +219,61 @@ pub fn observe(
             mix,
             &list,
             n,
-            with,
+            t,
+            k,
+            c,
+            contexts,
             &mut filled,
+            table,
         );
-        read_column(words, counts, used, with, &filled, c, contexts, k, table);
         k += 1;
     }
+}
+
+// The same up to the first transition with an unknown answer, if there is one: how many transitions have their answers.
+pub fn observe_to_gap(
+    words: &[u32],
+    counts: &[u8],
+    used: u16,
+    holes: &[u8; 16384],
+    head: &[u16; 16384],
+    next: &[u16; 16384],
+    mix: &[u32; 5],
+    t: &[u16; 256],
+    rules: usize,
+    c: &[u16; 289],
+    contexts: usize,
+    table: &mut [u8; 73984],
+) -> usize
+    requires { ⌜ Ready (now words) (now counts) used (now holes) (now head) (now next) (now mix) × Answered (now words) used × Used used (now t) rules × (length (now t) ≡ 256) × (rules ≤ 256) × Contexts (storeOf (now words) (now counts) used) (now c) contexts × (length (now c) ≡ 289) × (contexts ≤ 289) × (length (now table) ≡ 73984) ⌝ }
+    ensures { λ r. ⌜ ToGap (storeOf (now (words .entry)) (now (counts .entry)) used) (answersIn used (now (words .entry))) (now (t .entry)) rules (now (c .entry)) contexts (now (table .exit)) r ⌝ }
+{
+    let mut list = [0u16; 16384];
+    let mut filled = [0u16; 16384];
+    let n = holed_rows(used, holes, &mut list);
+    let mut k = 0;
+    while k < rules {
+        observe_row(
+            words,
+            counts,
+            used,
+            holes,
+            head,
+            next,
+            mix,
+            &list,
+            n,
+            t,
+            k,
+            c,
+            contexts,
+            &mut filled,
+            table,
+        );
+        if table::has_answer(table, contexts, k, 0) {
+            return k + 1;
+        }
+        k += 1;
+    }
+    rules
 }

@@ -99,7 +99,7 @@ fn propose(
     Step::Proposes(n)
 }
 
-// The table of answers worked out, then the first unknown asked, or the automaton proposed.
+// The table of answers worked out up to the first unknown, which is asked; where none is unknown, the automaton is proposed.
 pub fn settle(
     words: &mut [u32],
     counts: &[u8],
@@ -119,7 +119,7 @@ pub fn settle(
     requires { ⌜ Ready (now words) (now counts) used (now holes) (now head) (now next) (now mix) × Settling (now words) (now counts) used (now s) states (now t) rules (now c) contexts × (length (now table) ≡ 73984) ⌝ }
     ensures { λ r. ⌜ StepAs (now (words .entry)) (now (counts .entry)) used (now (s .entry)) (settled (given (now (words .entry)) (now (counts .entry)) used (now (s .entry)) states (now (t .entry)) rules (now (c .entry)) contexts 0 0 false)) r (now (words .exit)) (now (s .exit)) ⌝ }
 {
-    answers::observe(
+    let n = answers::observe_to_gap(
         words,
         counts,
         used,
@@ -133,14 +133,14 @@ pub fn settle(
         contexts,
         table,
     );
-    match table::first_unknown(table, rules, contexts) {
+    match table::first_unknown(table, n, contexts) {
         Gap::Closed => propose(words, counts, used, s, states, t, rules, c, contexts, table),
         Gap::At(k, j) => {
             let context = Row(c[j as usize]);
             let with = Row(t[k as usize]);
             match fill_context(words, counts, used, holes, head, next, mix, context, with) {
                 Grown::Full => Step::NoRows,
-                Grown::At(row, n) => Step::Asks(row, n),
+                Grown::At(row, then) => Step::Asks(row, then),
             }
         }
     }

@@ -5,4 +5,5 @@ pub mod Gap
 pub mod Growth
 pub mod Judge
 pub mod Tied
+pub mod ToGap
 pub mod Judged

@@ -63,6 +63,12 @@ pub record Observed (x : Store) (w t : List ℕ) (n : ℕ) (c : List ℕ) (m : �
   pub sized : Sized table n m
   pub rows : (k : ℕ) → k < n → rowAt table m k ≡ answersOf x w (take m c) (getD t k 0)
 
+-- the same for the first r of n transitions: all of them, or up to one with an unknown answer
+pub record ToGap (x : Store) (w t : List ℕ) (n : ℕ) (c : List ℕ) (m : ℕ) (table : List ℕ) (r : ℕ) : Type 0 where
+  pub few : r ≤ n
+  pub observed : Observed x w t r c m table
+  pub whole : gapFrom table m 0 r ≡ Gap.Closed → r ≡ n
+
 -- the first q places name the first q of S among the first n of T
 abbrev pub Placed : (t : List ℕ) → (n : ℕ) → (s : List ℕ) → (q : ℕ) → (places : List ℕ) → Type 0
 Placed t n s q ps = (i : ℕ) → i < q → (getD ps i 0 < n) × (getD t (getD ps i 0) 0 ≡ getD s i 0)

@@ -19,10 +19,11 @@ use Rattle.bank.specs.Ready.{Ready, grownRow}
 use Rattle.bank.proofs.Laws.Words.{used-of}
 use Rattle.bank.proofs.Laws.Coming.{Comes, store-room}
 use Rattle.bank.proofs.Laws.Filling.{reached}
-use Rattle.table.specs.Answers.{gapFrom, soughtBy, growAt, grownBy, Observed, Placed, rowsAt}
+use Rattle.table.specs.Answers.{gapFrom, soughtBy, growAt, grownBy, Observed, ToGap, Placed, rowsAt}
 use Rattle.table.specs.declared.Gap.{Gap}
 use Rattle.table.specs.declared.Growth.{Growth}
-use Rattle.table.proofs.Laws.Tied.{sought-tied, grown-full, grown-rows}
+use Rattle.table.proofs.Laws.Tied.{grown-full, grown-rows}
+use Rattle.table.proofs.Laws.ToGap.{sought-to-gap}
 use Rattle.observe.specs.Given.{given}
 use Rattle.undo.specs.Left.{Left}
 use Rattle.undo.proofs.Laws.Left.{left-same, left-rows}
@@ -41,8 +42,21 @@ stepped-by {ws} {ns} {u} {s} {e} {f} {r} {ws'} {s'} p t = subst (λ (d : Ended).
 -- THE TABLE looked through, up to its first gap
 pub record Looked (ws ns : List ℕ) (u : ℕ) (s : List ℕ) (q : ℕ) (t : List ℕ) (n : ℕ) (c : List ℕ) (m : ℕ) (tb : List ℕ) (p : Gap) : Type 0 where
   pub settling : Settling ws ns u s q t n c m
-  pub observed : Observed (storeOf ws ns u) (answersIn u ws) t n c m tb
-  pub gap : gapFrom tb m 0 n ≡ p
+  pub rows : ℕ
+  pub to-gap : ToGap (storeOf ws ns u) (answersIn u ws) t n c m tb rows
+  pub gap : gapFrom tb m 0 rows ≡ p
+
+-- without a gap it is the whole table
+pub whole-table : {ws ns : List ℕ} {u : ℕ} {s : List ℕ} {q : ℕ} {t : List ℕ} {n : ℕ} {c : List ℕ} {m : ℕ} {tb : List ℕ} {r : ℕ} →
+    Settling ws ns u s q t n c m → ToGap (storeOf ws ns u) (answersIn u ws) t n c m tb r → gapFrom tb m 0 r ≡ Gap.Closed →
+    Settling ws ns u s q t n c m × Observed (storeOf ws ns u) (answersIn u ws) t n c m tb × (gapFrom tb m 0 n ≡ Gap.Closed)
+whole-table {ws} {ns} {u} {t = t} {c = c} {m = m} {tb = tb} z o g =
+    let e = o .whole g in
+    (z, subst (λ (k : ℕ). Observed (storeOf ws ns u) (answersIn u ws) t k c m tb) e (o .observed), ap (gapFrom tb m 0) (sym e) ∙ g)
+
+pub looked-whole : {ws ns : List ℕ} {u : ℕ} {s : List ℕ} {q : ℕ} {t : List ℕ} {n : ℕ} {c : List ℕ} {m : ℕ} {tb : List ℕ} →
+    Settling ws ns u s q t n c m → Observed (storeOf ws ns u) (answersIn u ws) t n c m tb → gapFrom tb m 0 n ≡ Gap.Closed → Looked ws ns u s q t n c m tb Gap.Closed
+looked-whole {n = n} z o g = record { settling = z; rows = n; to-gap = record { few = omega arith; observed = o; whole = λ e. refl }; gap = g }
 
 module _ {ws ns : List ℕ} {u : ℕ} {s : List ℕ} {q : ℕ} {t : List ℕ} {n : ℕ} {c : List ℕ} {m : ℕ} {tb : List ℕ} where
   long-t : {p : Gap} → Looked ws ns u s q t n c m tb p → n ≤ length t
@@ -52,7 +66,7 @@ module _ {ws ns : List ℕ} {u : ℕ} {s : List ℕ} {q : ℕ} {t : List ℕ} {n
       settled (given ws ns u s q t n c m 0 0 false) ≡ settledBy (given ws ns u s q t n c m 0 0 false) (soughtBy t c p)
   settled-as l =
       let h : m ≤ length c = omega (arith, l .settling .c-long, l .settling .few-c) in
-      ap (settledBy (given ws ns u s q t n c m 0 0 false)) (sym (sought-tied (l .observed) (long-t l) h) ∙ ap (soughtBy t c) (l .gap))
+      ap (settledBy (given ws ns u s q t n c m 0 0 false)) (sym (sought-to-gap (l .to-gap) (long-t l) h) ∙ ap (soughtBy t c) (l .gap))
 
   -- NONE UNKNOWN: S by its places, grown
   module _ (l : Looked ws ns u s q t n c m tb Gap.Closed) (ps : List ℕ) (long : length ps ≡ 32) (placed : Placed t n s q ps) (r : Growth)
@@ -60,24 +74,29 @@ module _ {ws ns : List ℕ} {u : ℕ} {s : List ℕ} {q : ℕ} {t : List ℕ} {n
     long-s : q ≤ length s
     long-s = omega (arith, l .settling .s-long, l .settling .few-s)
 
+    observed : Observed (storeOf ws ns u) (answersIn u ws) t n c m tb
+    observed = whole-table (l .settling) (l .to-gap) (l .gap) .1
+
     long-ps : q ≤ length ps
     long-ps = omega (arith, l .settling .few-s)
 
     pub no-states : r .ok ≡ false → Stepped ws ns u s (settled (given ws ns u s q t n c m 0 0 false)) Step.NoStates ws s
     no-states f =
-        stepped-by (settled-as l ∙ ap (proposed (given ws ns u s q t n c m 0 0 false)) (grown-full (l .observed) s q ps placed long-s long-ps (long-t l) r grown f))
+        stepped-by (settled-as l ∙ ap (proposed (given ws ns u s q t n c m 0 0 false)) (grown-full observed s q ps placed long-s long-ps (long-t l) r grown f))
         (record { step = (refl, record { same-size = refl; same-rows = refl }) })
 
     pub proposes-grown : r .ok ≡ true → {s' : List ℕ} → s' ≡ over (rowsAt t (take (r .states) (r .places))) s →
         Stepped ws ns u s (settled (given ws ns u s q t n c m 0 0 false)) (Step.Proposes (r .states)) ws s'
     proposes-grown f e =
-        stepped-by (settled-as l ∙ ap (proposed (given ws ns u s q t n c m 0 0 false)) (grown-rows (l .observed) s q ps placed long-s long-ps (long-t l) r grown f))
+        stepped-by (settled-as l ∙ ap (proposed (given ws ns u s q t n c m 0 0 false)) (grown-rows observed s q ps placed long-s long-ps (long-t l) r grown f))
         (record { step = (ap Step.Proposes (sym (grown-rows-count (growAt tb m n (take q ps)) r grown f t)), left-same ws ns u, e) })
 
   -- ONE UNKNOWN: the context at place j filled with the transition at place k
   module _ {k j : ℕ} (l : Looked ws ns u s q t n c m tb (Gap.At k j)) where
     places : Within n m k j
-    places = gap-within tb n m (l .observed .sized) k j (l .gap)
+    places =
+        let w = gap-within tb (l .rows) m (l .to-gap .observed .sized) k j (l .gap) in
+        record { rule = omega (arith, w .rule, l .to-gap .few); context = w .context }
 
     pub rule-within : k < 256
     rule-within = omega (arith, places .rule, l .settling .few-t)

@@ -5,7 +5,7 @@ use borrow.Author.Needs.{needs}
 use lib.ListN.{length, take}
 use Rattle.table.specs.Answers.{growAt}
 use Rattle.settle.proofs.Laws.States.{grown-few}
-use Rattle.settle.proofs.Laws.Stepped.{no-states, proposes-grown}
+use Rattle.settle.proofs.Laws.Stepped.{looked-whole, no-states, proposes-grown}
 use Rattle.settle.proofs.propose.Statement.{statement}
 use Rattle.settle.proofs.propose.Tie as tie
 
@@ -23,7 +23,7 @@ returns c =
     let s = c .before .before .before .before .before .before .before in
     let f = c .before .before .find-places in
     let g = c .before .grow in
-    no-states (record { settling = s .pre .0; observed = s .pre .1; gap = s .pre .2 }) _ (f .ensures .0 .long) (f .ensures .1) (g .result) (g .ensures .0) (not-true (g .result .ok) (c .if1 .taken)) .step
+    no-states (looked-whole (s .pre .0) (s .pre .1) (s .pre .2)) _ (f .ensures .0 .long) (f .ensures .1) (g .result) (g .ensures .0) (not-true (g .result .ok) (c .if1 .taken)) .step
 
 cast-write-states : tie.Need-cast-write-states
 cast-write-states c = search needs
@@ -42,7 +42,7 @@ returns-2 c =
     let s = c .before .before .before .before .before .before .before .before .before .before .before in
     let f = c .before .before .before .before .before .before .find-places in
     let g = c .before .before .before .before .before .grow in
-    proposes-grown (record { settling = s .pre .0; observed = s .pre .1; gap = s .pre .2 }) _ (f .ensures .0 .long) (f .ensures .1) (g .result) (g .ensures .0) (not-false (g .result .ok) (c .before .before .before .before .if1 .left)) (c .write-states .ensures) .step
+    proposes-grown (looked-whole (s .pre .0) (s .pre .1) (s .pre .2)) _ (f .ensures .0 .long) (f .ensures .1) (g .result) (g .ensures .0) (not-false (g .result .ok) (c .before .before .before .before .if1 .left)) (c .write-states .ensures) .step
 
 pub propose-spec : {M : Type 1} → statement M
 propose-spec =

@@ -1,4 +1,4 @@
--- `settle::settle` meets its contract. The table of answers is the store's, so its first gap is the first unknown answer:
+-- `settle::settle` meets its contract. The table of answers is the store's up to its first gap, which is the first unknown answer:
 -- where there is none the proposal is `propose`'s, and else the question is the gap's context filled with its transition.
 use mathlib.Core.Path.{sym, _∙_}
 use mathlib.Core.List.{List}
@@ -9,12 +9,12 @@ use Rattle.model.specs.Store.{framesOf, fill}
 use Rattle.model.specs.Entry.{storeOf}
 use Rattle.bank.proofs.Laws.Coming.{Comes, comes-as}
 use Rattle.table.specs.declared.Gap.{Gap}
-use Rattle.settle.proofs.Laws.Stepped.{Looked, rule-within, context-within, context-used, context-holed, rule-used, no-rows, asks-filled}
+use Rattle.settle.proofs.Laws.Stepped.{Looked, whole-table, rule-within, context-within, context-used, context-holed, rule-used, no-rows, asks-filled}
 use Rattle.settle.proofs.settle.Statement.{statement}
 use Rattle.settle.proofs.settle.Tie as tie
 use Rattle.settle.proofs.settle.Reads as reads
 use Rattle.settle.proofs.settle.Lts as lts
-use Rattle.answers.proofs.observe.Reads as observe-reads
+use Rattle.answers.proofs.observe_to_gap.Reads as observe-to-gap-reads
 use Rattle.settle.proofs.fill_context.Reads as fill-context-reads
 use Rattle.settle.proofs.propose.Reads as propose-reads
 use Rattle.table.proofs.first_unknown.Reads as first-unknown-reads
@@ -22,8 +22,8 @@ use Rattle.table.proofs.first_unknown.Reads as first-unknown-reads
 -- what the calls within ask and teach, in the order of the walk
 abbrev claims : lts.Claims
 claims = (
-  observe-reads.Asked,
-  observe-reads.Learnt,
+  observe-to-gap-reads.Asked,
+  observe-to-gap-reads.Learnt,
   first-unknown-reads.Asked,
   first-unknown-reads.Learnt,
   propose-reads.Asked,
@@ -65,13 +65,13 @@ abbrev context : Open → ℕ
 context c = c .k .given .0 .1 .0
 
 abbrev table : Open → List ℕ
-table c = looked c .before .before .observe .last .1 .1 .1 .1 .1 .1 .1 .1 .1 .1 .1 .0
+table c = looked c .before .before .observe-to-gap .last .1 .1 .1 .1 .1 .1 .1 .1 .1 .1 .1 .0
 
 gap : (c : Open) →
     Looked (begun c .args .words .now) (begun c .args .counts .now) (begun c .args .used) (begun c .args .s .now) (begun c .args .states) (begun c .args .t .now) (begun c .args .rules)
     (begun c .args .c .now) (begun c .args .contexts) (table c) (Gap.At (rule c) (context c))
 gap c =
-    record { settling = begun c .pre .1; observed = looked c .before .before .observe .ensures; gap = sym (looked c .first-unknown .ensures) ∙ c .k .given .1 }
+    record { settling = begun c .pre .1; rows = looked c .before .before .observe-to-gap .result; to-gap = looked c .before .before .observe-to-gap .ensures; gap = sym (looked c .first-unknown .ensures) ∙ c .k .given .1 }
 
 -- what filling came to
 came : (c : Filled) →
@@ -83,8 +83,8 @@ came : (c : Filled) →
     (begun (found c) .args .mix .now)
 came c = record { came = c .fill-context .ensures }
 
-observe-requires : tie.Need-observe-requires
-observe-requires c κs = search needs
+observe-to-gap-requires : tie.Need-observe-to-gap-requires
+observe-to-gap-requires c κs = search needs
 
 first-unknown-requires : tie.Need-first-unknown-requires
 first-unknown-requires c κs = search needs
@@ -95,7 +95,8 @@ enum-told c = search needs
 propose-requires : tie.Need-propose-requires
 propose-requires c κs =
     let l : Seen = c .before .before .before .before .before in
-    (start l .pre .1, l .before .before .observe .ensures, sym (l .first-unknown .ensures) ∙ c .before .before .before .enum-told .given .1)
+    let o = l .before .before .observe-to-gap .ensures in
+    whole-table (start l .pre .1) o (sym (l .first-unknown .ensures) ∙ c .before .before .before .enum-told .given .1)
 
 enum-known-k : tie.Need-enum-known-k
 enum-known-k c = search needs
@@ -165,7 +166,7 @@ pub settle-spec : {M : Type 1} → statement M
 settle-spec =
     tie.close
     (tie.spec
-    observe-requires
+    observe-to-gap-requires
     first-unknown-requires
     enum-told
     propose-requires

@@ -6,6 +6,7 @@ use mathlib.Core.List.{List, [], _∷_, map}
 use mathlib.Core.Option.{Option, none, some, Option·map}
 use Prim.Native.Nat.{ℕ, zero, suc, _+_, _≤_, _<_}
 use native.Mathlib.Omega.{arith}
+use native.Mathlib.Numerals.{add-one}
 use borrow.Author.Tests.{eqb-true, eqb-false, eq-eqb, ne-eqb}
 use lib.Dec.{eqb}
 use lib.ListN.{length, getD, take, drop, length-map}
@@ -64,6 +65,27 @@ row-open (v ∷ vs) k j next = go (eqb v 0) refl (row-open vs k (suc j) next)
         isOpen (gapBy k (cond b (some j) (unknownIn vs (suc j))) next) ≡ (eqb 0 v || among 0 vs) || isOpen next
     go true e ih = rw (eq-eqb 0 v (sym (eqb-true v 0 e)))
     go false e ih = rw (ne-eqb 0 v (λ p. eqb-false v 0 e (sym p))) ih
+
+-- an unknown answer in the last row looked through is a gap
+or-true : (b : Bool) → b || true ≡ true
+or-true true = refl
+or-true false = refl
+
+open-at-last : (tb : List ℕ) (m i count : ℕ) → among 0 (rowAt tb m (i + count)) ≡ true → isOpen (gapFrom tb m i (suc count)) ≡ true
+unfolding gapFrom
+open-at-last tb m i zero e =
+    let z : i + 0 ≡ i = omega arith in
+    row-open (rowAt tb m i) i 0 Gap.Closed ∙ ap (λ (b : Bool). b || false) (ap (λ (k : ℕ). among 0 (rowAt tb m k)) (sym z) ∙ e)
+open-at-last tb m i (suc count) e =
+    let z : suc i + count ≡ i + suc count = omega arith in
+    row-open (rowAt tb m i) i 0 (gapFrom tb m (suc i) (suc count)) ∙
+    ap (λ (b : Bool). among 0 (rowAt tb m i) || b) (open-at-last tb m (suc i) count (ap (λ (k : ℕ). among 0 (rowAt tb m k)) z ∙ e)) ∙ or-true (among 0 (rowAt tb m i))
+
+pub gap-at-last : (tb : List ℕ) (m k : ℕ) → among 0 (rowAt tb m k) ≡ true → gapFrom tb m 0 (k + 1) ≡ Gap.Closed → ⊥
+gap-at-last tb m k e g =
+    let z : 0 + k ≡ k = omega arith in
+    let o = open-at-last tb m 0 k (ap (λ (j : ℕ). among 0 (rowAt tb m j)) z ∙ e) in
+    true≢false (sym o ∙ ap (λ (j : ℕ). isOpen (gapFrom tb m 0 j)) (sym (add-one k)) ∙ ap isOpen g)
 
 module _ {x : Store} {w t : List ℕ} {n : ℕ} {c : List ℕ} {m : ℕ} {tb : List ℕ} (o : Observed x w t n c m tb) where
   abbrev rows : ℕ → List ℕ
