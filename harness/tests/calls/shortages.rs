@@ -4,7 +4,7 @@ use harness::cases::compare::Met;
 use harness::cases::shortages::{others, random_run, shortages};
 use harness::targets::{one_chain, parity};
 use harness::teaching::{started, truthful};
-use oracle::testing::compare::Call;
+use oracle::testing::compare::{Call, Tables};
 use oracle::testing::random::Random;
 
 #[test]
