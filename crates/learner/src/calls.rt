@@ -1,6 +1,6 @@
 // Answers (§3.5) and acceptance (§3.6), by value: 18, 30, 31, the input, then the step; a refusal leaves words and lists as they were.
 ghost use mathlib.Core.Path.{_≡_};
-ghost use mathlib.Core.Bool.{true, false};
+ghost use mathlib.Core.Bool.{true};
 ghost use Prim.Native.Nat.{_≤_};
 ghost use lib.ListN.{length};
 ghost use Rattle.model.specs.Calls.{answers, accept as acceptCall};

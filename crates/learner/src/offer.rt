@@ -1,6 +1,6 @@
 // Offers (§3.4), by value: 18, 30, 31, 11 to 16, 32, 33, then the step; a refusal leaves words and lists as they were.
 ghost use mathlib.Core.Path.{_≡_};
-ghost use mathlib.Core.Bool.{true, false};
+ghost use mathlib.Core.Bool.{true};
 ghost use Prim.Native.Nat.{_≤_};
 ghost use lib.ListN.{length};
 ghost use Rattle.model.specs.Calls.{offers, offerFault};

@@ -1,9 +1,8 @@
 // The output line that tells what a call came to (§8.5), written over the start of the room for it.
 ghost use mathlib.Core.Path.{_≡_};
-ghost use mathlib.Core.Bool.{true};
 ghost use mathlib.Core.List.{_∷_};
 ghost use Prim.Native.Nat.{_+_, _≤_, _<_};
-ghost use lib.ListN.{length, take};
+ghost use lib.ListN.{length};
 ghost use Rattle.model.specs.Base.{over};
 ghost use Rattle.model.specs.Entry.{storeOf};
 ghost use Rattle.listing.specs.Put.{putAt};

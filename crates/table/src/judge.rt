@@ -3,7 +3,7 @@ ghost use mathlib.Core.Path.{_≡_};
 ghost use mathlib.Core.List.{map};
 ghost use Prim.Native.Nat.{ℕ, _<_, _≤_};
 ghost use lib.Dec.{eqb};
-ghost use lib.ListN.{length, getD, take, drop};
+ghost use lib.ListN.{take, drop};
 ghost use Rattle.model.specs.Base.{all, among};
 ghost use Rattle.model.specs.Sound.{differKnown, allDiffer, countSame};
 ghost use Rattle.table.specs.Answers.{rowAt, Sized, placesFrom, Placing};

@@ -5,7 +5,7 @@ use mathlib.Core.List.{List, [], _∷_, _++_}
 use Prim.Native.Nat.{ℕ}
 use Rattle.model.specs.Entry.{startNumber}
 use Rattle.model.specs.Run.{startedRun, after}
-use Rattle.text.specs.Alphabet.{Alphabet, alphabet, alphabetOf}
+use Rattle.text.specs.Alphabet.{alphabet, alphabetOf}
 use Rattle.text.specs.Lines.{Line, unreadLine, calls, lineOf}
 use Rattle.text.specs.Script.{Reply, lettersOf, countsOf, opened, heard, repliedTo, callIn, callsIn, lentOf, leftAfter}
 use Rattle.text.specs.Promise.{ScriptIsRun}

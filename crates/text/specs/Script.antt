@@ -1,9 +1,9 @@
 -- The script (§8) as a function from a line and what stands between two lines to the reply and what stands after it. Assumes nothing: these are definitions.
-use mathlib.Core.Bool.{Bool, cond}
+use mathlib.Core.Bool.{cond}
 use mathlib.Core.List.{List, [], _∷_, _++_}
-use Prim.Native.Nat.{ℕ}
+use Prim.Native.Nat.{ℕ, _*_}
 use lib.Dec.{ltb, eqb}
-use lib.ListN.{length, take, replicate}
+use lib.ListN.{take, replicate}
 use Rattle.model.specs.Limits.{rowWidth, mostSymbols}
 use Rattle.model.specs.Base.{over}
 use Rattle.model.specs.Calls.{Call}
@@ -79,7 +79,7 @@ abbrev pub freshScript : Script
 freshScript = script 0 (replicate mostSymbols 0) zeroLists
 
 abbrev pub outputOf : (input : List ℕ) → List ℕ
-outputOf bs = repliesTo (replicate 16380 0) freshScript (linesFrom [] (take mostInput bs))
+outputOf bs = repliesTo (replicate (rowWidth * scriptRows) 0) freshScript (linesFrom [] (take mostInput bs))
 
 -- A SCRIPT AS A RUN: the calls of its later lines in order, of which an unread line makes none, and the tables that lines leave
 abbrev pub callIn : Line → List Call

@@ -4,7 +4,7 @@ use mathlib.Core.List.{List, [], _∷_, _++_}
 use Prim.Native.Nat.{ℕ, suc, _<_}
 use lib.ListN.{length, getD}
 use Rattle.model.specs.Store.{Store, fold}
-use Rattle.model.specs.Terms.{Tree, tree, Forest, leaf, grove, evalTree, evalForest}
+use Rattle.model.specs.Terms.{Tree, tree, Forest, leaf, grove, evalTree}
 use Rattle.text.specs.Bytes.{comma, opening, closing, noLetter}
 
 abbrev pub letterOf : (letters : List ℕ) → (symbol : ℕ) → ℕ

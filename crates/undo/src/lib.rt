@@ -1,6 +1,5 @@
 // Refused means untouched (§5.3): the rows past the used ones belong to the host, so what they held is saved before a step and put back
 // where the step runs short.
-ghost use mathlib.Core.Path.{_≡_};
 ghost use Prim.Native.Nat.{_*_, _≤_};
 ghost use lib.ListN.{length};
 ghost use Rattle.undo.specs.Saved.{Saved, PutBack};

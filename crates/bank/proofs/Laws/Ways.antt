@@ -1,7 +1,7 @@
 -- Along an array of places the way down from a row is model's: where each entry is the place of the first child with a property,
 -- the frames are those of the way down by that property; along the marks of holes they are a context's.
 use mathlib.Core.Path.{_≡_, refl, sym, ap, subst, _∙_}
-use mathlib.Core.Bool.{Bool, true, false, cond}
+use mathlib.Core.Bool.{Bool, true}
 use mathlib.Core.List.{List, [], _∷_, _++_}
 use Prim.Native.Nat.{ℕ, zero, suc, _<_}
 use native.Mathlib.Omega.{arith}

@@ -5,7 +5,7 @@ use Prim.Native.Nat.{_-_, _≤_}
 use native.Mathlib.Omega.{arith}
 use borrow.Author.Needs.{needs}
 use borrow.Author.Tests.{not-true, not-false}
-use lib.ListN.{length, getD, take}
+use lib.ListN.{getD, take}
 use Rattle.model.specs.Base.{among, allAmong}
 use Rattle.members.proofs.Laws.{rest, all-cons, all-end}
 use Rattle.members.proofs.all_among.Statement.{statement}

@@ -3,7 +3,7 @@ use mathlib.Core.Path.{_≡_, refl, sym, _∙_}
 use Prim.Native.Nat.{_-_, _≤_}
 use native.Mathlib.Omega.{arith}
 use borrow.Author.Needs.{needs}
-use lib.ListN.{length, take}
+use lib.ListN.{take}
 use Rattle.model.specs.Base.{among}
 use Rattle.members.proofs.Laws.{rest, among-here, among-later, among-end}
 use Rattle.members.proofs.is_among.Statement.{statement}

@@ -3,7 +3,7 @@ use mathlib.Core.Path.{_≡_, refl, sym, _∙_}
 use Prim.Native.Nat.{_-_, _≤_}
 use native.Mathlib.Omega.{arith}
 use borrow.Author.Needs.{needs}
-use lib.ListN.{length, take}
+use lib.ListN.{take}
 use Rattle.model.specs.Base.{placeOf}
 use Rattle.members.proofs.Laws.{rest, place-here, place-later, place-end}
 use Rattle.members.proofs.place_of.Statement.{statement}

@@ -1,7 +1,7 @@
 -- The parts of the soundness test, one clause after the other: the first that fails settles a part, the last decides where the others hold.
 -- By rewriting the tests that have been made; S in T has a place there for each of its members.
 use mathlib.Core.Path.{_≡_, refl, sym, ap, _∙_}
-use mathlib.Core.Bool.{Bool, true, false, _&&_, _||_, not, cond}
+use mathlib.Core.Bool.{Bool, true, false, _&&_, _||_, not}
 use mathlib.Core.List.{List}
 use Prim.Native.Nat.{ℕ, _+_, _≤_, _<_}
 use native.Mathlib.Omega.{arith}
@@ -11,7 +11,6 @@ use lib.ListN.{length, getD, take, set, length-set}
 use lib.Seq.{getD-take, length-take-le, getD-set-same, getD-set-other}
 use Rattle.model.specs.Base.{In, all, allAmong, noRepeats, placeOf}
 use Rattle.model.specs.Store.{isRecord, kidsAt}
-use Rattle.model.specs.Table.{Tables}
 use Rattle.model.specs.Sound.{isT2, isT3, contextsFit}
 use Rattle.model.specs.Entry.{storeOf}
 use Rattle.model.proofs.Laws.Lists.{place-at, place-within, in-members, each-at, at-place}
@@ -21,7 +20,7 @@ use Rattle.table.specs.Answers.{Placing, Placed}
 use Rattle.bank.specs.Ready.{Ready}
 use Rattle.roles.specs.Marked.{recordBy, contextsFitBy}
 use Rattle.roles.proofs.Laws.Marked.{contexts-fit-ready}
-use Rattle.observe.specs.Given.{given, fewFit, tableFits, questionFits}
+use Rattle.observe.specs.Given.{given, fewFit, questionFits}
 
 pub and-assoc : (a b c : Bool) → a && (b && c) ≡ (a && b) && c
 and-assoc true b c = refl

@@ -1,16 +1,15 @@
 -- Whole rows, 1 to 16,384, by the length of the words; lengths within their arrays, one after the other.
 -- By the quotient and the remainder of a division by six, and one rewriting a test.
-use mathlib.Core.Path.{_≡_, refl, sym, ap, _∙_}
-use mathlib.Core.Bool.{Bool, true, false, _&&_}
+use mathlib.Core.Path.{_≡_, refl, sym}
+use mathlib.Core.Bool.{Bool, true, false}
 use mathlib.Core.List.{List}
-use Prim.Native.Nat.{ℕ, _*_, _/_, _%_, _≤_, _<_}
+use Prim.Native.Nat.{ℕ, _%_, _≤_, _<_}
 use native.Mathlib.Omega.{arith}
 use borrow.Author.Tests.{eq-eqb, ne-eqb, lt-leb, le-leb, leb-true, leb-false}
-use lib.Dec.{leb, eqb}
+use lib.Dec.{leb}
 use lib.ListN.{length}
 use Rattle.model.specs.Limits.{mostRows}
-use Rattle.model.specs.Entry.{sizeFits, rowsLent, listsFit}
-use Rattle.model.specs.declared.Lists.{Lists}
+use Rattle.model.specs.Entry.{sizeFits, rowsLent}
 
 module _ (ws : List ℕ) where
   pub not-whole : (length ws % 6 ≡ 0 → ⊥) → false ≡ sizeFits ws

@@ -1,5 +1,4 @@
 -- `observe::size_fits` meets its contract: whole rows, some, not too many.
-use native.Mathlib.Omega.{arith}
 use Rattle.observe.proofs.Laws.Sizes.{not-whole, no-row, few-rows}
 use Rattle.observe.proofs.size_fits.Statement.{statement}
 use Rattle.observe.proofs.size_fits.Tie as tie

@@ -3,12 +3,12 @@
 use mathlib.Core.Path.{_≡_, refl, sym, ap, subst, _∙_}
 use mathlib.Core.Bool.{Bool, true, false, _&&_}
 use mathlib.Core.List.{List, [], _∷_}
-use Prim.Native.Nat.{ℕ, zero, suc, _+_, _*_, _≤_, _<_}
+use Prim.Native.Nat.{ℕ, zero, suc, _+_, _≤_, _<_}
 use native.Mathlib.Omega.{arith}
-use lib.ListN.{length, getD, take, drop}
+use lib.ListN.{length, getD, drop}
 use lib.Seq.{getD-take}
 use Rattle.model.specs.Base.{all, among, allAmong}
-use Rattle.model.specs.Store.{used, symbolAt, kidsAt}
+use Rattle.model.specs.Store.{used, kidsAt}
 use Rattle.model.specs.Entry.{storeOf}
 use Rattle.model.proofs.Laws.Members.{all-fails, all-passes, all-ends}
 use Rattle.bank.specs.Rows.{symbolIn, kidIn, placesIn, Within}

@@ -1,7 +1,7 @@
 -- T4's first clauses, one after the other: the first that fails settles them, and the last decides where the others hold.
 -- The first n of the list are looked at: their length is n, and their first is the list's.
 use mathlib.Core.Path.{_≡_, refl, sym, ap, _∙_}
-use mathlib.Core.Bool.{Bool, true, false, _&&_}
+use mathlib.Core.Bool.{true, false}
 use mathlib.Core.List.{List, [], _∷_}
 use Prim.Native.Nat.{ℕ, _+_, _≤_, _<_}
 use native.Mathlib.Omega.{arith}

@@ -1,6 +1,6 @@
 -- A test of the first n of a list as a loop makes it: what is left of them decides.
 -- By the laws of a test of every member, at the list that is cut.
-use mathlib.Core.Path.{_≡_, sym, ap, _∙_}
+use mathlib.Core.Path.{_≡_, ap, _∙_}
 use mathlib.Core.Bool.{Bool, true, false, _&&_}
 use mathlib.Core.List.{List}
 use Prim.Native.Nat.{ℕ, _+_, _≤_, _<_}

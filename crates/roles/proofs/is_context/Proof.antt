@@ -1,8 +1,6 @@
 -- `roles::is_context` meets its contract: a row that is used is judged by its mark.
-use mathlib.Core.Path.{_∙_, ap}
-use mathlib.Core.Bool.{not}
+use mathlib.Core.Path.{_∙_}
 use borrow.Author.Needs.{needs}
-use native.Mathlib.Omega.{arith}
 use Rattle.roles.proofs.Laws.Scan.{past, within}
 use Rattle.roles.proofs.is_context.Statement.{statement}
 use Rattle.roles.proofs.is_context.Tie as tie

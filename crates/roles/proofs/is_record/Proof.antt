@@ -2,7 +2,6 @@
 use mathlib.Core.Path.{_∙_, ap}
 use mathlib.Core.Bool.{not}
 use borrow.Author.Needs.{needs}
-use native.Mathlib.Omega.{arith}
 use Rattle.roles.proofs.Laws.Scan.{past, within}
 use Rattle.roles.proofs.is_record.Statement.{statement}
 use Rattle.roles.proofs.is_record.Tie as tie

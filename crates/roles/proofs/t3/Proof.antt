@@ -1,5 +1,5 @@
 -- `roles::t3` meets its contract: both tests in their order.
-use mathlib.Core.Path.{_≡_, sym, _∙_}
+use mathlib.Core.Path.{sym, _∙_}
 use borrow.Author.Needs.{needs}
 use borrow.Author.Tests.{not-true, not-false}
 use Rattle.roles.proofs.Laws.Scan.{stops, goes-on}

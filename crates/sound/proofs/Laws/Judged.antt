@@ -1,26 +1,23 @@
 -- T4's last clause and T5 to T8 by what has been worked out are model's; and so the two parts make the soundness test.
 -- The table of answers, the places of S, the marks and the hypothesis say of the tables given what the definitions say.
-use mathlib.Core.Path.{_≡_, refl, sym, ap, subst, _∙_}
-use mathlib.Core.Bool.{Bool, true, false, _&&_, _||_, not, cond, true≢false}
-use mathlib.Core.List.{List, map}
-use Prim.Native.Nat.{ℕ, _+_, _≤_, _<_}
+use mathlib.Core.Path.{_≡_, refl, sym, ap, _∙_}
+use mathlib.Core.Bool.{Bool, true, false, _&&_, _||_, not, cond}
+use mathlib.Core.List.{List}
+use Prim.Native.Nat.{ℕ, _+_, _≤_}
 use native.Mathlib.Omega.{arith}
 use borrow.Author.Tests.{ltb-true}
 use lib.Dec.{ltb, leb, eqb}
-use lib.ListN.{length, getD, take}
+use lib.ListN.{length, take}
 use lib.Seq.{length-take-le}
 use Rattle.model.specs.Limits.{mostRows}
-use Rattle.model.specs.Base.{Distinct}
 use Rattle.model.specs.Store.{used, isRecord}
 use Rattle.model.specs.Automata.{acceptsRow}
-use Rattle.model.specs.Table.{Tables, size, answerAt, answersOf, isMissing, automatonOf}
-use Rattle.model.specs.Sound.{isT1, isT2, isT3, isT4, contextsFit, contextsFew, isT5, isT6, isT7, isT8, isSound, verdictDiffers}
-use Rattle.model.specs.TableFacts.{Shaped, Held}
+use Rattle.model.specs.Table.{Tables, answerAt, answersOf, isMissing, automatonOf}
+use Rattle.model.specs.Sound.{isT1, isT2, isT3, contextsFit, contextsFew, isT5, isT6, isT7, isT8, isSound, verdictDiffers}
 use Rattle.model.specs.Entry.{storeOf, answersIn}
-use Rattle.model.proofs.Laws.Tests.{both-true, and-left, and-right}
+use Rattle.model.proofs.Laws.Tests.{and-left, and-right}
 use Rattle.model.proofs.Laws.ReflectTable.{held-of, known-of, shaped-of}
 use Rattle.bank.specs.Rows.{answerIn}
-use Rattle.bank.specs.Ready.{Ready}
 use Rattle.bank.proofs.Laws.Words.{used-of, answer-in}
 use Rattle.table.specs.Answers.{gapFrom, isOpen}
 use Rattle.table.proofs.Laws.Tied.{missing-tied}

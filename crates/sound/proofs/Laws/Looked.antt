@@ -1,12 +1,11 @@
 -- Looking, line by line: 18, 30, then what looking tells; and what it tells of lists within their arrays.
 -- Each line that does not apply leaves the rest to decide; the counts are the lengths of S, T and C.
-use mathlib.Core.Path.{_≡_, refl, sym, ap, _∙_}
+use mathlib.Core.Path.{_≡_, sym, ap}
 use mathlib.Core.Bool.{Bool, true, false, not, cond}
 use mathlib.Core.List.{List}
 use Prim.Native.Nat.{ℕ, _≤_}
 use borrow.Author.Tests.{eq-eqb, ne-eqb}
-use lib.Dec.{eqb}
-use lib.ListN.{length, take}
+use lib.ListN.{length}
 use lib.Seq.{length-take-le}
 use Rattle.model.specs.Sound.{isSound}
 use Rattle.model.specs.Calls.{Outcome, refuses, leaves, looks, look, phaseOf}

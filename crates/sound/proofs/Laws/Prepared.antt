@@ -3,24 +3,24 @@
 use mathlib.Core.Path.{_≡_, refl, sym, ap, subst, _∙_}
 use mathlib.Core.Bool.{Bool, true, false, _&&_, true≢false}
 use mathlib.Core.List.{List}
-use Prim.Native.Nat.{ℕ, _+_, _≤_, _<_}
+use Prim.Native.Nat.{ℕ, _+_, _≤_}
 use native.Mathlib.Omega.{arith}
 use lib.Dec.{ltb, leb, eqb}
 use lib.ListN.{length, getD, take}
 use lib.Seq.{getD-take, length-take-le}
 use Rattle.model.specs.Limits.{mostRules, mostStates}
-use Rattle.model.specs.Base.{In, all, allAmong, noRepeats}
+use Rattle.model.specs.Base.{all, allAmong, noRepeats}
 use Rattle.model.specs.Store.{used, kidsAt, isRecord, isContext}
 use Rattle.model.specs.Table.{Tables, size}
-use Rattle.model.specs.Sound.{isT1, isT2, isT3, contextsFit, isSound}
+use Rattle.model.specs.Sound.{isT1, isT2, isT3, contextsFit}
 use Rattle.model.specs.Entry.{storeOf}
-use Rattle.model.proofs.Laws.Tests.{both-true, and-left, and-right, all-getD}
+use Rattle.model.proofs.Laws.Tests.{and-left, and-right, all-getD}
 use Rattle.model.proofs.Laws.ReflectRows.{rows-of}
 use Rattle.model.proofs.Laws.ReflectLists.{record-of}
 use Rattle.bank.proofs.Laws.Words.{used-of, answer-in}
 use Rattle.answers.specs.Columns.{Answered, Contexts, Used}
 use Rattle.observe.specs.Given.{given, rolesFit}
-use Rattle.sound.specs.Working.{Arrays, preparedFit}
+use Rattle.sound.specs.Working.{Arrays}
 
 -- the second and the third of four or of five tests
 middle : (a b c d : Bool) → ((a && b) && c) && d ≡ true → (b ≡ true) × (c ≡ true)

@@ -1,10 +1,9 @@
 -- `sound::hand_fits` meets its contract, clause by clause.
-use mathlib.Core.Path.{_≡_, refl, sym, ap, subst, _∙_}
-use mathlib.Core.Bool.{Bool, true, false, _&&_, true≢false}
+use mathlib.Core.Path.{sym, _∙_}
 use native.Mathlib.Omega.{arith}
 use borrow.Author.Tests.{not-true, not-false}
 use borrow.Author.Needs.{needs}
-use borrow.Author.Tests.{eq-eqb, ne-eqb, ltb-true}
+use borrow.Author.Tests.{ltb-true}
 use Rattle.model.proofs.Laws.Tests.{and-left}
 use Rattle.sound.proofs.Laws.Hand.{none-in-hand, no-record, answer-missing, hand-accepted, hand-rejected}
 use Rattle.sound.proofs.hand_fits.Statement.{statement}

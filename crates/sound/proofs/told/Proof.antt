@@ -1,11 +1,9 @@
 -- `sound::told` meets its contract: the phase case by case; the counts are lengths.
-use mathlib.Core.Path.{_≡_, refl, sym, ap, subst, _∙_}
-use mathlib.Core.Bool.{Bool, true, false, _&&_, true≢false}
+use mathlib.Core.Path.{_≡_, _∙_}
 use native.Mathlib.Omega.{arith}
-use borrow.Author.Tests.{not-true, not-false}
 use mathlib.Core.Logic.{⊎-elim}
 use borrow.Author.Needs.{needs, length-unmapped}
-use Prim.Native.Nat.{ℕ, _≤_}
+use Prim.Native.Nat.{ℕ}
 use lib.ListN.{length}
 use Rattle.model.proofs.Laws.Lent.{listsFit-facts}
 use Rattle.sound.proofs.Laws.Looked.{told-is, phase-accepted, phase-asking, phase-proposing}

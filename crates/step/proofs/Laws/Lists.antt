@@ -1,18 +1,17 @@
 -- Lists that mean tables: what they mean with words that hold the tables' rows; lists made in two steps are made in one; rows kept in two steps.
 -- The places past an end keep what they held, and ends only move outwards.
-use mathlib.Core.Path.{_≡_, refl, sym, ap, subst, _∙_}
-use mathlib.Core.Bool.{Bool, true, false}
+use mathlib.Core.Path.{_≡_, sym, ap, _∙_}
 use mathlib.Core.List.{List, _++_}
-use Prim.Native.Nat.{ℕ, _+_, _*_, _-_, _≤_, _<_}
+use Prim.Native.Nat.{ℕ, _+_, _*_, _-_, _≤_}
 use native.Mathlib.Omega.{arith}
-use lib.ListN.{length, getD, take, drop}
+use lib.ListN.{length, take, drop}
 use lib.Seq.{drop-drop, drop-append-add, take-take}
 use Rattle.model.specs.Limits.{rowWidth}
 use Rattle.model.specs.Base.{over}
-use Rattle.model.specs.Store.{Store, used}
+use Rattle.model.specs.Store.{used}
 use Rattle.model.specs.Table.{Tables}
 use Rattle.model.specs.TableFacts.{Core}
-use Rattle.model.specs.Entry.{storeOf, answersIn, tablesOf, listsOf}
+use Rattle.model.specs.Entry.{storeOf, tablesOf, listsOf}
 use Rattle.model.specs.declared.Lists.{Lists}
 use Rattle.model.proofs.Laws.Lent.{take-over, flag-back}
 use Rattle.bank.specs.Ready.{Kept}

@@ -1,7 +1,7 @@
 -- T5 and T6 by places are model's by rows: representatives that differ, a yes for each transition, one representative with its row.
 -- Each row of the table is a row of answers (Observed), and the places name S (Placed); by induction on what is left of T.
 use mathlib.Core.Path.{_≡_, refl, sym, ap, _∙_}
-use mathlib.Core.Bool.{Bool, _&&_}
+use mathlib.Core.Bool.{Bool}
 use mathlib.Core.List.{List, [], _∷_, map}
 use Prim.Native.Nat.{ℕ, zero, suc, _+_, _≤_, _<_}
 use native.Mathlib.Omega.{arith}
@@ -13,7 +13,7 @@ use Rattle.model.specs.Sound.{allDiffer, countSame}
 use Rattle.model.specs.Store.{Store}
 use Rattle.model.specs.Table.{answersOf}
 use Rattle.model.proofs.Laws.Lists.{map-below}
-use Rattle.table.specs.Answers.{rowAt, placesFrom, Observed, Placed, rowsAt}
+use Rattle.table.specs.Answers.{rowAt, placesFrom, Observed, Placed}
 use Rattle.table.proofs.Laws.Tied.{placed-below, placed-rows}
 
 -- a test of every place is one of every member of T

@@ -1,15 +1,13 @@
 -- Steps leave words that the definitions name: one after the other, with rows added, with an answer set.
 -- Words are their used rows, which are read back as nodes and answers, and what stands behind them.
 use mathlib.Core.Path.{_≡_, refl, sym, ap, subst, _∙_}
-use mathlib.Core.Bool.{Bool}
 use mathlib.Core.List.{List, [], _∷_, _++_}
-use Prim.Native.Nat.{ℕ, zero, suc, _+_, _*_, _-_, _/_, _≤_, _<_}
+use Prim.Native.Nat.{ℕ, _+_, _*_, _-_, _/_, _≤_, _<_}
 use native.Mathlib.Omega.{arith}
 use lib.ListN.{length, getD, take, drop, set, replicate, length-set, length-drop, take-append-drop}
 use lib.Seq.{drop-drop, getD-drop, getD-set-other, getD-set-same, ext-getD, length-take-le}
 use Rattle.model.specs.Limits.{rowWidth, mostRows}
-use Rattle.model.specs.Base.{over}
-use Rattle.model.specs.Store.{Node, Store, holeNode, used, nodeAt, Extends}
+use Rattle.model.specs.Store.{Store, holeNode, used, nodeAt, Extends}
 use Rattle.model.specs.Table.{Tables}
 use Rattle.model.specs.Steps.{blanked}
 use Rattle.model.specs.Entry.{storeOf, nodesIn, answersIn, rowWords, wordsOf}

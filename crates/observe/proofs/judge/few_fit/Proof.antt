@@ -1,6 +1,5 @@
 -- `observe::judge::few_fit` meets its contract, case by case.
 use borrow.Author.Needs.{needs}
-use borrow.Author.Tests.{not-true, not-false}
 use Rattle.observe.proofs.Laws.Parts.{few-none, few-some}
 use Rattle.observe.proofs.judge.few_fit.Statement.{statement}
 use Rattle.observe.proofs.judge.few_fit.Tie as tie

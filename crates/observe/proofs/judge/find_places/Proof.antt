@@ -1,10 +1,9 @@
 -- `observe::judge::find_places` meets its contract. The invariant: the first i members of S have their places.
-use mathlib.Core.Path.{_≡_, sym, ap, subst, _∙_}
-use mathlib.Core.List.{List}
-use Prim.Native.Nat.{ℕ, _+_, _-_, _≤_, _<_}
+use mathlib.Core.Path.{sym, subst}
+use Prim.Native.Nat.{ℕ, _+_, _-_}
 use native.Mathlib.Omega.{arith}
 use borrow.Author.Needs.{needs}
-use lib.ListN.{length, getD, take, set}
+use lib.ListN.{set}
 use Rattle.observe.proofs.Laws.Parts.{Finding, place-found, place-next, places-found, places-none}
 use Rattle.observe.proofs.judge.find_places.Statement.{statement}
 use Rattle.observe.proofs.judge.find_places.Tie as tie

@@ -4,7 +4,6 @@ use native.Mathlib.Omega.{arith}
 use borrow.Author.Tests.{not-true, not-false, ltb-true}
 use borrow.Author.Needs.{needs}
 use Rattle.model.proofs.Laws.Tests.{and-left}
-use Rattle.roles.specs.Marked.{recordBy}
 use Rattle.observe.proofs.Laws.Parts.{hand-idle, none-open, no-question, known-question, open-question}
 use Rattle.observe.proofs.judge.question_fits.Statement.{statement}
 use Rattle.observe.proofs.judge.question_fits.Tie as tie

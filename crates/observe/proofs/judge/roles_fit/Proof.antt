@@ -1,5 +1,5 @@
 -- `observe::judge::roles_fit` meets its contract: T2, T3, then T4's first clauses, by the laws of roles.
-use mathlib.Core.Path.{_≡_, sym, _∙_}
+use mathlib.Core.Path.{sym, _∙_}
 use native.Mathlib.Omega.{arith}
 use borrow.Author.Tests.{not-true, not-false}
 use borrow.Author.Needs.{needs}

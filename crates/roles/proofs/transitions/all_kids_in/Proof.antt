@@ -1,12 +1,12 @@
 -- `roles::transitions::all_kids_in` meets its contract. The invariant: what is left of T decides.
 use mathlib.Core.Path.{_≡_, refl, sym, _∙_}
-use mathlib.Core.Bool.{Bool, true}
+use mathlib.Core.Bool.{Bool}
 use mathlib.Core.List.{List}
-use Prim.Native.Nat.{ℕ, _-_, _≤_, _<_}
+use Prim.Native.Nat.{ℕ, _-_, _≤_}
 use native.Mathlib.Omega.{arith}
 use borrow.Author.Needs.{needs}
 use borrow.Author.Tests.{not-true, not-false}
-use lib.ListN.{length, getD, take, drop}
+use lib.ListN.{take, drop}
 use Rattle.model.specs.Base.{all, allAmong}
 use Rattle.model.specs.Store.{kidsAt}
 use Rattle.model.specs.Entry.{storeOf}

@@ -1,12 +1,11 @@
 -- `roles::transitions::kids_in` meets its contract. The invariant: the children from place k on decide.
 -- By the laws of Children: one that is not in S settles it, one that is leaves the rest to decide.
 use mathlib.Core.Path.{_≡_, refl, sym, ap, _∙_}
-use mathlib.Core.Bool.{Bool}
-use Prim.Native.Nat.{ℕ, _-_, _≤_, _<_}
+use Prim.Native.Nat.{ℕ, _-_, _≤_}
 use native.Mathlib.Omega.{arith}
 use borrow.Author.Needs.{needs}
 use borrow.Author.Tests.{not-true, not-false}
-use lib.ListN.{length, getD, take, drop}
+use lib.ListN.{getD, take, drop}
 use Rattle.model.specs.Base.{all, among}
 use Rattle.model.specs.Store.{kidsAt}
 use Rattle.model.specs.Entry.{storeOf}

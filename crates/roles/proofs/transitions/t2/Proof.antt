@@ -1,7 +1,6 @@
 -- `roles::transitions::t2` meets its contract: the three tests in their order.
 -- Over a record table that is ready, rows without the mark of a hole are records.
-use mathlib.Core.Path.{_≡_, sym, ap, _∙_}
-use mathlib.Core.Bool.{Bool, _&&_}
+use mathlib.Core.Path.{sym, _∙_}
 use lib.ListN.{take}
 use borrow.Author.Tests.{not-true, not-false}
 use Rattle.roles.proofs.Laws.Scan.{stops, goes-on}

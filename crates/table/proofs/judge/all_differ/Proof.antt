@@ -1,12 +1,12 @@
 -- `table::judge::all_differ` meets its contract. The invariant: the representatives from q on decide.
 -- By the laws of Judge: one that is like a later one settles it, another leaves the rest to decide.
-use mathlib.Core.Path.{_≡_, refl, sym, ap, _∙_}
-use mathlib.Core.List.{List, map}
-use Prim.Native.Nat.{ℕ, _+_, _-_, _≤_, _<_}
+use mathlib.Core.Path.{_≡_, refl, sym, _∙_}
+use mathlib.Core.List.{map}
+use Prim.Native.Nat.{_-_, _≤_}
 use native.Mathlib.Omega.{arith}
 use borrow.Author.Needs.{needs}
 use borrow.Author.Tests.{not-true, not-false}
-use lib.ListN.{length, getD, take, drop}
+use lib.ListN.{take, drop}
 use Rattle.model.specs.Sound.{allDiffer}
 use Rattle.table.specs.Answers.{rowAt}
 use Rattle.table.proofs.Laws.Judge.{two-alike, differs-later, differ-all}

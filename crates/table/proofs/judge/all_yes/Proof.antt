@@ -1,13 +1,11 @@
 -- `table::judge::all_yes` meets its contract. The invariant: the transitions from k on decide.
 -- By the laws of Judge: one without a yes settles it, one with a yes leaves the rest to decide.
-use mathlib.Core.Path.{_≡_, refl, sym, ap, _∙_}
-use mathlib.Core.Bool.{Bool}
-use Prim.Native.Nat.{ℕ, _-_, _≤_, _<_}
+use mathlib.Core.Path.{_≡_, sym, ap, _∙_}
+use Prim.Native.Nat.{ℕ, _-_, _≤_}
 use native.Mathlib.Nat.{sub-zero}
 use native.Mathlib.Omega.{arith}
 use borrow.Author.Needs.{needs}
 use borrow.Author.Tests.{not-true, not-false}
-use lib.ListN.{length}
 use Rattle.model.specs.Base.{all, among}
 use Rattle.table.specs.Answers.{rowAt, placesFrom}
 use Rattle.table.proofs.Laws.Rows.{sized-whole}

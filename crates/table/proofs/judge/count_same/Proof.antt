@@ -1,13 +1,12 @@
 -- `table::judge::count_same` meets its contract. The invariant: those counted so far and those left make all of them.
 -- By the laws of Judge: an equal row counts one, another none.
-use mathlib.Core.Path.{_≡_, refl, sym, ap, _∙_}
+use mathlib.Core.Path.{_≡_, sym, _∙_}
 use mathlib.Core.Logic.{⊎-elim}
-use mathlib.Core.List.{List, map}
-use Prim.Native.Nat.{ℕ, _+_, _-_, _≤_, _<_}
+use mathlib.Core.List.{map}
+use Prim.Native.Nat.{_+_, _-_, _≤_, _<_}
 use native.Mathlib.Omega.{arith}
 use borrow.Author.Needs.{needs}
-use borrow.Author.Tests.{not-true, not-false}
-use lib.ListN.{length, getD, take, drop}
+use lib.ListN.{take, drop}
 use Rattle.model.specs.Sound.{countSame}
 use Rattle.table.specs.Answers.{rowAt}
 use Rattle.table.proofs.Laws.Judge.{counts-one, counts-none, counts-end}

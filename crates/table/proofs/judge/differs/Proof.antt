@@ -1,13 +1,12 @@
 -- `table::judge::differs` meets its contract. The invariant: the representatives from q on decide.
 -- By the laws of Judge: one that is alike settles it, another leaves the rest to decide.
-use mathlib.Core.Path.{_≡_, refl, sym, ap, _∙_}
-use mathlib.Core.Bool.{Bool}
-use mathlib.Core.List.{List, map}
-use Prim.Native.Nat.{ℕ, _+_, _-_, _≤_, _<_}
+use mathlib.Core.Path.{_≡_, refl, sym, _∙_}
+use mathlib.Core.List.{map}
+use Prim.Native.Nat.{_-_, _≤_}
 use native.Mathlib.Omega.{arith}
 use borrow.Author.Needs.{needs}
 use borrow.Author.Tests.{not-true, not-false}
-use lib.ListN.{length, getD, take, drop}
+use lib.ListN.{take, drop}
 use Rattle.model.specs.Base.{all}
 use Rattle.model.specs.Sound.{differKnown}
 use Rattle.table.specs.Answers.{rowAt}
