@@ -6,11 +6,12 @@ ghost use Prim.Native.Nat.{_+_, _*_, _-_, _<_, _≤_};
 ghost use lib.ListN.{length, getD, take};
 ghost use lib.Seq.{sets};
 ghost use Rattle.model.specs.Limits.{mostContexts};
+ghost use Rattle.model.specs.Base.{among};
 ghost use Rattle.model.specs.Store.{isContext, nextRow};
 ghost use Rattle.model.specs.Table.{answerIn, answersOf};
 ghost use Rattle.model.specs.Entry.{storeOf, answersIn};
 ghost use Rattle.bank.specs.Ready.{Ready, frameAt};
-ghost use Rattle.table.specs.Answers.{Observed, ToGap};
+ghost use Rattle.table.specs.Answers.{rowAt, Observed, KnownRows, ToGap};
 ghost use Rattle.answers.specs.Columns.{HoledRows, holeKid, Column, Answered, Contexts, Used};
 use bank::index;
 use bank::rows;
@@ -168,6 +169,7 @@ fn observe_row(
     requires { ⌜ Ready (now words) (now counts) used (now holes) (now head) (now next) (now mix) × Answered (now words) used × HoledRows (now holes) used (now list) n × (length (now t) ≡ 256) × (k < 256) × (getD (now t) k 0 < used) × Contexts (storeOf (now words) (now counts) used) (now c) contexts × (length (now c) ≡ 289) × (contexts ≤ 289) × (length (now filled) ≡ 16384) × Observed (storeOf (now words) (now counts) used) (answersIn used (now words)) (now t) k (now c) contexts (now table) ⌝ }
     ensures { λ _. ⌜ Observed (storeOf (now (words .entry)) (now (counts .entry)) used) (answersIn used (now (words .entry))) (now (t .entry)) (k + 1) (now (c .entry)) contexts (now (table .exit)) ⌝ }
     ensures filled { λ _. ⌜ length (now (filled .exit)) ≡ 16384 ⌝ }
+    ensures row { λ _. ⌜ now (table .exit) ≡ sets (now (table .entry)) (mostContexts * k) (answersOf (storeOf (now (words .entry)) (now (counts .entry)) used) (answersIn used (now (words .entry))) (take contexts (now (c .entry))) (getD (now (t .entry)) k 0)) ⌝ }
 {
     let with = Row(t[k]);
     fill_column(
@@ -230,7 +232,53 @@ pub fn observe(
     }
 }
 
+// The k-th row of the table, worked out again if it has an unknown answer, and else as it is: whether it has one then.
+fn update_row(
+    words: &[u32],
+    counts: &[u8],
+    used: u16,
+    holes: &[u8; 16384],
+    head: &[u16; 16384],
+    next: &[u16; 16384],
+    mix: &[u32; 5],
+    list: &[u16; 16384],
+    n: u16,
+    t: &[u16; 256],
+    rules: usize,
+    k: usize,
+    c: &[u16; 289],
+    contexts: usize,
+    filled: &mut [u16; 16384],
+    table: &mut [u8; 73984],
+) -> bool
+    requires { ⌜ Ready (now words) (now counts) used (now holes) (now head) (now next) (now mix) × Answered (now words) used × HoledRows (now holes) used (now list) n × (length (now t) ≡ 256) × (k < rules) × (getD (now t) k 0 < used) × Contexts (storeOf (now words) (now counts) used) (now c) contexts × (length (now c) ≡ 289) × (length (now filled) ≡ 16384) × Observed (storeOf (now words) (now counts) used) (answersIn used (now words)) (now t) k (now c) contexts (now table) × KnownRows (storeOf (now words) (now counts) used) (answersIn used (now words)) (now t) rules (now c) contexts (now table) ⌝ }
+    ensures { λ r. ⌜ Observed (storeOf (now (words .entry)) (now (counts .entry)) used) (answersIn used (now (words .entry))) (now (t .entry)) (k + 1) (now (c .entry)) contexts (now (table .exit)) × KnownRows (storeOf (now (words .entry)) (now (counts .entry)) used) (answersIn used (now (words .entry))) (now (t .entry)) rules (now (c .entry)) contexts (now (table .exit)) × (length (now (filled .exit)) ≡ 16384) × (r ≡ among 0 (rowAt (now (table .exit)) contexts k)) ⌝ }
+{
+    if !table::has_answer(table, contexts, k, 0) {
+        return false;
+    }
+    observe_row(
+        words,
+        counts,
+        used,
+        holes,
+        head,
+        next,
+        mix,
+        list,
+        n,
+        t,
+        k,
+        c,
+        contexts,
+        filled,
+        table,
+    );
+    table::has_answer(table, contexts, k, 0)
+}
+
 // The same up to the first transition with an unknown answer, if there is one: how many transitions have their answers.
+// In the table lent a row without an unknown answer is right, and stays as it is.
 pub fn observe_to_gap(
     words: &[u32],
     counts: &[u8],
@@ -245,7 +293,7 @@ pub fn observe_to_gap(
     contexts: usize,
     table: &mut [u8; 73984],
 ) -> usize
-    requires { ⌜ Ready (now words) (now counts) used (now holes) (now head) (now next) (now mix) × Answered (now words) used × Used used (now t) rules × (length (now t) ≡ 256) × (rules ≤ 256) × Contexts (storeOf (now words) (now counts) used) (now c) contexts × (length (now c) ≡ 289) × (contexts ≤ 289) × (length (now table) ≡ 73984) ⌝ }
+    requires { ⌜ Ready (now words) (now counts) used (now holes) (now head) (now next) (now mix) × Answered (now words) used × Used used (now t) rules × (length (now t) ≡ 256) × (rules ≤ 256) × Contexts (storeOf (now words) (now counts) used) (now c) contexts × (length (now c) ≡ 289) × (contexts ≤ 289) × KnownRows (storeOf (now words) (now counts) used) (answersIn used (now words)) (now t) rules (now c) contexts (now table) ⌝ }
     ensures { λ r. ⌜ ToGap (storeOf (now (words .entry)) (now (counts .entry)) used) (answersIn used (now (words .entry))) (now (t .entry)) rules (now (c .entry)) contexts (now (table .exit)) r ⌝ }
 {
     let mut list = [0u16; 16384];
@@ -253,7 +301,7 @@ pub fn observe_to_gap(
     let n = holed_rows(used, holes, &mut list);
     let mut k = 0;
     while k < rules {
-        observe_row(
+        if update_row(
             words,
             counts,
             used,
@@ -264,13 +312,13 @@ pub fn observe_to_gap(
             &list,
             n,
             t,
+            rules,
             k,
             c,
             contexts,
             &mut filled,
             table,
-        );
-        if table::has_answer(table, contexts, k, 0) {
+        ) {
             return k + 1;
         }
         k += 1;

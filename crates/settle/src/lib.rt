@@ -8,7 +8,7 @@ ghost use Rattle.model.specs.Store.{hasHole, framesOf, fill};
 ghost use Rattle.model.specs.Steps.{settled};
 ghost use Rattle.model.specs.Entry.{storeOf, answersIn};
 ghost use Rattle.bank.specs.Ready.{Ready, Came};
-ghost use Rattle.table.specs.Answers.{Observed, gapFrom, rowsAt};
+ghost use Rattle.table.specs.Answers.{Observed, KnownRows, gapFrom, rowsAt};
 ghost use Rattle.observe.specs.Given.{given};
 ghost use Rattle.settle.specs.Settled.{Settling, StepAs};
 use bank::add;
@@ -100,6 +100,7 @@ fn propose(
 }
 
 // The table of answers worked out up to the first unknown, which is asked; where none is unknown, the automaton is proposed.
+// In the table lent rows without an unknown answer are right.
 pub fn settle(
     words: &mut [u32],
     counts: &[u8],
@@ -116,7 +117,7 @@ pub fn settle(
     contexts: usize,
     table: &mut [u8; 73984],
 ) -> Step
-    requires { ⌜ Ready (now words) (now counts) used (now holes) (now head) (now next) (now mix) × Settling (now words) (now counts) used (now s) states (now t) rules (now c) contexts × (length (now table) ≡ 73984) ⌝ }
+    requires { ⌜ Ready (now words) (now counts) used (now holes) (now head) (now next) (now mix) × Settling (now words) (now counts) used (now s) states (now t) rules (now c) contexts × KnownRows (storeOf (now words) (now counts) used) (answersIn used (now words)) (now t) rules (now c) contexts (now table) ⌝ }
     ensures { λ r. ⌜ StepAs (now (words .entry)) (now (counts .entry)) used (now (s .entry)) (settled (given (now (words .entry)) (now (counts .entry)) used (now (s .entry)) states (now (t .entry)) rules (now (c .entry)) contexts 0 0 false)) r (now (words .exit)) (now (s .exit)) ⌝ }
 {
     let n = answers::observe_to_gap(

@@ -12,6 +12,7 @@ use Rattle.model.specs.TableFacts.{Whole, HandFits}
 use Rattle.model.specs.Entry.{listsFit, tablesOf, listsOf}
 use Rattle.model.specs.declared.Lists.{Lists}
 use Rattle.bank.specs.Ready.{Ready, Kept}
+use Rattle.table.specs.Answers.{KnownRows}
 use Rattle.undo.specs.Left.{Left}
 use Rattle.hand.specs.Spots.{Handling}
 use Rattle.step.specs.declared.finish.Stepped.{Stepped}
@@ -32,6 +33,10 @@ pub record Stepping (words : List ℕ) (l : Lists) (holes head next mix : List �
   pub ready : Ready words (countsIn l) (l .used) holes head next mix
   pub orderly : Orderly (tablesOf words l)
   pub fit : listsFit l ≡ true
+
+-- with nothing in hand: a table of answers whose rows without an unknown answer are right
+abbrev pub KnownTable : (words : List ℕ) → Lists → (table : List ℕ) → Type 0
+KnownTable ws l tb = KnownRows (tablesOf ws l .store) (tablesOf ws l .answers) (l .t) (l .rules) (l .c) (l .contexts) tb
 
 -- and with a record in hand: no answer missing, room for a context, the representatives
 pub record InHand (words : List ℕ) (l : Lists) (reps : List ℕ) : Type 0 where

@@ -7,7 +7,7 @@ ghost use Rattle.model.specs.Steps.{advance as advanceOf, search, searched, atN
 ghost use Rattle.model.specs.Entry.{tablesOf};
 ghost use Rattle.bank.specs.Ready.{pathOf};
 ghost use Rattle.hand.specs.Spots.{Descended, searchBy};
-ghost use Rattle.step.specs.Stepping.{Stepping, InHand, EndedAs, withRule};
+ghost use Rattle.step.specs.Stepping.{Stepping, KnownTable, InHand, EndedAs, withRule};
 use crate::finish;
 use crate::finish::Stepped;
 use crate::putdown;
@@ -230,7 +230,7 @@ fn in_hand(
     )
 }
 
-// A step.
+// A step. With nothing in hand, rows of the table without an unknown answer are right.
 pub fn advance(
     words: &mut [u32],
     lists: Lists,
@@ -241,7 +241,7 @@ pub fn advance(
     table: &mut [u8; 73984],
     reps: &[u16; 16384],
 ) -> Stepped
-    requires { ⌜ Stepping (now words) lists (now holes) (now head) (now next) (now mix) × (length (now table) ≡ 73984) × ((lists .hand ≡ 0 → ⊥) → InHand (now words) lists (now reps)) × (lists .asked ≡ 0) × (lists .accepted ≡ 0) ⌝ }
+    requires { ⌜ Stepping (now words) lists (now holes) (now head) (now next) (now mix) × (length (now table) ≡ 73984) × ((lists .hand ≡ 0 → ⊥) → InHand (now words) lists (now reps)) × (lists .hand ≡ 0 → KnownTable (now words) lists (now table)) × (lists .asked ≡ 0) × (lists .accepted ≡ 0) ⌝ }
     ensures { λ r. ⌜ EndedAs (now (words .entry)) lists (advanceOf (tablesOf (now (words .entry)) lists)) r (now (words .exit)) ⌝ }
 {
     if lists.hand == 0 {

@@ -1,9 +1,8 @@
 // The end of a step (§4.2, §4.3): a question or a proposal, as the lists that the run is left with.
 ghost use mathlib.Core.Path.{_≡_};
-ghost use lib.ListN.{length};
 ghost use Rattle.model.specs.Steps.{settled};
 ghost use Rattle.model.specs.Entry.{tablesOf};
-ghost use Rattle.step.specs.Stepping.{Stepping, EndedAs, asking as askingOf, proposing as proposingOf};
+ghost use Rattle.step.specs.Stepping.{Stepping, KnownTable, EndedAs, asking as askingOf, proposing as proposingOf};
 use model::Lists;
 use model::Row;
 use settle::Step;
@@ -49,7 +48,7 @@ fn proposing(lists: Lists, s: [u16; 32], states: u8) -> Lists
     left
 }
 
-// Nothing in hand: the first unknown is asked, or the automaton is proposed.
+// Nothing in hand: the first unknown is asked, or the automaton is proposed. Rows of the table without an unknown answer are right.
 pub fn finish(
     words: &mut [u32],
     lists: Lists,
@@ -59,7 +58,7 @@ pub fn finish(
     mix: &[u32; 5],
     table: &mut [u8; 73984],
 ) -> Stepped
-    requires { ⌜ Stepping (now words) lists (now holes) (now head) (now next) (now mix) × (length (now table) ≡ 73984) × (lists .hand ≡ 0) × (lists .asked ≡ 0) × (lists .accepted ≡ 0) ⌝ }
+    requires { ⌜ Stepping (now words) lists (now holes) (now head) (now next) (now mix) × KnownTable (now words) lists (now table) × (lists .hand ≡ 0) × (lists .asked ≡ 0) × (lists .accepted ≡ 0) ⌝ }
     ensures { λ r. ⌜ EndedAs (now (words .entry)) lists (settled (tablesOf (now (words .entry)) lists)) r (now (words .exit)) ⌝ }
 {
     let letters = lists.letters as usize;

@@ -33,7 +33,7 @@ fn with_context(lists: Lists, context: Row, used: u16) -> Lists
     left
 }
 
-// Put down along the way down from the record to its spot, then on as with nothing in hand.
+// Put down along the way down from the record to its spot, then on as with nothing in hand; the table of answers is forgotten.
 pub fn put_down(
     words: &mut [u32],
     lists: Lists,
@@ -65,6 +65,7 @@ pub fn put_down(
         Grown::Full => finish::short(34, lists),
         Grown::At(context, n) => {
             let left = with_context(lists, context, n);
+            table::forget(table, left.rules as usize);
             finish::finish(words, left, holes, head, next, mix, table)
         }
     }

@@ -6,4 +6,5 @@ pub mod Growth
 pub mod Judge
 pub mod Tied
 pub mod ToGap
+pub mod Known
 pub mod Judged

@@ -8,6 +8,7 @@ use Prim.Native.Nat.{ℕ, zero, suc, _*_, _≤_, _<_}
 use lib.Dec.{eqb}
 use lib.ListN.{length, getD, take, drop}
 use Rattle.model.specs.Limits.{mostRules, mostContexts}
+use Rattle.model.specs.Base.{among}
 use Rattle.model.specs.Store.{Store}
 use Rattle.model.specs.Table.{answersOf, stateFrom}
 use Rattle.model.specs.Steps.{Sought, noneUnknown, unknown, grow}
@@ -68,6 +69,16 @@ pub record ToGap (x : Store) (w t : List ℕ) (n : ℕ) (c : List ℕ) (m : ℕ)
   pub few : r ≤ n
   pub observed : Observed x w t r c m table
   pub whole : gapFrom table m 0 r ≡ Gap.Closed → r ≡ n
+
+-- a table of which only rows without an unknown answer are trusted: each of those is right
+pub record KnownRows (x : Store) (w t : List ℕ) (n : ℕ) (c : List ℕ) (m : ℕ) (table : List ℕ) : Type 0 where
+  pub sized : Sized table n m
+  pub right : (k : ℕ) → k < n → among 0 (rowAt table m k) ≡ false → rowAt table m k ≡ answersOf x w (take m c) (getD t k 0)
+
+-- the first answer of each of the first n rows is unknown
+pub record Forgotten (n : ℕ) (table : List ℕ) : Type 0 where
+  pub long : length table ≡ 73984
+  pub first : (k : ℕ) → k < n → getD table (mostContexts * k) 0 ≡ 0
 
 -- the first q places name the first q of S among the first n of T
 abbrev pub Placed : (t : List ℕ) → (n : ℕ) → (s : List ℕ) → (q : ℕ) → (places : List ℕ) → Type 0

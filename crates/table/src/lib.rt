@@ -5,7 +5,7 @@ ghost use Prim.Native.Nat.{ℕ, _+_, _*_, _<_, _≤_};
 ghost use lib.ListN.{length, getD, take};
 ghost use Rattle.model.specs.Base.{same, among};
 ghost use Rattle.model.specs.Sound.{differKnown};
-ghost use Rattle.table.specs.Answers.{rowAt, Sized, unknownIn, placeBy, gapFrom, stateAt, growAt, grownBy};
+ghost use Rattle.table.specs.Answers.{rowAt, Sized, Forgotten, unknownIn, placeBy, gapFrom, stateAt, growAt, grownBy};
 use model::State;
 
 pub mod judge; // judge.rt: T5 and T6
@@ -59,6 +59,18 @@ pub fn has_answer(table: &[u8; 73984], contexts: usize, a: usize, answer: u8) ->
         j += 1;
     }
     false
+}
+
+// The first answer of each transition made unknown: of a table that no longer holds, no row is then taken for known.
+pub fn forget(table: &mut [u8; 73984], rules: usize)
+    requires { ⌜ (length (now table) ≡ 73984) × (rules ≤ 256) ⌝ }
+    ensures { λ _. ⌜ Forgotten rules (now (table .exit)) ⌝ }
+{
+    let mut k = 0;
+    while k < rules {
+        table[289 * k] = 0;
+        k += 1;
+    }
 }
 
 // The first unknown answer, if any: the transition's place in T and the context's place in C.

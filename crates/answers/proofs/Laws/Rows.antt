@@ -1,16 +1,20 @@
 -- The table of answers, row by row: a row's answers put one by one are the row written at once, and a row written is that row alone.
 -- Rows are as wide as the most contexts, so a row's answers end before the next row begins.
 use mathlib.Core.Path.{_≡_, refl, sym, ap, _∙_}
+use mathlib.Core.Bool.{Bool, true, false}
 use mathlib.Core.List.{List, [], _∷_, _++_, map}
 use Prim.Native.Nat.{ℕ, zero, suc, _+_, _*_, _-_, _≤_, _<_}
 use native.Mathlib.Omega.{arith}
 use native.Mathlib.Numerals.{add-one}
+use borrow.Author.Tests.{ltb-true, ltb-false}
+use lib.Dec.{ltb}
 use lib.ListN.{length, getD, set, take, drop, length-map, length-set}
 use lib.Seq.{sets, sets-eq, length-sets, paste, paste-zero, paste-suc, take-length, getD-take, getD-set-same, getD-set-other, length-take-le, ext-getD}
 use Rattle.model.specs.Limits.{mostRules, mostContexts}
+use Rattle.model.specs.Base.{among}
 use Rattle.model.specs.Store.{Store}
 use Rattle.model.specs.Table.{answerIn, answersOf}
-use Rattle.table.specs.Answers.{rowAt, Observed}
+use Rattle.table.specs.Answers.{rowAt, Observed, KnownRows}
 use Rattle.table.proofs.Laws.Rows.{row-at, row-length}
 use Rattle.bank.proofs.Laws.Chains.{by-equal}
 
@@ -62,7 +66,11 @@ sets-within tb at (v ∷ vs) (suc j) h l =
     let e : at + suc j ≡ suc at + j = omega arith in
     ap (λ (i : ℕ). getD (sets (set tb at v) (suc at) vs) i 0) e ∙ sets-within (set tb at v) (suc at) vs j (rw length-set (omega arith)) (omega arith)
 
--- A ROW WRITTEN leaves the rows before as they were
+sets-after : (tb : List ℕ) (at : ℕ) (vs : List ℕ) (j : ℕ) → at + length vs ≤ j → getD (sets tb at vs) j 0 ≡ getD tb j 0
+sets-after tb at [] j l = refl
+sets-after tb at (v ∷ vs) j l = sets-after (set tb at v) (suc at) vs j (omega arith) ∙ getD-set-other tb at j v 0 (λ e. omega arith)
+
+-- A ROW WRITTEN leaves the other rows as they were
 module _ (tb : List ℕ) (m k : ℕ) (vs : List ℕ) (long : length vs ≡ m) (few : m ≤ mostContexts) (fits : mostContexts * k + m ≤ length tb) where
   pub row-before : (i : ℕ) → i < k → rowAt (sets tb (mostContexts * k) vs) m i ≡ rowAt tb m i
   row-before i l =
@@ -71,11 +79,25 @@ module _ (tb : List ℕ) (m k : ℕ) (vs : List ℕ) (long : length vs ≡ m) (f
       ext-getD 0 (rowAt (sets tb (mostContexts * k) vs) m i) (rowAt tb m i) (b ∙ sym a)
       (λ j q. row-at (sets tb (mostContexts * k) vs) m i j (omega arith) ∙ sets-before tb (mostContexts * k) vs (mostContexts * i + j) (omega arith) ∙ sym (row-at tb m i j (omega arith)))
 
+  pub row-after : (i : ℕ) → k < i → mostContexts * i + m ≤ length tb → rowAt (sets tb (mostContexts * k) vs) m i ≡ rowAt tb m i
+  row-after i l h =
+      let a = row-length tb m i h in
+      let b = row-length (sets tb (mostContexts * k) vs) m i (rw length-sets h) in
+      ext-getD 0 (rowAt (sets tb (mostContexts * k) vs) m i) (rowAt tb m i) (b ∙ sym a)
+      (λ j q. row-at (sets tb (mostContexts * k) vs) m i j (omega arith) ∙ sets-after tb (mostContexts * k) vs (mostContexts * i + j) (omega arith) ∙ sym (row-at tb m i j (omega arith)))
+
   pub row-written : rowAt (sets tb (mostContexts * k) vs) m k ≡ vs
   row-written =
       let b = row-length (sets tb (mostContexts * k) vs) m k (rw length-sets fits) in
       ext-getD 0 (rowAt (sets tb (mostContexts * k) vs) m k) vs (b ∙ sym long)
       (λ j q. row-at (sets tb (mostContexts * k) vs) m k j (omega arith) ∙ sets-within tb (mostContexts * k) vs j (omega arith) (omega arith))
+
+by-order : {A : Type 0} (i j : ℕ) → (i < j → A) → (i ≡ j → A) → (j < i → A) → A
+by-order {A} i j f g h = by-equal i j g (λ d. go (ltb i j) refl d)
+  where
+    go : (b : Bool) → ltb i j ≡ b → (i ≡ j → ⊥) → A
+    go true e d = f (ltb-true i j e)
+    go false e d = h (let l = ltb-false i j e in omega arith)
 
 -- OBSERVED: no row at first, and a row more
 pub observed-none : (x : Store) (w t c : List ℕ) (m : ℕ) (tb : List ℕ) → length tb ≡ 73984 → m ≤ mostContexts → Observed x w t 0 c m tb
@@ -99,3 +121,28 @@ observed-more {x} {w} {t} {k} {c} {m} {tb} o l h =
     rows i a =
         by-equal i k (λ e. ap (rowAt (sets tb (mostContexts * k) vs) m) e ∙ row-written tb m k vs long (o .sized .few-c) fits ∙ ap (λ (j : ℕ). answersOf x w (take m c) (getD t j 0)) (sym e))
         (λ e. row-before tb m k vs long (o .sized .few-c) fits i (omega arith) ∙ o .rows i (omega arith))
+
+-- A ROW MORE: it is right, and the other rows are as they were, so those without an unknown answer are right as before
+pub known-more : {x : Store} {w t : List ℕ} {n : ℕ} {c : List ℕ} {m : ℕ} {tb : List ℕ} → KnownRows x w t n c m tb → (k : ℕ) → k < n → m ≤ length c →
+    KnownRows x w t n c m (sets tb (mostContexts * k) (answersOf x w (take m c) (getD t k 0)))
+known-more {x} {w} {t} {n} {c} {m} {tb} o k l h =
+    record { sized = record { long = length-sets tb (mostContexts * k) vs ∙ o .sized .long; few-t = o .sized .few-t; few-c = o .sized .few-c }; right = λ i a e. at i a e }
+  where
+    vs : List ℕ
+    vs = answersOf x w (take m c) (getD t k 0)
+
+    long : length vs ≡ m
+    long = answers-length x w c m (getD t k 0) h
+
+    fits : (i : ℕ) → i < n → mostContexts * i + m ≤ length tb
+    fits i a = let z = o .sized .long in let b = o .sized .few-c in let d = o .sized .few-t in omega arith
+
+    as-before : (i : ℕ) → i < n → rowAt (sets tb (mostContexts * k) vs) m i ≡ rowAt tb m i → among 0 (rowAt (sets tb (mostContexts * k) vs) m i) ≡ false →
+        rowAt (sets tb (mostContexts * k) vs) m i ≡ answersOf x w (take m c) (getD t i 0)
+    as-before i a p e = p ∙ o .right i a (ap (among 0) (sym p) ∙ e)
+
+    at : (i : ℕ) → i < n → among 0 (rowAt (sets tb (mostContexts * k) vs) m i) ≡ false → rowAt (sets tb (mostContexts * k) vs) m i ≡ answersOf x w (take m c) (getD t i 0)
+    at i a e =
+        by-order i k (λ b. as-before i a (row-before tb m k vs long (o .sized .few-c) (fits k l) i b) e)
+        (λ q. ap (rowAt (sets tb (mostContexts * k) vs) m) q ∙ row-written tb m k vs long (o .sized .few-c) (fits k l) ∙ ap (λ (j : ℕ). answersOf x w (take m c) (getD t j 0)) (sym q))
+        (λ b. as-before i a (row-after tb m k vs long (o .sized .few-c) (fits k l) i b (fits i a)) e)

@@ -44,7 +44,7 @@ loop-less c = search needs
 loop-again : tie.Need-loop-again Inv-loop μ-loop
 loop-again c =
     let more = c .before .before .before .before .loop-test .taken in
-    (omega (arith, more), c .observe-row .ensures .1, c .observe-row .ensures .0)
+    (omega (arith, more), c .observe-row .ensures .1 .0, c .observe-row .ensures .0)
 
 returns : tie.Need-returns Inv-loop μ-loop
 returns c =

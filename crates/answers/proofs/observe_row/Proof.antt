@@ -21,7 +21,7 @@ read-column-requires c κs = search needs
 returns : tie.Need-returns
 returns c =
     let s = c .before .before .before .before .before .before .before .before in
-    (rw (c .read-column .ensures) (observed-more (s .pre .10) (s .pre .4) (omega (arith, s .pre .7, s .pre .8))), c .before .before .before .fill-column .ensures .long)
+    (rw (c .read-column .ensures) (observed-more (s .pre .10) (s .pre .4) (omega (arith, s .pre .7, s .pre .8))), (c .before .before .before .fill-column .ensures .long, c .read-column .ensures))
 
 pub observe-row-spec : {M : Type 1} → statement M
 observe-row-spec =

@@ -1,12 +1,12 @@
--- `answers::observe_to_gap` meets its contract. The invariant: the first k transitions have their rows of answers.
--- An unknown answer in the last of them is a gap; past the loop all have their rows.
+-- `answers::observe_to_gap` meets its contract. The invariant: the first k transitions have their rows of answers, and every row without an unknown answer is right.
+-- An unknown answer in the last row updated is a gap; past the loop all have their rows.
 use mathlib.Core.Path.{_≡_, refl, sym, _∙_, subst}
 use Prim.Native.Nat.{ℕ, _-_, _≤_}
 use native.Mathlib.Omega.{arith}
 use borrow.Author.Needs.{needs}
 use lib.ListN.{length}
 use Rattle.model.specs.Entry.{storeOf, answersIn}
-use Rattle.table.specs.Answers.{Observed}
+use Rattle.table.specs.Answers.{Observed, KnownRows}
 use Rattle.table.proofs.Laws.Tied.{gap-at-last}
 use Rattle.answers.proofs.Laws.Rows.{observed-none}
 use Rattle.answers.proofs.observe_to_gap.Statement.{statement}
@@ -14,7 +14,7 @@ use Rattle.answers.proofs.observe_to_gap.Tie as tie
 
 abbrev Inv-loop : tie.InvT-loop
 Inv-loop words counts used holes head next mix t rules c contexts table₀ list filled₀ n k₀ table filled k =
-    (k ≤ rules) × (length filled ≡ 16384) × Observed (storeOf words counts used) (answersIn used words) t k c contexts table
+    (k ≤ rules) × (length filled ≡ 16384) × Observed (storeOf words counts used) (answersIn used words) t k c contexts table × KnownRows (storeOf words counts used) (answersIn used words) t rules c contexts table
 
 abbrev μ-loop : tie.MeasureT-loop
 μ-loop words counts used holes head next mix t rules c contexts table₀ list filled₀ n k₀ table filled k = rules - k
@@ -27,30 +27,23 @@ holed-rows-requires c κs =
 loop-holds : tie.Need-loop-holds Inv-loop μ-loop
 loop-holds c =
     let s = c .before .before .before .before in
-    (omega arith, refl, observed-none (storeOf (s .args .words .now) (s .args .counts .now) (s .args .used)) (answersIn (s .args .used) (s .args .words .now)) (s .args .t .now) (s .args .c .now) (s .args .contexts) (s .args .table .now) (s .pre .8) (s .pre .7))
+    (omega arith, refl, observed-none (storeOf (s .args .words .now) (s .args .counts .now) (s .args .used)) (answersIn (s .args .used) (s .args .words .now)) (s .args .t .now) (s .args .c .now) (s .args .contexts) (s .args .table .now) (s .pre .8 .sized .long) (s .pre .7), s .pre .8)
 
-observe-row-requires : tie.Need-observe-row-requires Inv-loop μ-loop
-observe-row-requires c κs =
+update-row-requires : tie.Need-update-row-requires Inv-loop μ-loop
+update-row-requires c κs =
     let s = c .before .before .before .before .before .before .before .before .before in
     let l = c .before .before .before .before .loop in
     let more = c .before .before .before .loop-test .taken in
-    (s .pre .0, s .pre .1, c .before .before .before .before .before .holed-rows .ensures, s .pre .3, omega (arith, more, s .pre .4), s .pre .2 (l .k) more, s .pre .5, s .pre .6, s .pre .7, l .inv .1, l .inv .2)
-
-has-answer-requires : tie.Need-has-answer-requires Inv-loop μ-loop
-has-answer-requires c κs =
-    let s = c .before .before .before .before .before .before .before .before .before .before .before in
-    let more = c .before .before .before .before .before .loop-test .taken in
-    let o = c .before .observe-row .ensures .0 in
-    (record { long = o .sized .long; few-t = omega arith; few-c = o .sized .few-c }, omega (arith, more, s .pre .4))
+    (s .pre .0, s .pre .1, c .before .before .before .before .before .holed-rows .ensures, s .pre .3, more, s .pre .2 (l .k) more, s .pre .5, s .pre .6, l .inv .1, l .inv .2, l .inv .3)
 
 add-result : tie.Need-add-result Inv-loop μ-loop
 add-result c = search needs
 
 returns : tie.Need-returns Inv-loop μ-loop
 returns c =
-    let h = c .before in
-    let more = h .before .before .before .before .before .before .loop-test .taken in
-    record { few = omega (arith, more); observed = h .before .before .observe-row .ensures .0; whole = λ g. absurd (gap-at-last _ _ _ (sym (h .has-answer .ensures) ∙ c .if1 .taken) g) }
+    let u = c .before .update-row .ensures in
+    let more = c .before .before .before .before .before .loop-test .taken in
+    record { few = omega (arith, more); observed = u .0; whole = λ g. absurd (gap-at-last _ _ _ (sym (u .3) ∙ c .if1 .taken) g) }
 
 add-k : tie.Need-add-k Inv-loop μ-loop
 add-k c = search needs
@@ -60,9 +53,9 @@ loop-less c = search needs
 
 loop-again : tie.Need-loop-again Inv-loop μ-loop
 loop-again c =
-    let h = c .before in
-    let more = h .before .before .before .before .before .before .loop-test .taken in
-    (omega (arith, more), h .before .before .observe-row .ensures .1, h .before .before .observe-row .ensures .0)
+    let u = c .before .update-row .ensures in
+    let more = c .before .before .before .before .before .loop-test .taken in
+    (omega (arith, more), u .2, u .0, u .1)
 
 returns-2 : tie.Need-returns-2 Inv-loop μ-loop
 returns-2 c =
@@ -79,8 +72,7 @@ observe-to-gap-spec =
     μ-loop
     holed-rows-requires
     loop-holds
-    observe-row-requires
-    has-answer-requires
+    update-row-requires
     add-result
     returns
     add-k

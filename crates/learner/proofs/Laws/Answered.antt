@@ -1,5 +1,6 @@
 -- An answer: the lines that refuse it, and what its step needs.
--- Sound tables with an open question stay orderly with one answer more; with a record in hand no answer is missing, so the rows of answers of T stay as they are.
+-- Sound tables with an open question stay orderly with one answer more; with a record in hand no answer is missing, so the rows of answers of T stay as they are,
+-- and with none those without an unknown answer do.
 use mathlib.Core.Path.{_≡_, refl, sym, ap, subst, _∙_}
 use mathlib.Core.Logic.{_⊎_, inl, inr}
 use mathlib.Core.Bool.{Bool, true, false, not, cond}
@@ -31,10 +32,12 @@ use Rattle.model.proofs.Laws.Answer.{answered-core, answered-whole, answered-fi
 use Rattle.bank.specs.Rows.{answerIn, withAnswer, Within}
 use Rattle.bank.proofs.Laws.Words.{used-of, answer-in}
 use Rattle.undo.proofs.Laws.Left.{answered-store, answered-answers, ready-answered}
+use Rattle.table.specs.Answers.{KnownRows}
+use Rattle.table.proofs.Laws.Known.{known-answered}
 use Rattle.hypothesis.proofs.Laws.Tied.{RepsOf, reps-tied}
 use Rattle.hand.specs.Spots.{Handling}
 use Rattle.sound.specs.Working.{Working}
-use Rattle.step.specs.Stepping.{Orderly, countsIn, Stepping, InHand, closed}
+use Rattle.step.specs.Stepping.{Orderly, countsIn, Stepping, KnownTable, InHand, closed}
 use Rattle.step.proofs.Laws.Lists.{core-orderly}
 use Rattle.learner.proofs.Laws.Accepted.{InArrays, sound-within}
 
@@ -175,6 +178,14 @@ module _ (ws : List ℕ) (l : Lists) (m : ℕ) (fit : listsFit l ≡ true) (soun
               orderly = subst Orderly (sym tables-answered) (core-orderly Y (answered-core X (sound-facts X sound .nearly .core) (l .asked) (its-question .0) (its-question .1) (m + 1) (mark-small m mark)));
               fit = closed-fit;
             }
+
+    pub table-answered : (vs : List ℕ) (g : Lists) → vs ≡ withAnswer ws (l .asked) (m + 1) → g ≡ closed l → KnownTable vs g table
+    table-answered vs g e f = subst (λ (us : List ℕ). KnownTable us g table) (sym e) (subst (λ (k : Lists). KnownTable (withAnswer ws (l .asked) (m + 1)) k table) (sym f) at)
+      where
+        at : KnownTable (withAnswer ws (l .asked) (m + 1)) (closed l) table
+        at =
+            subst (λ (y : Tables). KnownRows (y .store) (y .answers) (l .t) (l .rules) (l .c) (l .contexts) table) (sym tables-answered)
+            (known-answered (w .observed) (l .asked) (m + 1) (its-question .1))
 
     pub hand-answered : (vs : List ℕ) (g : Lists) → vs ≡ withAnswer ws (l .asked) (m + 1) → g ≡ closed l → (g .hand ≡ 0 → ⊥) → InHand vs g reps
     hand-answered vs g e f d =

@@ -26,10 +26,12 @@ use Rattle.bank.specs.Ready.{Ready, Kept}
 use Rattle.bank.proofs.Laws.Words.{used-of, front-withRows}
 use Rattle.bank.proofs.Laws.Coming.{Comes, store-room}
 use Rattle.bank.proofs.Laws.Filling.{Reached}
+use Rattle.table.specs.Answers.{Forgotten}
+use Rattle.table.proofs.Laws.Known.{forgotten-known}
 use Rattle.undo.specs.Left.{Left}
 use Rattle.undo.proofs.Laws.Left.{left-rows, left-then}
 use Rattle.step.specs.declared.finish.Stepped.{Stepped}
-use Rattle.step.specs.Stepping.{Orderly, countsIn, Stepping, withContext}
+use Rattle.step.specs.Stepping.{Orderly, countsIn, Stepping, KnownTable, withContext}
 use Rattle.step.proofs.Laws.Lists.{kept-then, lists-twice, tables-left}
 use Rattle.step.proofs.Laws.Finished.{Finished, finished-by, Arrays, Grows, Settles, settles-asking, settles-proposing, settles, kept-length, kept-over, few-letters, few-states, few-rules}
 
@@ -157,6 +159,15 @@ module _ {ws : List ℕ} {l : Lists} {hs he ne mix : List ℕ} (p : Stepping ws 
         orderly = subst Orderly (sym means-after) orderly-after;
         fit = fit-after;
       })
+
+  -- of the table no row is known, after it was forgotten
+  pub few-after : (left : Lists) → left ≡ withContext l j n → left .rules ≤ 256
+  few-after left e = listsFit-facts left (stepping-after left e .fit) .rules
+
+  pub known-after : (left : Lists) → left ≡ withContext l j n → {tb : List ℕ} → Forgotten (left .rules) tb → KnownTable us left tb
+  known-after left e f =
+      let x = tablesOf us left in
+      forgotten-known (x .store) (x .answers) (left .t) (left .rules) (left .c) (left .contexts) f (few-after left e) (listsFit-facts left (stepping-after left e .fit) .contexts)
 
   -- ONWARD from the lists with the context
   onward-lists : (z : Tables) → Grows Y z → listsOf (listsOf l Y) z ≡ listsOf l z

@@ -6,7 +6,7 @@ use borrow.Author.Needs.{needs, length-unmapped}
 use lib.ListN.{length}
 use Rattle.model.specs.declared.Lists.{Lists}
 use Rattle.learner.proofs.Laws.Accepted.{in-arrays}
-use Rattle.learner.proofs.Laws.Answered.{asked-within, stepping-answered, hand-answered}
+use Rattle.learner.proofs.Laws.Answered.{asked-within, stepping-answered, table-answered, hand-answered}
 use Rattle.learner.proofs.Laws.AnswerTaken.{short-length, short-within, asked-within-back, words-back, answer-short, left-fit, answer-left}
 use Rattle.learner.proofs.calls.take_answer.Statement.{statement}
 use Rattle.learner.proofs.calls.take_answer.Tie as tie
@@ -42,6 +42,7 @@ advance-requires c κs =
       stepping-answered ws l (s .args .mark) (s .pre .1) (s .pre .2) (s .pre .3) (s .pre .4) arrays w _ (k .result) e f,
       w .observed .sized .long,
       hand-answered ws l (s .args .mark) (s .pre .1) (s .pre .2) (s .pre .3) (s .pre .4) arrays w _ (k .result) e f,
+      (λ h. table-answered ws l (s .args .mark) (s .pre .1) (s .pre .2) (s .pre .3) (s .pre .4) arrays w _ (k .result) e f),
       ap (λ (o : Lists). o .asked) f,
       ap (λ (o : Lists). o .accepted) f,
     )

@@ -214,7 +214,7 @@ advance-requires c κs =
     let g = given (first a) in
     let p = c .before .before .before .before .before .before .before .before .set-answer .ensures in
     let u = c .before .before .before .before .before .taken-up .ensures in
-    (offer-stepping g (stored a) p u, g .working .observed .sized .long, (λ n. offer-in-hand g (stored a) p u), no-question g (stored a) p u, not-accepted g (stored a) p u)
+    (offer-stepping g (stored a) p u, g .working .observed .sized .long, (λ n. offer-in-hand g (stored a) p u), (λ z. absurd (omega (arith, z, offer-in-hand g (stored a) p u .fits .record-row .some))), no-question g (stored a) p u, not-accepted g (stored a) p u)
 
 set-answer-requires-2 : tie.Need-set-answer-requires-2
 set-answer-requires-2 c κs =

@@ -7,7 +7,10 @@ use Rattle.step.proofs.advance.advance.Statement.{statement}
 use Rattle.step.proofs.advance.advance.Tie as tie
 
 finish-requires : tie.Need-finish-requires
-finish-requires c κs = search needs
+finish-requires c κs =
+    let f = c .before .before .before .before .before in
+    let s = f .before .before .before in
+    (s .pre .0, s .pre .3 (f .if1 .taken), f .if1 .taken, s .pre .4, s .pre .5)
 
 same-length : tie.Need-same-length
 same-length c = search needs

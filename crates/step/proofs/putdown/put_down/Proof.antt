@@ -1,5 +1,5 @@
 -- `putdown::put_down` meets its contract: where rows run out the first rows are kept, and else the step goes on from the lists with the context.
--- Those lists mean the tables with the context, over the words that hold its rows.
+-- Those lists mean the tables with the context, over the words that hold its rows; of the table of answers no row is known.
 use mathlib.Core.Path.{sym, ap}
 use mathlib.Core.List.{List}
 use Prim.Native.Nat.{ℕ, _≤_, _<_}
@@ -16,12 +16,13 @@ use Rattle.bank.proofs.Laws.Coming.{Comes, comes-as}
 use Rattle.bank.proofs.Laws.Filling.{Reached, reached}
 use Rattle.step.specs.Stepping.{countsIn}
 use Rattle.step.proofs.Laws.Finished.{Arrays, few-letters}
-use Rattle.step.proofs.Laws.PutDown.{put-none, stepping-after, put-ends}
+use Rattle.step.proofs.Laws.PutDown.{put-none, stepping-after, few-after, known-after, put-ends}
 use Rattle.step.proofs.putdown.put_down.Statement.{statement}
 use Rattle.step.proofs.putdown.put_down.Tie as tie
 use Rattle.step.proofs.putdown.put_down.Reads as reads
 use Rattle.step.proofs.putdown.put_down.Lts as lts
 use Rattle.bank.proofs.add.fill.Reads as fill-reads
+use Rattle.table.proofs.forget.Reads as forget-reads
 use Rattle.step.proofs.finish.finish.Reads as finish-reads
 use Rattle.step.proofs.finish.short.Reads as short-reads
 use Rattle.step.proofs.putdown.with_context.Reads as with-context-reads
@@ -35,6 +36,8 @@ claims = (
   short-reads.Learnt,
   with-context-reads.Asked,
   with-context-reads.Learnt,
+  forget-reads.Asked,
+  forget-reads.Learnt,
   finish-reads.Asked,
   finish-reads.Learnt,
 )
@@ -124,13 +127,22 @@ enum-known-context c = search needs
 with-context-requires : tie.Need-with-context-requires
 with-context-requires c κs = search needs
 
+cast-forget : tie.Need-cast-forget
+cast-forget c = search needs
+
+forget-requires : tie.Need-forget-requires
+forget-requires c κs =
+    let e : Entered = c .before .before in
+    let s : Start = begun e in
+    (s .pre .1, few-after (s .pre .0) (arrays s) (s .pre .3) (down e) (e .with-context .result) (e .with-context .ensures))
+
 finish-requires : tie.Need-finish-requires
 finish-requires c κs =
-    let e : Entered = c .before .before .before .before .before in
+    let e : Entered = c .before .before .before .before .before .before .before .before in
     let s : Start = begun e in
     let w = e .with-context .ensures in (
       stepping-after (s .pre .0) (arrays s) (s .pre .3) (down e) (e .with-context .result) w,
-      s .pre .1,
+      known-after (s .pre .0) (arrays s) (s .pre .3) (down e) (e .with-context .result) w (c .before .before .before .before .before .forget .ensures),
       ap (λ (l : Lists). l .hand) w,
       ap (λ (l : Lists). l .asked) w,
       ap (λ (l : Lists). l .accepted) w,
@@ -149,7 +161,7 @@ same-length-2 c = search needs
 
 returns-2 : tie.Need-returns-2
 returns-2 c =
-    let e : Entered = c .before .before .before .before .before .before .before .before in
+    let e : Entered = c .before .before .before .before .before .before .before .before .before .before .before in
     let s : Start = begun e in
     put-ends (s .pre .0) (arrays s) (s .pre .3) (down e) (e .with-context .result) (e .with-context .ensures) (c .before .before .finish .result) (c .before .before .finish .last .0)
     (record { ended = c .before .before .finish .ensures }) .ended
@@ -166,6 +178,8 @@ put-down-spec =
     short-requires
     enum-known-context
     with-context-requires
+    cast-forget
+    forget-requires
     finish-requires
     same-length
     returns
