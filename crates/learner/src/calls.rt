@@ -1,7 +1,7 @@
 // Answers (§3.5) and acceptance (§3.6), by value: 18, 30, 31, the input, then the step; a refusal leaves words and lists as they were.
 ghost use mathlib.Core.Path.{_≡_};
 ghost use mathlib.Core.Bool.{true};
-ghost use Prim.Native.Nat.{_≤_};
+ghost use Prim.Native.Nat.{_+_, _*_, _≤_};
 ghost use lib.ListN.{length};
 ghost use Rattle.model.specs.Calls.{answers, accept as acceptCall};
 ghost use Rattle.model.specs.Sound.{isSound};
@@ -14,6 +14,9 @@ use model::Lists;
 use model::Row;
 use model::Seen;
 use step::advance;
+
+// The rows past the used ones that an answer is first tried with: enough, but for deep records.
+const FEW: usize = 128;
 
 // What a call returns, and the lists that it leaves.
 pub struct Done {
@@ -55,7 +58,7 @@ fn take_answer(
     places: &[u16; 32],
     reps: &[u16; 16384],
 ) -> Done
-    requires { ⌜ (sizeFits (now words) ≡ true) × (listsFit lists ≡ true) × (isSound (tablesOf (now words) lists) ≡ true) × (lists .asked ≡ 0 → ⊥) × (mark ≤ 1) × Working (now words) (countsIn lists) (lists .used) (lists .s) (lists .states) (lists .t) (lists .rules) (lists .c) (lists .contexts) (now holes) (now head) (now next) (now mix) (now table) (now places) (now reps) × (length (now words) ≤ length (now saved)) ⌝ }
+    requires { ⌜ (sizeFits (now words) ≡ true) × (listsFit lists ≡ true) × (isSound (tablesOf (now words) lists) ≡ true) × (lists .asked ≡ 0 → ⊥) × (mark ≤ 1) × Working (now words) (countsIn lists) (lists .used) (lists .s) (lists .states) (lists .t) (lists .rules) (lists .c) (lists .contexts) (now holes) (now head) (now next) (now mix) (now table) (now places) (now reps) × (length (now words) ≤ 6 * lists .used + length (now saved)) ⌝ }
     ensures { λ r. ⌜ CallAs (now (words .entry)) lists (answers mark) r (now (words .exit)) ⌝ }
 {
     undo::save(words, lists.used, saved);
@@ -78,7 +81,7 @@ fn take_answer(
 
 // An answer to tables of a size that fits, in lists that fit, with room to save the rows in.
 fn answer_within(words: &mut [u32], lists: Lists, mark: u8, saved: &mut [u32]) -> Done
-    requires { ⌜ (sizeFits (now words) ≡ true) × (listsFit lists ≡ true) × (length (now words) ≤ length (now saved)) ⌝ }
+    requires { ⌜ (sizeFits (now words) ≡ true) × (listsFit lists ≡ true) × (length (now words) ≤ 6 * lists .used + length (now saved)) ⌝ }
     ensures { λ r. ⌜ CallAs (now (words .entry)) lists (answers mark) r (now (words .exit)) ⌝ }
 {
     let mut holes = [0u8; 16384];
@@ -122,16 +125,17 @@ fn answer_within(words: &mut [u32], lists: Lists, mark: u8, saved: &mut [u32]) -
     )
 }
 
-// The same on the first 2,048 rows alone, of which few are saved: 34 where they are not enough.
+// The same with few rows past the used ones, and only these are saved: 34 where they are not enough.
 fn answer_first(words: &mut [u32], lists: Lists, mark: u8) -> Done
-    requires { ⌜ (sizeFits (now words) ≡ true) × (listsFit lists ≡ true) × (lists .used ≤ 2048) ⌝ }
-    ensures { λ r. ⌜ FirstAs (now (words .entry)) lists (answers mark) r (now (words .exit)) ⌝ }
+    requires { ⌜ (sizeFits (now words) ≡ true) × (listsFit lists ≡ true) ⌝ }
+    ensures { λ r. ⌜ FirstAs (now (words .entry)) (6 * (lists .used + 128)) lists (answers mark) r (now (words .exit)) ⌝ }
 {
-    let mut saved = [0u32; 12288];
-    if words.len() <= 12288 {
+    let mut saved = [0u32; rows::WIDTH * FEW];
+    let most = rows::WIDTH * (lists.used as usize + FEW);
+    if words.len() <= most {
         return answer_within(words, lists, mark, &mut saved);
     }
-    answer_within(&mut words[..12288], lists, mark, &mut saved)
+    answer_within(&mut words[..most], lists, mark, &mut saved)
 }
 
 // The same on all rows.
@@ -143,17 +147,17 @@ fn answer_all(words: &mut [u32], lists: Lists, mark: u8) -> Done
     answer_within(words, lists, mark, &mut saved)
 }
 
-// The same: tried on the first rows where at least 128 of them are free, then on all.
+// The same: tried with few rows, and where they are not enough and more are lent, on all.
 fn answer_lent(words: &mut [u32], lists: Lists, mark: u8) -> Done
     requires { ⌜ (sizeFits (now words) ≡ true) × (listsFit lists ≡ true) ⌝ }
     ensures { λ r. ⌜ CallAs (now (words .entry)) lists (answers mark) r (now (words .exit)) ⌝ }
 {
-    if 1920 < lists.used {
-        return answer_all(words, lists, mark);
-    }
     let done = answer_first(words, lists, mark);
     let seen = done.seen;
     if seen.number != 34 {
+        return done;
+    }
+    if words.len() <= rows::WIDTH * (lists.used as usize + FEW) {
         return done;
     }
     answer_all(words, lists, mark)

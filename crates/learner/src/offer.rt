@@ -1,7 +1,7 @@
 // Offers (§3.4), by value: 18, 30, 31, 11 to 16, 32, 33, then the step; a refusal leaves words and lists as they were.
 ghost use mathlib.Core.Path.{_≡_};
 ghost use mathlib.Core.Bool.{true};
-ghost use Prim.Native.Nat.{_≤_};
+ghost use Prim.Native.Nat.{_+_, _*_, _≤_};
 ghost use lib.ListN.{length};
 ghost use Rattle.model.specs.Calls.{offers, offerFault};
 ghost use Rattle.model.specs.Sound.{isSound};
@@ -18,6 +18,9 @@ use bank::rows;
 use model::Lists;
 use model::Row;
 use step::advance;
+
+// The rows past the used ones that an offer is first tried with: those of a record, which has at most 1,024, and 128 more.
+const FEW: usize = 1152;
 
 // The lists with a record in hand.
 fn taken_up(lists: Lists, row: Row, used: u16) -> Lists
@@ -132,7 +135,7 @@ fn take_offer(
     places: &[u16; 32],
     reps: &[u16; 16384],
 ) -> Done
-    requires { ⌜ (sizeFits (now words) ≡ true) × (listsFit lists ≡ true) × (isSound (tablesOf (now words) lists) ≡ true) × (offerFault (tablesOf (now words) lists) (now symbols) mark ≡ 0) × Working (now words) (countsIn lists) (lists .used) (lists .s) (lists .states) (lists .t) (lists .rules) (lists .c) (lists .contexts) (now holes) (now head) (now next) (now mix) (now table) (now places) (now reps) × (length (now words) ≤ length (now saved)) ⌝ }
+    requires { ⌜ (sizeFits (now words) ≡ true) × (listsFit lists ≡ true) × (isSound (tablesOf (now words) lists) ≡ true) × (offerFault (tablesOf (now words) lists) (now symbols) mark ≡ 0) × Working (now words) (countsIn lists) (lists .used) (lists .s) (lists .states) (lists .t) (lists .rules) (lists .c) (lists .contexts) (now holes) (now head) (now next) (now mix) (now table) (now places) (now reps) × (length (now words) ≤ 6 * lists .used + length (now saved)) ⌝ }
     ensures { λ r. ⌜ CallAs (now (words .entry)) lists (offers (now (symbols .entry)) mark) r (now (words .exit)) ⌝ }
 {
     let letters = lists.letters as usize;
@@ -180,7 +183,7 @@ fn offer_within(
     mark: u8,
     saved: &mut [u32],
 ) -> Done
-    requires { ⌜ (sizeFits (now words) ≡ true) × (listsFit lists ≡ true) × (length (now words) ≤ length (now saved)) ⌝ }
+    requires { ⌜ (sizeFits (now words) ≡ true) × (listsFit lists ≡ true) × (length (now words) ≤ 6 * lists .used + length (now saved)) ⌝ }
     ensures { λ r. ⌜ CallAs (now (words .entry)) lists (offers (now (symbols .entry)) mark) r (now (words .exit)) ⌝ }
 {
     let mut holes = [0u8; 16384];
@@ -235,16 +238,17 @@ fn offer_within(
     )
 }
 
-// The same on the first 2,048 rows alone, of which few are saved: 34 where they are not enough.
+// The same with few rows past the used ones, and only these are saved: 34 where they are not enough.
 fn offer_first(words: &mut [u32], lists: Lists, symbols: &[u8], mark: u8) -> Done
-    requires { ⌜ (sizeFits (now words) ≡ true) × (listsFit lists ≡ true) × (lists .used ≤ 2048) ⌝ }
-    ensures { λ r. ⌜ FirstAs (now (words .entry)) lists (offers (now (symbols .entry)) mark) r (now (words .exit)) ⌝ }
+    requires { ⌜ (sizeFits (now words) ≡ true) × (listsFit lists ≡ true) ⌝ }
+    ensures { λ r. ⌜ FirstAs (now (words .entry)) (6 * (lists .used + 1152)) lists (offers (now (symbols .entry)) mark) r (now (words .exit)) ⌝ }
 {
-    let mut saved = [0u32; 12288];
-    if words.len() <= 12288 {
+    let mut saved = [0u32; rows::WIDTH * FEW];
+    let most = rows::WIDTH * (lists.used as usize + FEW);
+    if words.len() <= most {
         return offer_within(words, lists, symbols, mark, &mut saved);
     }
-    offer_within(&mut words[..12288], lists, symbols, mark, &mut saved)
+    offer_within(&mut words[..most], lists, symbols, mark, &mut saved)
 }
 
 // The same on all rows.
@@ -256,17 +260,17 @@ fn offer_all(words: &mut [u32], lists: Lists, symbols: &[u8], mark: u8) -> Done
     offer_within(words, lists, symbols, mark, &mut saved)
 }
 
-// The same: tried on the first rows where at least 128 of them are free, then on all.
+// The same: tried with few rows, and where they are not enough and more are lent, on all.
 fn offer_lent(words: &mut [u32], lists: Lists, symbols: &[u8], mark: u8) -> Done
     requires { ⌜ (sizeFits (now words) ≡ true) × (listsFit lists ≡ true) ⌝ }
     ensures { λ r. ⌜ CallAs (now (words .entry)) lists (offers (now (symbols .entry)) mark) r (now (words .exit)) ⌝ }
 {
-    if 1920 < lists.used {
-        return offer_all(words, lists, symbols, mark);
-    }
     let done = offer_first(words, lists, symbols, mark);
     let seen = done.seen;
     if seen.number != 34 {
+        return done;
+    }
+    if words.len() <= rows::WIDTH * (lists.used as usize + FEW) {
         return done;
     }
     offer_all(words, lists, symbols, mark)

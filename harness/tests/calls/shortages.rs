@@ -62,20 +62,31 @@ fn chained(rows: usize, length: usize, met: &mut Met) -> (Tables, u8) {
     (tables, seen.number)
 }
 
-/// Calls that the first 2,048 rows are too few for, on which the library tries them: an answer that wants 2,080, and an
-/// offer that wants 3,073.
+/// Calls that want about as many rows past the used ones as the library first tries them with, and more: 128 for an
+/// answer, of which these add 127 to 519, and 1,152 for an offer, which adds 3,070.
 #[test]
 fn past_the_first_rows() {
     let mut met = Met::default();
     let due = |rows: usize, wanted: usize| if rows < wanted { 34 } else { 0 };
-    for rows in [2_047, 2_048, 2_049, 2_079, 2_080, 2_081, 16_384] {
-        let (mut tables, _) = chained(rows, 520, &mut met);
-        assert_eq!(tables.lists.used, 1_561);
-        others(&tables, &mut met);
-        let seen = met.call(&mut tables, &Call::Answer(1));
-        assert_eq!(seen.number, due(rows, 2_080));
+    for length in [128, 129, 130, 520] {
+        let (used, wanted) = (3 * length + 1, 4 * length);
+        for rows in [
+            used + 127,
+            used + 128,
+            used + 129,
+            wanted - 1,
+            wanted,
+            wanted + 1,
+            16_384,
+        ] {
+            let (mut tables, _) = chained(rows, length, &mut met);
+            assert_eq!(tables.lists.used as usize, used);
+            others(&tables, &mut met);
+            let seen = met.call(&mut tables, &Call::Answer(1));
+            assert_eq!(seen.number, due(rows, wanted));
+        }
     }
-    for rows in [2_048, 2_049, 3_072, 3_073, 16_384] {
+    for rows in [1_154, 1_155, 1_156, 3_072, 3_073, 16_384] {
         let (tables, number) = chained(rows, 1_024, &mut met);
         assert_eq!(number, due(rows, 3_073));
         others(&tables, &mut met);

@@ -1,11 +1,13 @@
--- A call tried on the first 2,048 rows: refused with 34 it leaves the words, and else it is the call on all rows (model's LentPart).
+-- A call tried on the first n rows, the used ones among them: refused with 34 it leaves the words, and else it is the call on all rows
+-- (model's LentPart). Where no more rows are lent it is the call itself.
 use mathlib.Core.Path.{_≡_, refl, sym, ap, _∙_}
 use mathlib.Core.Logic.{_≢_}
 use mathlib.Core.Bool.{true}
 use mathlib.Core.List.{List, _++_}
-use Prim.Native.Nat.{ℕ, _≤_}
+use Prim.Native.Nat.{ℕ, _*_, _≤_, _<_}
 use native.Mathlib.Omega.{arith}
 use lib.ListN.{length, take, drop, take-append-drop}
+use Rattle.model.specs.Limits.{rowWidth}
 use Rattle.model.specs.Calls.{Call, Outcome, refuses, leaves, numberOf}
 use Rattle.model.specs.Entry.{sizeFits, listsFit, seenBy, wordsBy, callBy}
 use Rattle.model.specs.declared.Lists.{Lists}
@@ -23,29 +25,40 @@ refused-words ws (refuses n) e = refl
 refused-words ws (leaves y) e = absurd (omega (arith, e))
 
 -- on all rows, it is tried too
-pub all-as : {ws : List ℕ} {l : Lists} {k : Call} {r : Done} {us : List ℕ} → CallAs ws l k r us → FirstAs ws l k r us
-all-as {ws} {l} {k} c =
+pub all-as : {ws : List ℕ} {n : ℕ} {l : Lists} {k : Call} {r : Done} {us : List ℕ} → CallAs ws l k r us → FirstAs ws n l k r us
+all-as {ws} {n} {l} {k} c =
     record {
       short = λ e. c .words ∙ refused-words ws (callBy ws l k) (sym (ap (λ (s : Seen). s .number) (c .seen) ∙ seen-number (callBy ws l k)) ∙ e);
-      done = λ n. c;
+      done = λ d. c;
+      all = λ h. c;
     }
 
-module _ (ws : List ℕ) (l : Lists) (k : Call) (size : sizeFits ws ≡ true) (fit : listsFit l ≡ true) (held : l .used ≤ 2048) (enough : 12288 ≤ length ws) where
-  pub first-fits : sizeFits (take 12288 ws) ≡ true
-  first-fits = part-fits ws l 2048 size fit (omega arith) enough held
+module _ (ws : List ℕ) (n : ℕ) (l : Lists) (k : Call) (size : sizeFits ws ≡ true) (fit : listsFit l ≡ true) (some : 1 ≤ n) (held : l .used ≤ n) (more : rowWidth * n < length ws) where
+  enough : rowWidth * n ≤ length ws
+  enough = omega arith
 
-  pub first-as : {r : Done} {us : List ℕ} → CallAs (take 12288 ws) l k r us → FirstAs ws l k r (us ++ drop 12288 ws)
+  pub first-fits : sizeFits (take (rowWidth * n) ws) ≡ true
+  first-fits = part-fits ws l n size fit some enough held
+
+  pub first-as : {r : Done} {us : List ℕ} → CallAs (take (rowWidth * n) ws) l k r us → FirstAs ws (rowWidth * n) l k r (us ++ drop (rowWidth * n) ws)
   first-as {r} {us} c =
       record {
-        short = λ e. ap (λ (zs : List ℕ). zs ++ drop 12288 ws) (c .words ∙ refused-words (take 12288 ws) (callBy (take 12288 ws) l k) (sym number ∙ e)) ∙ take-append-drop 12288 ws;
-        done = λ n.
-            let d : numberOf (callBy (take 12288 ws) l k) ≢ 34 = λ e. n (number ∙ e) in
+        short = λ e. ap behind (c .words ∙ refused-words part (callBy part l k) (sym number ∙ e)) ∙ take-append-drop (rowWidth * n) ws;
+        done = λ d.
+            let d′ : numberOf (callBy part l k) ≢ 34 = λ e. d (number ∙ e) in
             record {
-              seen = c .seen ∙ sym (seen-part ws l 2048 size fit (omega arith) enough held k d);
-              lists = c .lists ∙ sym (lists-part ws l 2048 size fit (omega arith) enough held k d);
-              words = ap (λ (zs : List ℕ). zs ++ drop 12288 ws) (c .words) ∙ sym (words-part ws l 2048 size fit (omega arith) enough held k d);
+              seen = c .seen ∙ sym (seen-part ws l n size fit some enough held k d′);
+              lists = c .lists ∙ sym (lists-part ws l n size fit some enough held k d′);
+              words = ap behind (c .words) ∙ sym (words-part ws l n size fit some enough held k d′);
             };
+        all = λ h. absurd (omega arith);
       }
     where
-      number : r .seen .number ≡ numberOf (callBy (take 12288 ws) l k)
-      number = ap (λ (s : Seen). s .number) (c .seen) ∙ seen-number (callBy (take 12288 ws) l k)
+      part : List ℕ
+      part = take (rowWidth * n) ws
+
+      behind : List ℕ → List ℕ
+      behind zs = zs ++ drop (rowWidth * n) ws
+
+      number : r .seen .number ≡ numberOf (callBy part l k)
+      number = ap (λ (s : Seen). s .number) (c .seen) ∙ seen-number (callBy part l k)

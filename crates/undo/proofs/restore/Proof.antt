@@ -9,16 +9,19 @@ use Rattle.undo.proofs.restore.Statement.{statement}
 use Rattle.undo.proofs.restore.Tie as tie
 
 abbrev Inv-loop : tie.InvT-loop
-Inv-loop words₀ used saved at₀ words at = (6 * used ≤ at) × (at ≤ length words₀) × BackTo words₀ used at saved words
+Inv-loop words₀ used saved start at₀ words at = (6 * used ≤ at) × (at ≤ length words₀) × BackTo words₀ used at saved words
 
 abbrev μ-loop : tie.MeasureT-loop
-μ-loop words₀ used saved at₀ words at = length words₀ - at
+μ-loop words₀ used saved start at₀ words at = length words₀ - at
 
-mul-at : tie.Need-mul-at Inv-loop μ-loop
-mul-at c = search needs
+mul-start : tie.Need-mul-start Inv-loop μ-loop
+mul-start c = search needs
 
 loop-holds : tie.Need-loop-holds Inv-loop μ-loop
 loop-holds c = (omega arith, omega arith, back-none (c .args .words .now) (c .args .used) (c .args .saved .now))
+
+sub-words : tie.Need-sub-words Inv-loop μ-loop
+sub-words c = search needs
 
 mul-words : tie.Need-mul-words Inv-loop μ-loop
 mul-words c = search needs
@@ -59,8 +62,9 @@ restore-spec =
     (tie.spec
     Inv-loop
     μ-loop
-    mul-at
+    mul-start
     loop-holds
+    sub-words
     mul-words
     shared-slice-read-words
     mul-words-2

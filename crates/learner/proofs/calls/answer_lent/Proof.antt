@@ -1,37 +1,48 @@
--- `calls::answer_lent` meets its contract: tried on the first rows, the call is done, or refused with 34 and the words are as they were.
-use mathlib.Core.Path.{_≡_, sym, subst}
+-- `calls::answer_lent` meets its contract: tried on the first rows, the call is done, or refused with 34 and the words are as they were;
+-- and a refusal on all rows stands.
+use mathlib.Core.Path.{_≡_, sym, ap, subst}
 use mathlib.Core.Bool.{true}
 use mathlib.Core.List.{List}
 use Prim.Native.Nat.{ℕ}
+use native.Mathlib.Omega.{arith}
 use borrow.Author.Needs.{needs}
+use lib.ListN.{length}
 use Rattle.model.specs.Calls.{answers}
 use Rattle.model.specs.Entry.{sizeFits}
 use Rattle.learner.specs.Calls.{CallAs}
 use Rattle.learner.proofs.calls.answer_lent.Statement.{statement}
 use Rattle.learner.proofs.calls.answer_lent.Tie as tie
 
-answer-all-requires : tie.Need-answer-all-requires
-answer-all-requires c κs = search needs
+answer-first-requires : tie.Need-answer-first-requires
+answer-first-requires c κs = search needs
 
 same-length : tie.Need-same-length
 same-length c = search needs
 
 returns : tie.Need-returns
-returns c = search needs
+returns c = c .before .before .before .before .before .answer-first .ensures .done (c .if1 .taken)
 
-answer-first-requires : tie.Need-answer-first-requires
-answer-first-requires c κs = search needs
+cast-if2 : tie.Need-cast-if2
+cast-if2 c = search needs
+
+add-if2 : tie.Need-add-if2
+add-if2 c = search needs
+
+mul-if2 : tie.Need-mul-if2
+mul-if2 c = search needs
 
 same-length-2 : tie.Need-same-length-2
 same-length-2 c = search needs
 
 returns-2 : tie.Need-returns-2
-returns-2 c = c .before .before .before .before .before .answer-first .ensures .done (c .if2 .taken)
+returns-2 c =
+    let f = c .before .before .before .before .before .before .before .answer-first in
+    f .ensures .all (omega (arith, ap length (f .ensures .short (c .before .before .if1 .left))))
 
-answer-all-requires-2 : tie.Need-answer-all-requires-2
-answer-all-requires-2 c κs =
+answer-all-requires : tie.Need-answer-all-requires
+answer-all-requires c κs =
     let s = c .before .before .before .before .before .before .before .before .before .before .before in
-    (subst (λ (ws : List ℕ). sizeFits ws ≡ true) (sym (c .before .before .before .before .before .before .answer-first .ensures .short (c .before .if2 .left))) (s .pre .0), s .pre .1)
+    (subst (λ (ws : List ℕ). sizeFits ws ≡ true) (sym (c .before .before .before .before .before .before .before .before .answer-first .ensures .short (c .before .before .before .if1 .left))) (s .pre .0), s .pre .1)
 
 same-length-3 : tie.Need-same-length-3
 same-length-3 c = search needs
@@ -39,18 +50,21 @@ same-length-3 c = search needs
 returns-3 : tie.Need-returns-3
 returns-3 c =
     let s = c .before .before .before .before .before .before .before .before .before .before .before .before .before .before in
-    subst (λ (ws : List ℕ). CallAs ws (s .args .lists) (answers (s .args .mark)) (c .before .before .answer-all2 .result) (c .before .before .answer-all2 .last .0)) (c .before .before .before .before .before .before .before .before .before .answer-first .ensures .short (c .before .before .before .before .if2 .left)) (c .before .before .answer-all2 .ensures)
+    let a = c .before .before .answer-all in
+    subst (λ (ws : List ℕ). CallAs ws (s .args .lists) (answers (s .args .mark)) (a .result) (a .last .0)) (c .before .before .before .before .before .before .before .before .before .before .before .answer-first .ensures .short (c .before .before .before .before .before .before .if1 .left)) (a .ensures)
 
 pub answer-lent-spec : {M : Type 1} → statement M
 answer-lent-spec =
     tie.close
     (tie.spec
-    answer-all-requires
+    answer-first-requires
     same-length
     returns
-    answer-first-requires
+    cast-if2
+    add-if2
+    mul-if2
     same-length-2
     returns-2
-    answer-all-requires-2
+    answer-all-requires
     same-length-3
     returns-3)

@@ -1,37 +1,48 @@
--- `offer::offer_lent` meets its contract: tried on the first rows, the call is done, or refused with 34 and the words are as they were.
-use mathlib.Core.Path.{_≡_, sym, subst}
+-- `offer::offer_lent` meets its contract: tried on the first rows, the call is done, or refused with 34 and the words are as they were;
+-- and a refusal on all rows stands.
+use mathlib.Core.Path.{_≡_, sym, ap, subst}
 use mathlib.Core.Bool.{true}
 use mathlib.Core.List.{List}
 use Prim.Native.Nat.{ℕ}
+use native.Mathlib.Omega.{arith}
 use borrow.Author.Needs.{needs}
+use lib.ListN.{length}
 use Rattle.model.specs.Calls.{offers}
 use Rattle.model.specs.Entry.{sizeFits}
 use Rattle.learner.specs.Calls.{CallAs}
 use Rattle.learner.proofs.offer.offer_lent.Statement.{statement}
 use Rattle.learner.proofs.offer.offer_lent.Tie as tie
 
-offer-all-requires : tie.Need-offer-all-requires
-offer-all-requires c κs = search needs
+offer-first-requires : tie.Need-offer-first-requires
+offer-first-requires c κs = search needs
 
 same-length : tie.Need-same-length
 same-length c = search needs
 
 returns : tie.Need-returns
-returns c = search needs
+returns c = c .before .before .before .before .before .offer-first .ensures .done (c .if1 .taken)
 
-offer-first-requires : tie.Need-offer-first-requires
-offer-first-requires c κs = search needs
+cast-if2 : tie.Need-cast-if2
+cast-if2 c = search needs
+
+add-if2 : tie.Need-add-if2
+add-if2 c = search needs
+
+mul-if2 : tie.Need-mul-if2
+mul-if2 c = search needs
 
 same-length-2 : tie.Need-same-length-2
 same-length-2 c = search needs
 
 returns-2 : tie.Need-returns-2
-returns-2 c = c .before .before .before .before .before .offer-first .ensures .done (c .if2 .taken)
+returns-2 c =
+    let f = c .before .before .before .before .before .before .before .offer-first in
+    f .ensures .all (omega (arith, ap length (f .ensures .short (c .before .before .if1 .left))))
 
-offer-all-requires-2 : tie.Need-offer-all-requires-2
-offer-all-requires-2 c κs =
+offer-all-requires : tie.Need-offer-all-requires
+offer-all-requires c κs =
     let s = c .before .before .before .before .before .before .before .before .before .before .before .before in
-    (subst (λ (ws : List ℕ). sizeFits ws ≡ true) (sym (c .before .before .before .before .before .before .offer-first .ensures .short (c .before .if2 .left))) (s .pre .0), s .pre .1)
+    (subst (λ (ws : List ℕ). sizeFits ws ≡ true) (sym (c .before .before .before .before .before .before .before .before .offer-first .ensures .short (c .before .before .before .if1 .left))) (s .pre .0), s .pre .1)
 
 same-length-3 : tie.Need-same-length-3
 same-length-3 c = search needs
@@ -39,18 +50,21 @@ same-length-3 c = search needs
 returns-3 : tie.Need-returns-3
 returns-3 c =
     let s = c .before .before .before .before .before .before .before .before .before .before .before .before .before .before .before in
-    subst (λ (ws : List ℕ). CallAs ws (s .args .lists) (offers (s .args .symbols .now) (s .args .mark)) (c .before .before .offer-all2 .result) (c .before .before .offer-all2 .last .0)) (c .before .before .before .before .before .before .before .before .before .offer-first .ensures .short (c .before .before .before .before .if2 .left)) (c .before .before .offer-all2 .ensures)
+    let a = c .before .before .offer-all in
+    subst (λ (ws : List ℕ). CallAs ws (s .args .lists) (offers (s .args .symbols .now) (s .args .mark)) (a .result) (a .last .0)) (c .before .before .before .before .before .before .before .before .before .before .before .offer-first .ensures .short (c .before .before .before .before .before .before .if1 .left)) (a .ensures)
 
 pub offer-lent-spec : {M : Type 1} → statement M
 offer-lent-spec =
     tie.close
     (tie.spec
-    offer-all-requires
+    offer-first-requires
     same-length
     returns
-    offer-first-requires
+    cast-if2
+    add-if2
+    mul-if2
     same-length-2
     returns-2
-    offer-all-requires-2
+    offer-all-requires
     same-length-3
     returns-3)
