@@ -11,7 +11,7 @@ pub const MIXES: [[u64; 5]; 8] = [
     [499994353, 314606869, 217645199, 443834137, 125640277],
     [389632747, 293736061, 482317931, 151372381, 519127069],
     [267914297, 433494437, 102334157, 370248451, 165580143],
-    [402653189, 201326611, 100663319, 50331653, 25165843],
+    [433024223, 387240167, 296452379, 521140393, 174440041],
     [350377541, 478905283, 188748719, 290182597, 413158511],
     [231928237, 509203747, 143655607, 337190719, 465241489],
     [275604547, 395933333, 180503471, 527824621, 246202447],
@@ -22,10 +22,11 @@ pub const MIXES: [[u64; 5]; 8] = [
 const PARENT: u32 = 60;
 const LEAVES: u32 = 60;
 
+/// The bucket among 16,384, as a call has them on a table of more than 2,048 rows.
 pub fn bucket(mix: &[u64; 5], symbol: u32, places: [u32; 4]) -> u64 {
     let products = places.iter().zip(&mix[1..]);
     let sum: u64 = products.map(|(&place, factor)| place as u64 * factor).sum();
-    (symbol as u64 * mix[0] + sum) % 2_147_483_629 % 16_384
+    ((symbol as u64 * mix[0] + sum) % (1 << 31) * 16_384) >> 31
 }
 
 /// A table under construction: leaves, then rows that stand on the rows below `base`.

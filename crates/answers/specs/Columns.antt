@@ -4,13 +4,12 @@ use mathlib.Core.Bool.{true}
 use mathlib.Core.List.{List}
 use Prim.Native.Nat.{ℕ, _-_, _≤_, _<_}
 use lib.ListN.{length, getD}
-use Rattle.model.specs.Limits.{mostRows}
 use Rattle.model.specs.Store.{Store, isContext, kidsAt, filledRow, framesOf}
 use Rattle.bank.specs.Rows.{answerIn}
 
 -- the rows beyond row 0 with a hole, in order
 pub record HoledRows (holes : List ℕ) (u : ℕ) (rows : List ℕ) (n : ℕ) : Type 0 where
-  pub long : length rows ≡ mostRows
+  pub long : n ≤ length rows
   pub few : n ≤ u
   pub some : (p : ℕ) → p < n → 0 < getD rows p 0
   pub within : (p : ℕ) → p < n → getD rows p 0 < u
@@ -24,7 +23,7 @@ holeKid x hs i = getD (kidsAt x i) (getD hs i 0 - 1) 0
 
 -- at each context the row that it fills to with a record; 0 where it is not stored
 pub record Column (x : Store) (row : ℕ) (filled : List ℕ) : Type 0 where
-  pub long : length filled ≡ mostRows
+  pub long : length (x .nodes) ≤ length filled
   pub within : (i : ℕ) → isContext x i ≡ true → getD filled i 0 < length (x .nodes)
   pub right : (i : ℕ) → isContext x i ≡ true → getD filled i 0 ≡ filledRow x (framesOf x i) row
 

@@ -13,13 +13,14 @@ ghost use Rattle.model.specs.Entry.{storeOf, answersIn};
 ghost use Rattle.bank.specs.Ready.{Ready, frameAt};
 ghost use Rattle.table.specs.Answers.{rowAt, Observed, KnownRows, ToGap};
 ghost use Rattle.answers.specs.Columns.{HoledRows, holeKid, Column, Answered, Contexts, Used};
+use bank::context;
 use bank::index;
 use bank::rows;
 use model::Row;
 
 // The rows beyond row 0 with a hole, in order, and how many they are.
-pub fn holed_rows(used: u16, holes: &[u8; 16384], list: &mut [u16; 16384]) -> u16
-    requires { ⌜ (length (now holes) ≡ 16384) × (length (now list) ≡ 16384) × (0 < used) × (used ≤ 16384) ⌝ }
+pub fn holed_rows(used: u16, holes: &[u8], list: &mut [u16]) -> u16
+    requires { ⌜ (used ≤ length (now holes)) × (used ≤ length (now list)) × (0 < used) × (used ≤ 16384) ⌝ }
     ensures { λ r. ⌜ HoledRows (now (holes .entry)) used (now (list .exit)) r ⌝ }
 {
     let mut n: u16 = 0;
@@ -39,9 +40,9 @@ fn hole_kid(
     words: &[u32],
     counts: &[u8],
     used: u16,
-    holes: &[u8; 16384],
-    head: &[u16; 16384],
-    next: &[u16; 16384],
+    holes: &[u8],
+    head: &[u16],
+    next: &[u16],
     mix: &[u32; 5],
     row: Row,
 ) -> Row
@@ -59,9 +60,9 @@ fn refill(
     words: &[u32],
     counts: &[u8],
     used: u16,
-    holes: &[u8; 16384],
-    head: &[u16; 16384],
-    next: &[u16; 16384],
+    holes: &[u8],
+    head: &[u16],
+    next: &[u16],
     mix: &[u32; 5],
     row: Row,
     with: Row,
@@ -85,16 +86,16 @@ fn fill_column(
     words: &[u32],
     counts: &[u8],
     used: u16,
-    holes: &[u8; 16384],
-    head: &[u16; 16384],
-    next: &[u16; 16384],
+    holes: &[u8],
+    head: &[u16],
+    next: &[u16],
     mix: &[u32; 5],
-    list: &[u16; 16384],
+    list: &[u16],
     n: u16,
     with: Row,
-    filled: &mut [u16; 16384],
+    filled: &mut [u16],
 )
-    requires { ⌜ Ready (now words) (now counts) used (now holes) (now head) (now next) (now mix) × HoledRows (now holes) used (now list) n × (with .0 < used) × (length (now filled) ≡ 16384) ⌝ }
+    requires { ⌜ Ready (now words) (now counts) used (now holes) (now head) (now next) (now mix) × HoledRows (now holes) used (now list) n × (with .0 < used) × (used ≤ length (now filled)) ⌝ }
     ensures { λ _. ⌜ Column (storeOf (now (words .entry)) (now (counts .entry)) used) (with .0) (now (filled .exit)) ⌝ }
 {
     filled[0] = with.0;
@@ -110,14 +111,7 @@ fn fill_column(
 }
 
 // The answer of a record at a context, from the record's column.
-fn answer_at(
-    words: &[u32],
-    counts: &[u8],
-    used: u16,
-    with: Row,
-    filled: &[u16; 16384],
-    context: Row,
-) -> u8
+fn answer_at(words: &[u32], counts: &[u8], used: u16, with: Row, filled: &[u16], context: Row) -> u8
     requires { ⌜ (6 * used ≤ length (now words)) × (used ≤ 16384) × Answered (now words) used × Column (storeOf (now words) (now counts) used) (with .0) (now filled) × (isContext (storeOf (now words) (now counts) used) (context .0) ≡ true) ⌝ }
     ensures { λ r. ⌜ r ≡ answerIn (storeOf (now (words .entry)) (now (counts .entry)) used) (answersIn used (now (words .entry))) (context .0) (with .0) ⌝ }
 {
@@ -131,13 +125,13 @@ fn read_column(
     counts: &[u8],
     used: u16,
     with: Row,
-    filled: &[u16; 16384],
+    filled: &[u16],
     c: &[u16; 289],
     contexts: usize,
     k: usize,
-    table: &mut [u8; 73984],
+    table: &mut [u8],
 )
-    requires { ⌜ (6 * used ≤ length (now words)) × (used ≤ 16384) × Answered (now words) used × Column (storeOf (now words) (now counts) used) (with .0) (now filled) × Contexts (storeOf (now words) (now counts) used) (now c) contexts × (length (now c) ≡ 289) × (contexts ≤ 289) × (k < 256) × (length (now table) ≡ 73984) ⌝ }
+    requires { ⌜ (6 * used ≤ length (now words)) × (used ≤ 16384) × Answered (now words) used × Column (storeOf (now words) (now counts) used) (with .0) (now filled) × Contexts (storeOf (now words) (now counts) used) (now c) contexts × (length (now c) ≡ 289) × (contexts ≤ 289) × (mostContexts * k + mostContexts ≤ length (now table)) ⌝ }
     ensures { λ _. ⌜ now (table .exit) ≡ sets (now (table .entry)) (mostContexts * k) (answersOf (storeOf (now (words .entry)) (now (counts .entry)) used) (answersIn used (now (words .entry))) (take contexts (now (c .entry))) (with .0)) ⌝ }
 {
     let mut j = 0;
@@ -153,22 +147,22 @@ fn observe_row(
     words: &[u32],
     counts: &[u8],
     used: u16,
-    holes: &[u8; 16384],
-    head: &[u16; 16384],
-    next: &[u16; 16384],
+    holes: &[u8],
+    head: &[u16],
+    next: &[u16],
     mix: &[u32; 5],
-    list: &[u16; 16384],
+    list: &[u16],
     n: u16,
     t: &[u16; 256],
     k: usize,
     c: &[u16; 289],
     contexts: usize,
-    filled: &mut [u16; 16384],
-    table: &mut [u8; 73984],
+    filled: &mut [u16],
+    table: &mut [u8],
 )
-    requires { ⌜ Ready (now words) (now counts) used (now holes) (now head) (now next) (now mix) × Answered (now words) used × HoledRows (now holes) used (now list) n × (length (now t) ≡ 256) × (k < 256) × (getD (now t) k 0 < used) × Contexts (storeOf (now words) (now counts) used) (now c) contexts × (length (now c) ≡ 289) × (contexts ≤ 289) × (length (now filled) ≡ 16384) × Observed (storeOf (now words) (now counts) used) (answersIn used (now words)) (now t) k (now c) contexts (now table) ⌝ }
+    requires { ⌜ Ready (now words) (now counts) used (now holes) (now head) (now next) (now mix) × Answered (now words) used × HoledRows (now holes) used (now list) n × (length (now t) ≡ 256) × (k < 256) × (getD (now t) k 0 < used) × Contexts (storeOf (now words) (now counts) used) (now c) contexts × (length (now c) ≡ 289) × (contexts ≤ 289) × (used ≤ length (now filled)) × (mostContexts * k + mostContexts ≤ length (now table)) × Observed (storeOf (now words) (now counts) used) (answersIn used (now words)) (now t) k (now c) contexts (now table) ⌝ }
     ensures { λ _. ⌜ Observed (storeOf (now (words .entry)) (now (counts .entry)) used) (answersIn used (now (words .entry))) (now (t .entry)) (k + 1) (now (c .entry)) contexts (now (table .exit)) ⌝ }
-    ensures filled { λ _. ⌜ length (now (filled .exit)) ≡ 16384 ⌝ }
+    ensures filled { λ _. ⌜ length (now (filled .exit)) ≡ length (now (filled .entry)) ⌝ }
     ensures row { λ _. ⌜ now (table .exit) ≡ sets (now (table .entry)) (mostContexts * k) (answersOf (storeOf (now (words .entry)) (now (counts .entry)) used) (answersIn used (now (words .entry))) (take contexts (now (c .entry))) (getD (now (t .entry)) k 0)) ⌝ }
 {
     let with = Row(t[k]);
@@ -189,26 +183,26 @@ fn observe_row(
 }
 
 // The answers of the first transitions at the first contexts, into the table.
-pub fn observe(
+fn observe_with(
     words: &[u32],
     counts: &[u8],
     used: u16,
-    holes: &[u8; 16384],
-    head: &[u16; 16384],
-    next: &[u16; 16384],
+    holes: &[u8],
+    head: &[u16],
+    next: &[u16],
     mix: &[u32; 5],
     t: &[u16; 256],
     rules: usize,
     c: &[u16; 289],
     contexts: usize,
-    table: &mut [u8; 73984],
+    table: &mut [u8],
+    list: &mut [u16],
+    filled: &mut [u16],
 )
-    requires { ⌜ Ready (now words) (now counts) used (now holes) (now head) (now next) (now mix) × Answered (now words) used × Used used (now t) rules × (length (now t) ≡ 256) × (rules ≤ 256) × Contexts (storeOf (now words) (now counts) used) (now c) contexts × (length (now c) ≡ 289) × (contexts ≤ 289) × (length (now table) ≡ 73984) ⌝ }
+    requires { ⌜ Ready (now words) (now counts) used (now holes) (now head) (now next) (now mix) × Answered (now words) used × Used used (now t) rules × (length (now t) ≡ 256) × (rules ≤ 256) × Contexts (storeOf (now words) (now counts) used) (now c) contexts × (length (now c) ≡ 289) × (contexts ≤ 289) × (mostContexts * rules ≤ length (now table)) × (used ≤ length (now list)) × (used ≤ length (now filled)) ⌝ }
     ensures { λ _. ⌜ Observed (storeOf (now (words .entry)) (now (counts .entry)) used) (answersIn used (now (words .entry))) (now (t .entry)) rules (now (c .entry)) contexts (now (table .exit)) ⌝ }
 {
-    let mut list = [0u16; 16384];
-    let mut filled = [0u16; 16384];
-    let n = holed_rows(used, holes, &mut list);
+    let n = holed_rows(used, holes, list);
     let mut k = 0;
     while k < rules {
         observe_row(
@@ -219,17 +213,109 @@ pub fn observe(
             head,
             next,
             mix,
-            &list,
+            list,
             n,
             t,
             k,
             c,
             contexts,
-            &mut filled,
+            filled,
             table,
         );
         k += 1;
     }
+}
+
+// The same where few rows are used.
+fn observe_few(
+    words: &[u32],
+    counts: &[u8],
+    used: u16,
+    holes: &[u8],
+    head: &[u16],
+    next: &[u16],
+    mix: &[u32; 5],
+    t: &[u16; 256],
+    rules: usize,
+    c: &[u16; 289],
+    contexts: usize,
+    table: &mut [u8],
+)
+    requires { ⌜ Ready (now words) (now counts) used (now holes) (now head) (now next) (now mix) × Answered (now words) used × Used used (now t) rules × (length (now t) ≡ 256) × (rules ≤ 256) × Contexts (storeOf (now words) (now counts) used) (now c) contexts × (length (now c) ≡ 289) × (contexts ≤ 289) × (mostContexts * rules ≤ length (now table)) × (used ≤ 1024) ⌝ }
+    ensures { λ _. ⌜ Observed (storeOf (now (words .entry)) (now (counts .entry)) used) (answersIn used (now (words .entry))) (now (t .entry)) rules (now (c .entry)) contexts (now (table .exit)) ⌝ }
+{
+    let mut list = [0u16; 1024];
+    let mut filled = [0u16; 1024];
+    observe_with(
+        words,
+        counts,
+        used,
+        holes,
+        head,
+        next,
+        mix,
+        t,
+        rules,
+        c,
+        contexts,
+        table,
+        &mut list,
+        &mut filled,
+    )
+}
+
+// The same, whatever is used.
+pub fn observe(
+    words: &[u32],
+    counts: &[u8],
+    used: u16,
+    holes: &[u8],
+    head: &[u16],
+    next: &[u16],
+    mix: &[u32; 5],
+    t: &[u16; 256],
+    rules: usize,
+    c: &[u16; 289],
+    contexts: usize,
+    table: &mut [u8],
+)
+    requires { ⌜ Ready (now words) (now counts) used (now holes) (now head) (now next) (now mix) × Answered (now words) used × Used used (now t) rules × (length (now t) ≡ 256) × (rules ≤ 256) × Contexts (storeOf (now words) (now counts) used) (now c) contexts × (length (now c) ≡ 289) × (contexts ≤ 289) × (mostContexts * rules ≤ length (now table)) ⌝ }
+    ensures { λ _. ⌜ Observed (storeOf (now (words .entry)) (now (counts .entry)) used) (answersIn used (now (words .entry))) (now (t .entry)) rules (now (c .entry)) contexts (now (table .exit)) ⌝ }
+{
+    if used <= context::FEW {
+        return observe_few(
+            words,
+            counts,
+            used,
+            holes,
+            head,
+            next,
+            mix,
+            t,
+            rules,
+            c,
+            contexts,
+            table,
+        );
+    }
+    let mut list = [0u16; 16384];
+    let mut filled = [0u16; 16384];
+    observe_with(
+        words,
+        counts,
+        used,
+        holes,
+        head,
+        next,
+        mix,
+        t,
+        rules,
+        c,
+        contexts,
+        table,
+        &mut list,
+        &mut filled,
+    )
 }
 
 // The k-th row of the table, worked out again if it has an unknown answer, and else as it is: whether it has one then.
@@ -237,22 +323,22 @@ fn update_row(
     words: &[u32],
     counts: &[u8],
     used: u16,
-    holes: &[u8; 16384],
-    head: &[u16; 16384],
-    next: &[u16; 16384],
+    holes: &[u8],
+    head: &[u16],
+    next: &[u16],
     mix: &[u32; 5],
-    list: &[u16; 16384],
+    list: &[u16],
     n: u16,
     t: &[u16; 256],
     rules: usize,
     k: usize,
     c: &[u16; 289],
     contexts: usize,
-    filled: &mut [u16; 16384],
-    table: &mut [u8; 73984],
+    filled: &mut [u16],
+    table: &mut [u8],
 ) -> bool
-    requires { ⌜ Ready (now words) (now counts) used (now holes) (now head) (now next) (now mix) × Answered (now words) used × HoledRows (now holes) used (now list) n × (length (now t) ≡ 256) × (k < rules) × (getD (now t) k 0 < used) × Contexts (storeOf (now words) (now counts) used) (now c) contexts × (length (now c) ≡ 289) × (length (now filled) ≡ 16384) × Observed (storeOf (now words) (now counts) used) (answersIn used (now words)) (now t) k (now c) contexts (now table) × KnownRows (storeOf (now words) (now counts) used) (answersIn used (now words)) (now t) rules (now c) contexts (now table) ⌝ }
-    ensures { λ r. ⌜ Observed (storeOf (now (words .entry)) (now (counts .entry)) used) (answersIn used (now (words .entry))) (now (t .entry)) (k + 1) (now (c .entry)) contexts (now (table .exit)) × KnownRows (storeOf (now (words .entry)) (now (counts .entry)) used) (answersIn used (now (words .entry))) (now (t .entry)) rules (now (c .entry)) contexts (now (table .exit)) × (length (now (filled .exit)) ≡ 16384) × (r ≡ among 0 (rowAt (now (table .exit)) contexts k)) ⌝ }
+    requires { ⌜ Ready (now words) (now counts) used (now holes) (now head) (now next) (now mix) × Answered (now words) used × HoledRows (now holes) used (now list) n × (length (now t) ≡ 256) × (k < rules) × (getD (now t) k 0 < used) × Contexts (storeOf (now words) (now counts) used) (now c) contexts × (length (now c) ≡ 289) × (used ≤ length (now filled)) × Observed (storeOf (now words) (now counts) used) (answersIn used (now words)) (now t) k (now c) contexts (now table) × KnownRows (storeOf (now words) (now counts) used) (answersIn used (now words)) (now t) rules (now c) contexts (now table) ⌝ }
+    ensures { λ r. ⌜ Observed (storeOf (now (words .entry)) (now (counts .entry)) used) (answersIn used (now (words .entry))) (now (t .entry)) (k + 1) (now (c .entry)) contexts (now (table .exit)) × KnownRows (storeOf (now (words .entry)) (now (counts .entry)) used) (answersIn used (now (words .entry))) (now (t .entry)) rules (now (c .entry)) contexts (now (table .exit)) × (length (now (filled .exit)) ≡ length (now (filled .entry))) × (r ≡ among 0 (rowAt (now (table .exit)) contexts k)) ⌝ }
 {
     if !table::has_answer(table, contexts, k, 0) {
         return false;
@@ -279,26 +365,26 @@ fn update_row(
 
 // The same up to the first transition with an unknown answer, if there is one: how many transitions have their answers.
 // In the table lent a row without an unknown answer is right, and stays as it is.
-pub fn observe_to_gap(
+fn gap_with(
     words: &[u32],
     counts: &[u8],
     used: u16,
-    holes: &[u8; 16384],
-    head: &[u16; 16384],
-    next: &[u16; 16384],
+    holes: &[u8],
+    head: &[u16],
+    next: &[u16],
     mix: &[u32; 5],
     t: &[u16; 256],
     rules: usize,
     c: &[u16; 289],
     contexts: usize,
-    table: &mut [u8; 73984],
+    table: &mut [u8],
+    list: &mut [u16],
+    filled: &mut [u16],
 ) -> usize
-    requires { ⌜ Ready (now words) (now counts) used (now holes) (now head) (now next) (now mix) × Answered (now words) used × Used used (now t) rules × (length (now t) ≡ 256) × (rules ≤ 256) × Contexts (storeOf (now words) (now counts) used) (now c) contexts × (length (now c) ≡ 289) × (contexts ≤ 289) × KnownRows (storeOf (now words) (now counts) used) (answersIn used (now words)) (now t) rules (now c) contexts (now table) ⌝ }
+    requires { ⌜ Ready (now words) (now counts) used (now holes) (now head) (now next) (now mix) × Answered (now words) used × Used used (now t) rules × (length (now t) ≡ 256) × (rules ≤ 256) × Contexts (storeOf (now words) (now counts) used) (now c) contexts × (length (now c) ≡ 289) × (contexts ≤ 289) × KnownRows (storeOf (now words) (now counts) used) (answersIn used (now words)) (now t) rules (now c) contexts (now table) × (used ≤ length (now list)) × (used ≤ length (now filled)) ⌝ }
     ensures { λ r. ⌜ ToGap (storeOf (now (words .entry)) (now (counts .entry)) used) (answersIn used (now (words .entry))) (now (t .entry)) rules (now (c .entry)) contexts (now (table .exit)) r ⌝ }
 {
-    let mut list = [0u16; 16384];
-    let mut filled = [0u16; 16384];
-    let n = holed_rows(used, holes, &mut list);
+    let n = holed_rows(used, holes, list);
     let mut k = 0;
     while k < rules {
         if update_row(
@@ -309,14 +395,14 @@ pub fn observe_to_gap(
             head,
             next,
             mix,
-            &list,
+            list,
             n,
             t,
             rules,
             k,
             c,
             contexts,
-            &mut filled,
+            filled,
             table,
         ) {
             return k + 1;
@@ -324,4 +410,96 @@ pub fn observe_to_gap(
         k += 1;
     }
     rules
+}
+
+// The same where few rows are used.
+fn gap_few(
+    words: &[u32],
+    counts: &[u8],
+    used: u16,
+    holes: &[u8],
+    head: &[u16],
+    next: &[u16],
+    mix: &[u32; 5],
+    t: &[u16; 256],
+    rules: usize,
+    c: &[u16; 289],
+    contexts: usize,
+    table: &mut [u8],
+) -> usize
+    requires { ⌜ Ready (now words) (now counts) used (now holes) (now head) (now next) (now mix) × Answered (now words) used × Used used (now t) rules × (length (now t) ≡ 256) × (rules ≤ 256) × Contexts (storeOf (now words) (now counts) used) (now c) contexts × (length (now c) ≡ 289) × (contexts ≤ 289) × KnownRows (storeOf (now words) (now counts) used) (answersIn used (now words)) (now t) rules (now c) contexts (now table) × (used ≤ 1024) ⌝ }
+    ensures { λ r. ⌜ ToGap (storeOf (now (words .entry)) (now (counts .entry)) used) (answersIn used (now (words .entry))) (now (t .entry)) rules (now (c .entry)) contexts (now (table .exit)) r ⌝ }
+{
+    let mut list = [0u16; 1024];
+    let mut filled = [0u16; 1024];
+    gap_with(
+        words,
+        counts,
+        used,
+        holes,
+        head,
+        next,
+        mix,
+        t,
+        rules,
+        c,
+        contexts,
+        table,
+        &mut list,
+        &mut filled,
+    )
+}
+
+// The same, whatever is used.
+pub fn observe_to_gap(
+    words: &[u32],
+    counts: &[u8],
+    used: u16,
+    holes: &[u8],
+    head: &[u16],
+    next: &[u16],
+    mix: &[u32; 5],
+    t: &[u16; 256],
+    rules: usize,
+    c: &[u16; 289],
+    contexts: usize,
+    table: &mut [u8],
+) -> usize
+    requires { ⌜ Ready (now words) (now counts) used (now holes) (now head) (now next) (now mix) × Answered (now words) used × Used used (now t) rules × (length (now t) ≡ 256) × (rules ≤ 256) × Contexts (storeOf (now words) (now counts) used) (now c) contexts × (length (now c) ≡ 289) × (contexts ≤ 289) × KnownRows (storeOf (now words) (now counts) used) (answersIn used (now words)) (now t) rules (now c) contexts (now table) ⌝ }
+    ensures { λ r. ⌜ ToGap (storeOf (now (words .entry)) (now (counts .entry)) used) (answersIn used (now (words .entry))) (now (t .entry)) rules (now (c .entry)) contexts (now (table .exit)) r ⌝ }
+{
+    if used <= context::FEW {
+        return gap_few(
+            words,
+            counts,
+            used,
+            holes,
+            head,
+            next,
+            mix,
+            t,
+            rules,
+            c,
+            contexts,
+            table,
+        );
+    }
+    let mut list = [0u16; 16384];
+    let mut filled = [0u16; 16384];
+    gap_with(
+        words,
+        counts,
+        used,
+        holes,
+        head,
+        next,
+        mix,
+        t,
+        rules,
+        c,
+        contexts,
+        table,
+        &mut list,
+        &mut filled,
+    )
 }

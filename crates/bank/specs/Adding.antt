@@ -18,7 +18,7 @@ use Rattle.bank.specs.Pass.{holeBy}
 pub record Lent (words : List ℕ) (n : ℕ) (holes head next mix : List ℕ) : Type 0 where
   pub lent : rowsLent words ≤ mostRows
   pub finding : Finding mix words n head next
-  pub holes-long : length holes ≡ mostRows
+  pub holes-long : length words ≤ rowWidth * length holes
 
 -- the place, plus one, of a child with a hole; 0 for a child without
 abbrev pub holeAbove : (holes : List ℕ) → (kid place : ℕ) → ℕ
@@ -29,7 +29,7 @@ pub data Put (words : List ℕ) (n : ℕ) (holes head next mix : List ℕ) (symb
   found : {j : ℕ} → j ≡ findIn words n symbol places → (j ≡ 0 → ⊥) → Put words n holes head next mix symbol places hole (grownRow j n) words holes head next
   no-room : findIn words n symbol places ≡ 0 → length words < rowWidth * n + rowWidth → Put words n holes head next mix symbol places hole Grown.Full words holes head next
   written : {words' head' next' : List ℕ} → findIn words n symbol places ≡ 0 → Within words n → words' ≡ withRow words n symbol places →
-      Indexed mix words' (n + 1) head' next' → length head' ≡ mostRows → length next' ≡ mostRows →
+      Indexed mix words' (n + 1) head' next' → length head' ≡ length head → length next' ≡ length next →
       Put words n holes head next mix symbol places hole (grownRow n (n + 1)) words' (set holes n hole) head' next'
 
 -- some counts under which a condition holds
@@ -40,7 +40,7 @@ pub record Under (condition : (counts : List ℕ) → Type 0) : Type 0 where
 -- FRAMES ASKED to be filled with a row: at least one from a row down, each around a child
 pub record FramesAsked (words counts : List ℕ) (n : ℕ) (holes head next mix places : List ℕ) (row with : ℕ) : Type 0 where
   pub ready : Ready words counts n holes head next mix
-  pub places-long : length places ≡ mostRows
+  pub places-long : n ≤ length places
   pub row-used : row < n
   pub with-used : with < n
   pub named : getD places row 0 ≡ 0 → ⊥

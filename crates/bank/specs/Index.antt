@@ -1,7 +1,7 @@
 -- The hash index over the used rows: bucket heads and chains, from the latest row to the first. Assumes nothing: these are definitions.
 use mathlib.Core.Path.{_≡_}
 use mathlib.Core.List.{List, [], _∷_}
-use Prim.Native.Nat.{ℕ, _+_, _*_, _%_, _≤_, _<_}
+use Prim.Native.Nat.{ℕ, _+_, _*_, _/_, _%_, _≤_, _<_}
 use lib.ListN.{length, getD, drop}
 use Rattle.model.specs.Limits.{mostRows}
 use Rattle.model.specs.Store.{Node, findFrom}
@@ -10,27 +10,38 @@ use Rattle.bank.specs.Rows.{symbolIn, kidIn, placesIn}
 use Rattle.model.specs.declared.Row.{Row}
 use Rattle.bank.specs.declared.index.Sight.{Sight}
 
--- the bucket of a symbol and four places, under five multipliers
-abbrev pub bucketOf : (mix : List ℕ) → (symbol kid0 kid1 kid2 kid3 : ℕ) → ℕ
-bucketOf m a k l n o =
-    (a * getD m 0 0 + k * getD m 1 0 + l * getD m 2 0 + n * getD m 3 0 + o * getD m 4 0) % 2147483629 % mostRows
+-- the bucket of a symbol and four places among so many, under five multipliers
+abbrev pub bucketOf : (mix : List ℕ) → (size symbol kid0 kid1 kid2 kid3 : ℕ) → ℕ
+bucketOf m z a k l n o =
+    (a * getD m 0 0 + k * getD m 1 0 + l * getD m 2 0 + n * getD m 3 0 + o * getD m 4 0) % 2147483648 * z / 2147483648
 
-unfoldable pub bucketAt : (mix words : List ℕ) → (row : ℕ) → ℕ
-bucketAt m ws i = bucketOf m (symbolIn ws i) (kidIn ws i 0) (kidIn ws i 1) (kidIn ws i 2) (kidIn ws i 3)
+unfoldable pub bucketAt : (mix : List ℕ) → (size : ℕ) → (words : List ℕ) → (row : ℕ) → ℕ
+bucketAt m z ws i = bucketOf m z (symbolIn ws i) (kidIn ws i 0) (kidIn ws i 1) (kidIn ws i 2) (kidIn ws i 3)
+
+abbrev pub bucketFor : (mix : List ℕ) → (size symbol : ℕ) → (places : List ℕ) → ℕ
+bucketFor m z a ps = bucketOf m z a (getD ps 0 0) (getD ps 1 0) (getD ps 2 0) (getD ps 3 0)
+
+-- so many buckets as there may be
+abbrev pub mostBuckets : ℕ
+mostBuckets = 16384
 
 -- five multipliers, each small enough that a sum of five products fits
 pub record Mixing (mix : List ℕ) : Type 0 where
   pub five : length mix ≡ 5
   pub small : (k : ℕ) → getD mix k 0 < 536870912
 
--- rows 1 to n - 1 are in their chains
-pub record Indexed (mix words : List ℕ) (n : ℕ) (head next : List ℕ) : Type 0 where
-  pub heads : (h : ℕ) → h < mostRows → getD head h 0 < n
-  pub head-bucket : (h : ℕ) → h < mostRows → (getD head h 0 ≡ 0 → ⊥) → bucketAt mix words (getD head h 0) ≡ h
-  pub head-skips : (h j : ℕ) → h < mostRows → getD head h 0 < j → j < n → bucketAt mix words j ≡ h → ⊥
+-- rows 1 to n - 1 are in the chains of so many buckets
+pub record Chained (mix : List ℕ) (size : ℕ) (words : List ℕ) (n : ℕ) (head next : List ℕ) : Type 0 where
+  pub heads : (h : ℕ) → h < size → getD head h 0 < n
+  pub head-bucket : (h : ℕ) → h < size → (getD head h 0 ≡ 0 → ⊥) → bucketAt mix size words (getD head h 0) ≡ h
+  pub head-skips : (h j : ℕ) → h < size → getD head h 0 < j → j < n → bucketAt mix size words j ≡ h → ⊥
   pub nexts : (r : ℕ) → 0 < r → r < n → getD next r 0 < r
-  pub next-bucket : (r : ℕ) → 0 < r → r < n → (getD next r 0 ≡ 0 → ⊥) → bucketAt mix words (getD next r 0) ≡ bucketAt mix words r
-  pub next-skips : (r j : ℕ) → 0 < r → r < n → getD next r 0 < j → j < r → bucketAt mix words j ≡ bucketAt mix words r → ⊥
+  pub next-bucket : (r : ℕ) → 0 < r → r < n → (getD next r 0 ≡ 0 → ⊥) → bucketAt mix size words (getD next r 0) ≡ bucketAt mix size words r
+  pub next-skips : (r j : ℕ) → 0 < r → r < n → getD next r 0 < j → j < r → bucketAt mix size words j ≡ bucketAt mix size words r → ⊥
+
+-- a bucket for each head
+abbrev pub Indexed : (mix words : List ℕ) → (n : ℕ) → (head next : List ℕ) → Type 0
+Indexed m ws n head next = Chained m (length head) ws n head next
 
 -- no two of the rows 1 to n - 1 are equal in symbol and places
 abbrev pub NoTwins : (words : List ℕ) → (n : ℕ) → Type 0
@@ -42,8 +53,9 @@ pub record Finding (mix words : List ℕ) (n : ℕ) (head next : List ℕ) : Typ
   pub few : n ≤ mostRows
   pub room : 6 * n ≤ length words
   pub mixing : Mixing mix
-  pub head-long : length head ≡ mostRows
-  pub next-long : length next ≡ mostRows
+  pub some-heads : 0 < length head
+  pub few-heads : length head ≤ mostBuckets
+  pub next-long : length words ≤ 6 * length next
   pub indexed : Indexed mix words n head next
   pub no-twins : NoTwins words n
 

@@ -13,7 +13,7 @@ use Rattle.model.specs.Entry.{storeOf, answersIn}
 use Rattle.model.specs.Sound.{alphabetFits, isHole, nodeFits, answerFits, rowsFit}
 use Rattle.model.specs.declared.Row.{Row}
 use Rattle.bank.specs.Rows.{answerIn, placesIn, nodeIn}
-use Rattle.bank.specs.Index.{Finding}
+use Rattle.bank.specs.Index.{mostBuckets, Finding}
 use Rattle.bank.specs.Ready.{placeCode, Holed}
 use Rattle.bank.specs.declared.index.Sight.{Sight}
 use Rattle.bank.specs.declared.pass.Kids.{Kids}
@@ -21,8 +21,16 @@ use Rattle.bank.specs.declared.pass.Passed.{Passed}
 
 -- bucket heads of which all are empty
 pub record Cleared (head : List ℕ) : Type 0 where
-  pub long : length head ≡ mostRows
-  pub empty : (h : ℕ) → h < mostRows → getD head h 0 ≡ 0
+  pub some : 0 < length head
+  pub few : length head ≤ mostBuckets
+  pub empty : (h : ℕ) → h < length head → getD head h 0 ≡ 0
+
+-- ROOM for the marks, heads and chains of all rows lent
+pub record Room (words holes head next : List ℕ) : Type 0 where
+  pub holes-long : length words ≤ rowWidth * length holes
+  pub some-heads : 0 < length head
+  pub few-heads : length head ≤ mostBuckets
+  pub next-long : length words ≤ rowWidth * length next
 
 -- whether a row has a hole, by its entry among the places of holes
 abbrev pub holeBy : (holes : List ℕ) → (row : ℕ) → Bool
@@ -56,7 +64,7 @@ pub record Reached (words counts : List ℕ) (n : ℕ) (holes : List ℕ) (i : �
   pub room : rowWidth * n ≤ length words
   pub wide : (symbol : ℕ) → getD counts symbol 0 ≤ mostChildren
   pub earlier : (j : ℕ) → j < i → Below j (kidsAt (storeOf words counts n) j)
-  pub holes-long : length holes ≡ mostRows
+  pub holes-long : n ≤ length holes
   pub holed : Holed (storeOf words counts n) holes i
 
 -- a search for a twin: the row that is found, or, under a bound on the chain, nothing

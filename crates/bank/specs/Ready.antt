@@ -30,7 +30,7 @@ pub record Ready (words counts : List ℕ) (n : ℕ) (holes head next mix : List
   pub good : Good (storeOf words counts n)
   pub lent : rowsLent words ≤ mostRows
   pub finding : Finding mix words n head next
-  pub holes-long : length holes ≡ mostRows
+  pub holes-long : length words ≤ rowWidth * length holes
   pub holed : Holed (storeOf words counts n) holes n
 
 -- FRAMES along an array of places: down from a row as long as its entry names a place

@@ -1,7 +1,7 @@
 // Rows added where there are none: for a context filled, and for a listed record (§4.4). Rows running out is an answer.
 ghost use mathlib.Core.Path.{_≡_};
 ghost use mathlib.Core.List.{List};
-ghost use Prim.Native.Nat.{ℕ, _<_};
+ghost use Prim.Native.Nat.{ℕ, _<_, _≤_};
 ghost use lib.ListN.{length, set};
 ghost use Rattle.model.specs.Store.{rowFor, fill as fillOf};
 ghost use Rattle.model.specs.Facts.{Fits};
@@ -26,9 +26,9 @@ pub fn row_for(
     words: &mut [u32],
     counts: &[u8],
     used: u16,
-    holes: &mut [u8; 16384],
-    head: &mut [u16; 16384],
-    next: &mut [u16; 16384],
+    holes: &mut [u8],
+    head: &mut [u16],
+    next: &mut [u16],
     mix: &[u32; 5],
     symbol: u32,
     places: [u32; 4],
@@ -48,9 +48,9 @@ pub fn row_for(
 fn add_row(
     words: &mut [u32],
     used: u16,
-    holes: &mut [u8; 16384],
-    head: &mut [u16; 16384],
-    next: &mut [u16; 16384],
+    holes: &mut [u8],
+    head: &mut [u16],
+    next: &mut [u16],
     mix: &[u32; 5],
     symbol: u32,
     places: [u32; 4],
@@ -65,7 +65,8 @@ fn add_row(
     }
     rows::write_row(words, Row(used), symbol, places);
     holes[n] = hole;
-    index::enter(words, head, next, mix, Row(used));
+    let h = index::bucket_of(words, mix, head.len(), Row(used));
+    index::enter(words, head, next, mix, h, Row(used));
     Grown::At(Row(used), used + 1)
 }
 
@@ -74,15 +75,15 @@ pub fn fill(
     words: &mut [u32],
     counts: &[u8],
     used: u16,
-    holes: &mut [u8; 16384],
-    head: &mut [u16; 16384],
-    next: &mut [u16; 16384],
+    holes: &mut [u8],
+    head: &mut [u16],
+    next: &mut [u16],
     mix: &[u32; 5],
-    down: &[u8; 16384],
+    down: &[u8],
     row: Row,
     with: Row,
 ) -> Grown
-    requires { ⌜ Ready (now words) (now counts) used (now holes) (now head) (now next) (now mix) × (length (now down) ≡ 16384) × (row .0 < used) × (with .0 < used) × Fits (storeOf (now words) (now counts) used) (pathOf (now down) (storeOf (now words) (now counts) used) (row .0)) ⌝ }
+    requires { ⌜ Ready (now words) (now counts) used (now holes) (now head) (now next) (now mix) × (used ≤ length (now down)) × (row .0 < used) × (with .0 < used) × Fits (storeOf (now words) (now counts) used) (pathOf (now down) (storeOf (now words) (now counts) used) (row .0)) ⌝ }
     ensures { λ r. ⌜ Came (now (words .entry)) (now (counts .entry)) used (fillOf (storeOf (now (words .entry)) (now (counts .entry)) used) (pathOf (now (down .entry)) (storeOf (now (words .entry)) (now (counts .entry)) used) (row .0)) (with .0)) r (now (words .exit)) (now (holes .exit)) (now (head .exit)) (now (next .exit)) (now (mix .entry)) ⌝ }
 {
     let i = row.0 as usize;
@@ -93,17 +94,46 @@ pub fn fill(
 }
 
 // The frames from a row whose entry names a place: the innermost filled with `with`, each other one with what those below it came to.
-// A level takes 112 bytes of stack: no counts are passed, the parameters that only the way down needs come first, where they are in registers,
-// and two calls of `above` keep that out of line.
+// Two functions that call each other, of which the compiler makes one: two levels share a frame of stack. No counts are passed, and two
+// calls of `above` keep that out of line.
 fn fill_frames(
     words: &mut [u32],
-    down: &[u8; 16384],
+    down: &[u8],
     row: Row,
     with: Row,
     used: u16,
-    holes: &mut [u8; 16384],
-    head: &mut [u16; 16384],
-    next: &mut [u16; 16384],
+    holes: &mut [u8],
+    head: &mut [u16],
+    next: &mut [u16],
+    mix: &[u32; 5],
+) -> Grown
+    requires { ⌜ Under (λ (counts : List ℕ). FramesAsked (now words) counts used (now holes) (now head) (now next) (now mix) (now down) (row .0) (with .0)) ⌝ }
+    ensures { λ r. ⌜ ((counts : List ℕ) → FramesAsked (now (words .entry)) counts used (now (holes .entry)) (now (head .entry)) (now (next .entry)) (now (mix .entry)) (now (down .entry)) (row .0) (with .0) → Came (now (words .entry)) counts used (fillOf (storeOf (now (words .entry)) counts used) (pathOf (now (down .entry)) (storeOf (now (words .entry)) counts used) (row .0)) (with .0)) r (now (words .exit)) (now (holes .exit)) (now (head .exit)) (now (next .exit)) (now (mix .entry))) ⌝ }
+{
+    let i = row.0 as usize;
+    let k = down[i] as usize - 1;
+    let kid = rows::kid_of(words, row, k);
+    if down[kid as usize] == 0 {
+        return above(words, used, holes, head, next, mix, row, k, with); // the innermost
+    }
+    let at = Row(kid as u16);
+    let mut grown = fill_below(words, down, at, with, used, holes, head, next, mix);
+    if let Grown::At(j, n) = grown {
+        grown = above(words, n, holes, head, next, mix, row, k, j); // on the way back
+    }
+    grown
+}
+
+// The same, one level down.
+fn fill_below(
+    words: &mut [u32],
+    down: &[u8],
+    row: Row,
+    with: Row,
+    used: u16,
+    holes: &mut [u8],
+    head: &mut [u16],
+    next: &mut [u16],
     mix: &[u32; 5],
 ) -> Grown
     requires { ⌜ Under (λ (counts : List ℕ). FramesAsked (now words) counts used (now holes) (now head) (now next) (now mix) (now down) (row .0) (with .0)) ⌝ }
@@ -127,9 +157,9 @@ fn fill_frames(
 fn above(
     words: &mut [u32],
     used: u16,
-    holes: &mut [u8; 16384],
-    head: &mut [u16; 16384],
-    next: &mut [u16; 16384],
+    holes: &mut [u8],
+    head: &mut [u16],
+    next: &mut [u16],
     mix: &[u32; 5],
     row: Row,
     place: usize,

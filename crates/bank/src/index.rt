@@ -1,24 +1,24 @@
 // The hash index over the used rows: bucket heads and chains in arrays that the caller lends.
 ghost use mathlib.Core.Path.{_≡_};
-ghost use Prim.Native.Nat.{_+_, _*_, _<_};
+ghost use Prim.Native.Nat.{_+_, _*_, _/_, _<_, _≤_};
 ghost use lib.ListN.{length};
 ghost use Rattle.model.specs.Store.{isNode};
 ghost use Rattle.bank.specs.Rows.{Within, nodeIn};
-ghost use Rattle.bank.specs.Index.{bucketOf, bucketAt, Mixing, Indexed, Finding, findIn, SightOf};
+ghost use Rattle.bank.specs.Index.{mostBuckets, bucketOf, bucketFor, bucketAt, Mixing, Indexed, Finding, findIn, SightOf};
 use crate::rows;
 use model::Row;
 
-// The bucket of a symbol and four places.
-fn bucket(mix: &[u32; 5], a: u32, k0: u32, k1: u32, k2: u32, k3: u32) -> usize
-    requires { ⌜ Mixing (now mix) ⌝ }
-    ensures { λ r. ⌜ (r ≡ bucketOf (now (mix .entry)) a k0 k1 k2 k3) × (r < 16384) ⌝ }
+// The bucket of a symbol and four places, among `size` of them.
+fn bucket(mix: &[u32; 5], size: usize, a: u32, k0: u32, k1: u32, k2: u32, k3: u32) -> usize
+    requires { ⌜ Mixing (now mix) × (0 < size) × (size ≤ mostBuckets) ⌝ }
+    ensures { λ r. ⌜ (r ≡ bucketOf (now (mix .entry)) size a k0 k1 k2 k3) × (r < size) ⌝ }
 {
     let sum = times(a, mix[0])
         + times(k0, mix[1])
         + times(k1, mix[2])
         + times(k2, mix[3])
         + times(k3, mix[4]);
-    (sum % 2147483629 % 16384) as usize
+    scaled(sum % 2147483648, size)
 }
 
 // The product of a number and a multiplier.
@@ -29,14 +29,22 @@ fn times(a: u32, by: u32) -> u64
     a as u64 * by as u64
 }
 
+// A number below 2^31 scaled to one below `size`.
+fn scaled(x: u64, size: usize) -> usize
+    requires { ⌜ (x < 2147483648) × (0 < size) × (size ≤ mostBuckets) ⌝ }
+    ensures { λ r. ⌜ (r ≡ x * size / 2147483648) × (r < size) ⌝ }
+{
+    (x * size as u64 / 2147483648) as usize
+}
+
 // The bucket of a row.
-fn bucket_of(words: &[u32], mix: &[u32; 5], row: Row) -> usize
-    requires { ⌜ Within (now words) (row .0) × Mixing (now mix) ⌝ }
-    ensures { λ r. ⌜ (r ≡ bucketAt (now (mix .entry)) (now (words .entry)) (row .0)) × (r < 16384) ⌝ }
+pub fn bucket_of(words: &[u32], mix: &[u32; 5], size: usize, row: Row) -> usize
+    requires { ⌜ Within (now words) (row .0) × Mixing (now mix) × (0 < size) × (size ≤ mostBuckets) ⌝ }
+    ensures { λ r. ⌜ (r ≡ bucketAt (now (mix .entry)) size (now (words .entry)) (row .0)) × (r < size) ⌝ }
 {
     let a = rows::symbol_of(words, row);
     let ps = rows::places_of(words, row);
-    bucket(mix, a, ps[0], ps[1], ps[2], ps[3])
+    bucket(mix, size, a, ps[0], ps[1], ps[2], ps[3])
 }
 
 // Whether a row has that symbol and those places.
@@ -65,8 +73,8 @@ pub fn row_is(words: &[u32], row: Row, symbol: u32, places: [u32; 4]) -> bool
 pub fn find(
     words: &[u32],
     used: u16,
-    head: &[u16; 16384],
-    next: &[u16; 16384],
+    head: &[u16],
+    next: &[u16],
     mix: &[u32; 5],
     symbol: u32,
     places: [u32; 4],
@@ -74,7 +82,15 @@ pub fn find(
     requires { ⌜ Finding (now mix) (now words) used (now head) (now next) ⌝ }
     ensures { λ r. ⌜ r .0 ≡ findIn (now (words .entry)) used symbol places ⌝ }
 {
-    let h = bucket(mix, symbol, places[0], places[1], places[2], places[3]);
+    let h = bucket(
+        mix,
+        head.len(),
+        symbol,
+        places[0],
+        places[1],
+        places[2],
+        places[3],
+    );
     let mut at = head[h];
     while at != 0 {
         if row_is(words, Row(at), symbol, places) {
@@ -91,21 +107,21 @@ pub enum Sight {
     Crowded,
 }
 
-// As find, but it gives up after `most` rows of a chain.
+// As find, in the bucket of what is asked for, but it gives up after `most` rows of the chain.
 pub fn find_within(
     words: &[u32],
     used: u16,
-    head: &[u16; 16384],
-    next: &[u16; 16384],
+    head: &[u16],
+    next: &[u16],
     mix: &[u32; 5],
+    h: usize,
     symbol: u32,
     places: [u32; 4],
     most: u16,
 ) -> Sight
-    requires { ⌜ Finding (now mix) (now words) used (now head) (now next) ⌝ }
+    requires { ⌜ Finding (now mix) (now words) used (now head) (now next) × (h ≡ bucketFor (now mix) (length (now head)) symbol places) × (h < length (now head)) ⌝ }
     ensures { λ r. ⌜ SightOf (findIn (now (words .entry)) used symbol places) r ⌝ }
 {
-    let h = bucket(mix, symbol, places[0], places[1], places[2], places[3]);
     let mut i = head[h];
     let mut left = most;
     while i != 0 {
@@ -121,18 +137,11 @@ pub fn find_within(
     Sight::At(Row(0))
 }
 
-// Puts a row in front of its chain.
-pub fn enter(
-    words: &[u32],
-    head: &mut [u16; 16384],
-    next: &mut [u16; 16384],
-    mix: &[u32; 5],
-    row: Row,
-)
-    requires { ⌜ Within (now words) (row .0) × Mixing (now mix) × (0 < row .0) × (row .0 < 16384) × Indexed (now mix) (now words) (row .0) (now head) (now next) × (length (now head) ≡ 16384) × (length (now next) ≡ 16384) ⌝ }
-    ensures { λ _. ⌜ Indexed (now (mix .entry)) (now (words .entry)) (row .0 + 1) (now (head .exit)) (now (next .exit)) × (length (now (head .exit)) ≡ 16384) × (length (now (next .exit)) ≡ 16384) ⌝ }
+// Puts a row in front of the chain of its bucket.
+pub fn enter(words: &[u32], head: &mut [u16], next: &mut [u16], mix: &[u32; 5], h: usize, row: Row)
+    requires { ⌜ (h ≡ bucketAt (now mix) (length (now head)) (now words) (row .0)) × (h < length (now head)) × (0 < row .0) × (row .0 < length (now next)) × Indexed (now mix) (now words) (row .0) (now head) (now next) ⌝ }
+    ensures { λ _. ⌜ Indexed (now (mix .entry)) (now (words .entry)) (row .0 + 1) (now (head .exit)) (now (next .exit)) × (length (now (head .exit)) ≡ length (now (head .entry))) × (length (now (next .exit)) ≡ length (now (next .entry))) ⌝ }
 {
-    let h = bucket_of(words, mix, row);
     let i = row.0 as usize;
     let latest = head[h];
     next[i] = latest;

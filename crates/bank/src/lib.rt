@@ -5,4 +5,5 @@ pub mod rows; // rows.rt: one row read and written
 pub mod index; // index.rt: the hash index over the used rows
 pub mod pass; // pass.rt: T1 in one pass, which also builds the index
 pub mod add; // add.rt: rows added, contexts filled
+pub mod context; // context.rt: a stored context filled
 pub mod listed; // listed.rt: listed records: faults, rows, storing

@@ -8,9 +8,9 @@ ghost use Rattle.model.specs.Table.{tables};
 ghost use Rattle.model.specs.Sound.{isT1, alphabetFits, isHole};
 ghost use Rattle.model.specs.Entry.{storeOf, answersIn, sizeFits};
 ghost use Rattle.bank.specs.Rows.{symbolIn, answerIn, placesIn, nodeIn, Within};
-ghost use Rattle.bank.specs.Index.{Mixing, Finding, findIn};
+ghost use Rattle.bank.specs.Index.{mostBuckets, bucketAt, Mixing, Finding, findIn};
 ghost use Rattle.bank.specs.Ready.{Ready};
-ghost use Rattle.bank.specs.Pass.{Cleared, holeBy, unusedZero, kidsIn, rowSays, Reached, TwinOf, Begun, rowsPass, Marked, PassedAs};
+ghost use Rattle.bank.specs.Pass.{Cleared, Room, holeBy, unusedZero, kidsIn, rowSays, Reached, TwinOf, Begun, rowsPass, Marked, PassedAs};
 use crate::index;
 use crate::index::Sight;
 use crate::rows;
@@ -69,8 +69,8 @@ fn unused_zero(words: &[u32], row: Row, count: u8) -> bool
 }
 
 // Whether a row has a hole: it is row 0, or a child of it has one.
-pub fn has_hole(holes: &[u8; 16384], row: Row) -> bool
-    requires { ⌜ (length (now holes) ≡ 16384) × (row .0 < 16384) ⌝ }
+pub fn has_hole(holes: &[u8], row: Row) -> bool
+    requires { ⌜ row .0 < length (now holes) ⌝ }
     ensures { λ r. ⌜ r ≡ holeBy (now (holes .entry)) (row .0) ⌝ }
 {
     let i = row.0;
@@ -81,8 +81,8 @@ pub fn has_hole(holes: &[u8; 16384], row: Row) -> bool
 }
 
 // The children of a row: earlier rows, then 0, at most one hole.
-fn kids_of(words: &[u32], holes: &[u8; 16384], row: Row, count: u8) -> Kids
-    requires { ⌜ Within (now words) (row .0) × (row .0 < 16384) × (count ≤ 4) × (length (now holes) ≡ 16384) ⌝ }
+fn kids_of(words: &[u32], holes: &[u8], row: Row, count: u8) -> Kids
+    requires { ⌜ Within (now words) (row .0) × (row .0 < 16384) × (count ≤ 4) × (row .0 ≤ length (now holes)) ⌝ }
     ensures { λ r. ⌜ r ≡ kidsIn (now (words .entry)) (now (holes .entry)) (row .0) count ⌝ }
 {
     if !unused_zero(words, row, count) {
@@ -108,7 +108,7 @@ fn kids_of(words: &[u32], holes: &[u8; 16384], row: Row, count: u8) -> Kids
 }
 
 // A row by itself: known symbol, children that fit, an answer of its kind.
-fn row_fits(words: &[u32], counts: &[u8], used: u16, holes: &[u8; 16384], row: Row) -> Kids
+fn row_fits(words: &[u32], counts: &[u8], used: u16, holes: &[u8], row: Row) -> Kids
     requires { ⌜ Reached (now words) (now counts) used (now holes) (row .0) × (row .0 < used) ⌝ }
     ensures { λ r. ⌜ r ≡ rowSays (now (words .entry)) (now (counts .entry)) used (row .0) ⌝ }
 {
@@ -137,12 +137,13 @@ fn row_fits(words: &[u32], counts: &[u8], used: u16, holes: &[u8; 16384], row: R
 fn twin_of(
     words: &[u32],
     row: Row,
-    head: &[u16; 16384],
-    next: &[u16; 16384],
+    head: &[u16],
+    next: &[u16],
     mix: &[u32; 5],
+    h: usize,
     most: u16,
 ) -> Sight
-    requires { ⌜ Within (now words) (row .0) × Finding (now mix) (now words) (row .0) (now head) (now next) ⌝ }
+    requires { ⌜ Within (now words) (row .0) × Finding (now mix) (now words) (row .0) (now head) (now next) × (h ≡ bucketAt (now mix) (length (now head)) (now words) (row .0)) × (h < length (now head)) ⌝ }
     ensures { λ r. ⌜ TwinOf (findIn (now (words .entry)) (row .0) (symbolIn (now (words .entry)) (row .0)) (placesIn (now (words .entry)) (row .0))) most r ⌝ }
 {
     let symbol = rows::symbol_of(words, row);
@@ -150,7 +151,7 @@ fn twin_of(
     if most == 0 {
         return Sight::At(index::find(words, row.0, head, next, mix, symbol, places));
     }
-    index::find_within(words, row.0, head, next, mix, symbol, places, most)
+    index::find_within(words, row.0, head, next, mix, h, symbol, places, most)
 }
 
 // What a pass under some multipliers came to.
@@ -165,15 +166,15 @@ fn pass_under(
     words: &[u32],
     counts: &[u8],
     used: u16,
-    holes: &mut [u8; 16384],
-    head: &mut [u16; 16384],
-    next: &mut [u16; 16384],
+    holes: &mut [u8],
+    head: &mut [u16],
+    next: &mut [u16],
     mix: &[u32; 5],
     most: u16,
 ) -> Passed
-    requires { ⌜ Begun (now words) (now counts) used × Finding (now mix) (now words) 1 (now head) (now next) × (length (now holes) ≡ 16384) ⌝ }
+    requires { ⌜ Begun (now words) (now counts) used × Finding (now mix) (now words) 1 (now head) (now next) × (used ≤ length (now holes)) ⌝ }
     ensures { λ r. ⌜ PassedAs (now (words .entry)) (now (counts .entry)) used most (now (holes .exit)) (now (head .exit)) (now (next .exit)) (now (mix .entry)) r ⌝ }
-    ensures sizes { λ _. ⌜ (length (now (holes .exit)) ≡ 16384) × (length (now (head .exit)) ≡ 16384) × (length (now (next .exit)) ≡ 16384) ⌝ }
+    ensures sizes { λ _. ⌜ (length (now (holes .exit)) ≡ length (now (holes .entry))) × (length (now (head .exit)) ≡ length (now (head .entry))) × (length (now (next .exit)) ≡ length (now (next .entry))) ⌝ }
 {
     holes[0] = 0;
     let mut i: u16 = 1;
@@ -182,7 +183,8 @@ fn pass_under(
         let Kids::Hole(h) = kids else {
             return Passed::Broken;
         };
-        let sight = twin_of(words, Row(i), head, next, mix, most);
+        let bucket = index::bucket_of(words, mix, head.len(), Row(i));
+        let sight = twin_of(words, Row(i), head, next, mix, bucket, most);
         let Sight::At(twin) = sight else {
             return Passed::Crowded;
         };
@@ -190,7 +192,7 @@ fn pass_under(
             return Passed::Broken;
         }
         holes[i as usize] = h;
-        index::enter(words, head, next, mix, Row(i));
+        index::enter(words, head, next, mix, bucket, Row(i));
         i += 1;
     }
     Passed::Sound
@@ -204,7 +206,7 @@ fn mix_of(k: usize) -> [u32; 5]
         0 => [499994353, 314606869, 217645199, 443834137, 125640277],
         1 => [389632747, 293736061, 482317931, 151372381, 519127069],
         2 => [267914297, 433494437, 102334157, 370248451, 165580143],
-        3 => [402653189, 201326611, 100663319, 50331653, 25165843],
+        3 => [433024223, 387240167, 296452379, 521140393, 174440041],
         4 => [350377541, 478905283, 188748719, 290182597, 413158511],
         5 => [231928237, 509203747, 143655607, 337190719, 465241489],
         6 => [275604547, 395933333, 180503471, 527824621, 246202447],
@@ -213,12 +215,12 @@ fn mix_of(k: usize) -> [u32; 5]
 }
 
 // All bucket heads empty.
-fn clear(head: &mut [u16; 16384])
-    requires { ⌜ length (now head) ≡ 16384 ⌝ }
+fn clear(head: &mut [u16])
+    requires { ⌜ (0 < length (now head)) × (length (now head) ≤ mostBuckets) ⌝ }
     ensures { λ _. ⌜ Cleared (now (head .exit)) ⌝ }
 {
     let mut h = 0;
-    while h < 16384 {
+    while h < head.len() {
         head[h] = 0;
         h += 1;
     }
@@ -229,14 +231,14 @@ fn rows_pass(
     words: &[u32],
     counts: &[u8],
     used: u16,
-    holes: &mut [u8; 16384],
-    head: &mut [u16; 16384],
-    next: &mut [u16; 16384],
+    holes: &mut [u8],
+    head: &mut [u16],
+    next: &mut [u16],
     mix: &mut [u32; 5],
 ) -> bool
-    requires { ⌜ Begun (now words) (now counts) used × (length (now holes) ≡ 16384) × (length (now head) ≡ 16384) × (length (now next) ≡ 16384) ⌝ }
+    requires { ⌜ Begun (now words) (now counts) used × Room (now words) (now holes) (now head) (now next) ⌝ }
     ensures { λ r. ⌜ r ≡ rowsPass (now (words .entry)) (now (counts .entry)) used ⌝ }
-    ensures marked { λ r. ⌜ (r ≡ true → Marked (now (words .entry)) (now (counts .entry)) used (now (holes .exit)) (now (head .exit)) (now (next .exit)) (now (mix .exit))) × (length (now (holes .exit)) ≡ 16384) ⌝ }
+    ensures marked { λ r. ⌜ (r ≡ true → Marked (now (words .entry)) (now (counts .entry)) used (now (holes .exit)) (now (head .exit)) (now (next .exit)) (now (mix .exit))) × (length (now (holes .exit)) ≡ length (now (holes .entry))) ⌝ }
 {
     let mut k = 0;
     loop {
@@ -264,12 +266,12 @@ pub fn t1(
     words: &[u32],
     counts: &[u8],
     used: u16,
-    holes: &mut [u8; 16384],
-    head: &mut [u16; 16384],
-    next: &mut [u16; 16384],
+    holes: &mut [u8],
+    head: &mut [u16],
+    next: &mut [u16],
     mix: &mut [u32; 5],
 ) -> bool
-    requires { ⌜ (sizeFits (now words) ≡ true) × (length (now holes) ≡ 16384) × (length (now head) ≡ 16384) × (length (now next) ≡ 16384) × (length (now mix) ≡ 5) ⌝ }
+    requires { ⌜ (sizeFits (now words) ≡ true) × Room (now words) (now holes) (now head) (now next) × (length (now mix) ≡ 5) ⌝ }
     ensures { λ r. ⌜ r ≡ isT1 (tables (storeOf (now (words .entry)) (now (counts .entry)) used) (answersIn used (now (words .entry))) [] [] [] 0 0 false) ⌝ }
     ensures ready { λ r. ⌜ (r ≡ true → Ready (now (words .entry)) (now (counts .entry)) used (now (holes .exit)) (now (head .exit)) (now (next .exit)) (now (mix .exit))) ⌝ }
 {

@@ -3,11 +3,11 @@
 use mathlib.Core.Path.{_≡_}
 use mathlib.Core.Bool.{not}
 use mathlib.Core.List.{List}
-use Prim.Native.Nat.{ℕ, _<_}
+use Prim.Native.Nat.{ℕ, _≤_, _<_}
 use lib.ListN.{length, getD}
 use Rattle.model.specs.Limits.{mostRows}
 use Rattle.model.specs.Base.{In, among}
-use Rattle.model.specs.Store.{Store, kidsAt, filledRow, spotOf}
+use Rattle.model.specs.Store.{Store, used, kidsAt, filledRow, spotOf}
 use Rattle.model.specs.Steps.{Search, atNewTransition, atUnknown, atDifference, repOf}
 use Rattle.model.specs.TableFacts.{Full}
 use Rattle.bank.specs.Ready.{placeCode}
@@ -20,7 +20,7 @@ outsideAt s x i = placeCode (λ (k : ℕ). not (among k s)) (kidsAt x i)
 -- T1 to T6 with nothing missing, and the representative of each transition; other rows have 0
 pub record Handling (x : Store) (w s t cs reps : List ℕ) : Type 0 where
   pub full : Full x w s t cs
-  pub long : length reps ≡ mostRows
+  pub long : x .room ≤ length reps
   pub of-t : (u : ℕ) → In u t → getD reps u 0 ≡ repOf x w s t cs u
   pub others : (u : ℕ) → u < mostRows → (In u t → ⊥) → getD reps u 0 ≡ 0
 
@@ -30,9 +30,9 @@ exchangedRow s reps x i = filledRow x (spotOf s x i .around) (getD reps (spotOf 
 
 -- the first n rows: the place down, the row at the spot, the exchanged row
 pub record Descended (s reps : List ℕ) (x : Store) (down at exchanged : List ℕ) (n : ℕ) : Type 0 where
-  pub down-long : length down ≡ mostRows
-  pub at-long : length at ≡ mostRows
-  pub exchanged-long : length exchanged ≡ mostRows
+  pub down-long : used x ≤ length down
+  pub at-long : used x ≤ length at
+  pub exchanged-long : used x ≤ length exchanged
   pub down-is : (i : ℕ) → i < n → getD down i 0 ≡ outsideAt s x i
   pub at-is : (i : ℕ) → i < n → getD at i 0 ≡ spotOf s x i .row
   pub exchanged-is : (i : ℕ) → i < n → getD exchanged i 0 ≡ exchangedRow s reps x i

@@ -1,7 +1,7 @@
 // The record in hand (§4.1): its leftmost innermost row outside S is exchanged for its representative while the answers agree.
 // What a row becomes depends on the row alone, so one loop from the bottom works it out for all rows, and the turns follow that.
 ghost use mathlib.Core.Path.{_≡_};
-ghost use Prim.Native.Nat.{_<_};
+ghost use Prim.Native.Nat.{_+_, _≤_, _<_};
 ghost use lib.ListN.{length, take};
 ghost use Rattle.model.specs.Base.{among};
 ghost use Rattle.model.specs.Store.{kidsAt, nextRow, spotOf};
@@ -25,10 +25,10 @@ fn is_rep(
     rules: usize,
     c: &[u16; 289],
     contexts: usize,
-    reps: &[u16; 16384],
+    reps: &[u16],
     row: Row,
 ) -> bool
-    requires { ⌜ Handling (storeOf (now words) (now counts) used) (answersIn used (now words)) (take states (now s)) (take rules (now t)) (take contexts (now c)) (now reps) × (row .0 < 16384) ⌝ }
+    requires { ⌜ Handling (storeOf (now words) (now counts) used) (answersIn used (now words)) (take states (now s)) (take rules (now t)) (take contexts (now c)) (now reps) × (used ≤ 16384) × (row .0 < used) ⌝ }
     ensures { λ r. ⌜ r ≡ among (row .0) (take states (now (s .entry))) ⌝ }
 {
     let i = row.0;
@@ -43,9 +43,9 @@ fn first_outside(
     words: &[u32],
     counts: &[u8],
     used: u16,
-    holes: &[u8; 16384],
-    head: &[u16; 16384],
-    next: &[u16; 16384],
+    holes: &[u8],
+    head: &[u16],
+    next: &[u16],
     mix: &[u32; 5],
     s: &[u16; 32],
     states: usize,
@@ -53,7 +53,7 @@ fn first_outside(
     rules: usize,
     c: &[u16; 289],
     contexts: usize,
-    reps: &[u16; 16384],
+    reps: &[u16],
     row: Row,
 ) -> u8
     requires { ⌜ Ready (now words) (now counts) used (now holes) (now head) (now next) (now mix) × Handling (storeOf (now words) (now counts) used) (answersIn used (now words)) (take states (now s)) (take rules (now t)) (take contexts (now c)) (now reps) × (0 < row .0) × (row .0 < used) ⌝ }
@@ -89,9 +89,9 @@ fn with_child(
     words: &[u32],
     counts: &[u8],
     used: u16,
-    holes: &[u8; 16384],
-    head: &[u16; 16384],
-    next: &[u16; 16384],
+    holes: &[u8],
+    head: &[u16],
+    next: &[u16],
     mix: &[u32; 5],
     row: Row,
     place: usize,
@@ -120,20 +120,20 @@ fn turn_of(
     words: &[u32],
     counts: &[u8],
     used: u16,
-    holes: &[u8; 16384],
-    head: &[u16; 16384],
-    next: &[u16; 16384],
+    holes: &[u8],
+    head: &[u16],
+    next: &[u16],
     mix: &[u32; 5],
     s: &[u16; 32],
     states: usize,
-    reps: &[u16; 16384],
-    down: &[u8; 16384],
-    at: &[u16; 16384],
-    exchanged: &[u16; 16384],
+    reps: &[u16],
+    down: &[u8],
+    at: &[u16],
+    exchanged: &[u16],
     row: Row,
     code: u8,
 ) -> Turn
-    requires { ⌜ Ready (now words) (now counts) used (now holes) (now head) (now next) (now mix) × (length (now reps) ≡ 16384) × Descended (take states (now s)) (now reps) (storeOf (now words) (now counts) used) (now down) (now at) (now exchanged) (row .0) × (0 < row .0) × (row .0 < used) × (code ≡ outsideAt (take states (now s)) (storeOf (now words) (now counts) used) (row .0)) ⌝ }
+    requires { ⌜ Ready (now words) (now counts) used (now holes) (now head) (now next) (now mix) × (used ≤ length (now reps)) × Descended (take states (now s)) (now reps) (storeOf (now words) (now counts) used) (now down) (now at) (now exchanged) (row .0) × (0 < row .0) × (row .0 < used) × (code ≡ outsideAt (take states (now s)) (storeOf (now words) (now counts) used) (row .0)) ⌝ }
     ensures { λ r. ⌜ (r .spot .0 ≡ spotOf (take states (now (s .entry))) (storeOf (now (words .entry)) (now (counts .entry)) used) (row .0) .row) × (r .row .0 ≡ exchangedRow (take states (now (s .entry))) (now (reps .entry)) (storeOf (now (words .entry)) (now (counts .entry)) used) (row .0)) ⌝ }
 {
     if code == 0 {
@@ -165,14 +165,14 @@ fn turn_of(
     }
 }
 
-// All rows from the bottom: the place down, the row at the spot, the exchanged row.
-pub fn descend(
+// The entries of a row, from those of earlier rows.
+fn descend_row(
     words: &[u32],
     counts: &[u8],
     used: u16,
-    holes: &[u8; 16384],
-    head: &[u16; 16384],
-    next: &[u16; 16384],
+    holes: &[u8],
+    head: &[u16],
+    next: &[u16],
     mix: &[u32; 5],
     s: &[u16; 32],
     states: usize,
@@ -180,12 +180,76 @@ pub fn descend(
     rules: usize,
     c: &[u16; 289],
     contexts: usize,
-    reps: &[u16; 16384],
-    down: &mut [u8; 16384],
-    at: &mut [u16; 16384],
-    exchanged: &mut [u16; 16384],
+    reps: &[u16],
+    down: &mut [u8],
+    at: &mut [u16],
+    exchanged: &mut [u16],
+    row: Row,
 )
-    requires { ⌜ Ready (now words) (now counts) used (now holes) (now head) (now next) (now mix) × Handling (storeOf (now words) (now counts) used) (answersIn used (now words)) (take states (now s)) (take rules (now t)) (take contexts (now c)) (now reps) × (length (now down) ≡ 16384) × (length (now at) ≡ 16384) × (length (now exchanged) ≡ 16384) ⌝ }
+    requires { ⌜ Ready (now words) (now counts) used (now holes) (now head) (now next) (now mix) × Handling (storeOf (now words) (now counts) used) (answersIn used (now words)) (take states (now s)) (take rules (now t)) (take contexts (now c)) (now reps) × Descended (take states (now s)) (now reps) (storeOf (now words) (now counts) used) (now down) (now at) (now exchanged) (row .0) × (0 < row .0) × (row .0 < used) ⌝ }
+    ensures { λ _. ⌜ Descended (take states (now (s .entry))) (now (reps .entry)) (storeOf (now (words .entry)) (now (counts .entry)) used) (now (down .exit)) (now (at .exit)) (now (exchanged .exit)) (row .0 + 1) ⌝ }
+{
+    let code = first_outside(
+        words,
+        counts,
+        used,
+        holes,
+        head,
+        next,
+        mix,
+        s,
+        states,
+        t,
+        rules,
+        c,
+        contexts,
+        reps,
+        row,
+    );
+    let turn = turn_of(
+        words,
+        counts,
+        used,
+        holes,
+        head,
+        next,
+        mix,
+        s,
+        states,
+        reps,
+        down,
+        at,
+        exchanged,
+        row,
+        code,
+    );
+    let n = row.0 as usize;
+    down[n] = code;
+    at[n] = turn.spot.0;
+    exchanged[n] = turn.row.0;
+}
+
+// All rows from the bottom: the place down, the row at the spot, the exchanged row.
+pub fn descend(
+    words: &[u32],
+    counts: &[u8],
+    used: u16,
+    holes: &[u8],
+    head: &[u16],
+    next: &[u16],
+    mix: &[u32; 5],
+    s: &[u16; 32],
+    states: usize,
+    t: &[u16; 256],
+    rules: usize,
+    c: &[u16; 289],
+    contexts: usize,
+    reps: &[u16],
+    down: &mut [u8],
+    at: &mut [u16],
+    exchanged: &mut [u16],
+)
+    requires { ⌜ Ready (now words) (now counts) used (now holes) (now head) (now next) (now mix) × Handling (storeOf (now words) (now counts) used) (answersIn used (now words)) (take states (now s)) (take rules (now t)) (take contexts (now c)) (now reps) × (used ≤ length (now down)) × (used ≤ length (now at)) × (used ≤ length (now exchanged)) ⌝ }
     ensures { λ _. ⌜ Descended (take states (now (s .entry))) (now (reps .entry)) (storeOf (now (words .entry)) (now (counts .entry)) used) (now (down .exit)) (now (at .exit)) (now (exchanged .exit)) used ⌝ }
 {
     down[0] = 0;
@@ -193,8 +257,7 @@ pub fn descend(
     exchanged[0] = 0;
     let mut i: u16 = 1;
     while i < used {
-        let row = Row(i);
-        let code = first_outside(
+        descend_row(
             words,
             counts,
             used,
@@ -209,29 +272,11 @@ pub fn descend(
             c,
             contexts,
             reps,
-            row,
-        );
-        let turn = turn_of(
-            words,
-            counts,
-            used,
-            holes,
-            head,
-            next,
-            mix,
-            s,
-            states,
-            reps,
             down,
             at,
             exchanged,
-            row,
-            code,
+            Row(i),
         );
-        let n = i as usize;
-        down[n] = code;
-        at[n] = turn.spot.0;
-        exchanged[n] = turn.row.0;
         i += 1;
     }
 }
@@ -248,9 +293,9 @@ pub fn search(
     words: &[u32],
     counts: &[u8],
     used: u16,
-    holes: &[u8; 16384],
-    head: &[u16; 16384],
-    next: &[u16; 16384],
+    holes: &[u8],
+    head: &[u16],
+    next: &[u16],
     mix: &[u32; 5],
     s: &[u16; 32],
     states: usize,
@@ -258,10 +303,10 @@ pub fn search(
     rules: usize,
     c: &[u16; 289],
     contexts: usize,
-    reps: &[u16; 16384],
-    down: &[u8; 16384],
-    at: &[u16; 16384],
-    exchanged: &[u16; 16384],
+    reps: &[u16],
+    down: &[u8],
+    at: &[u16],
+    exchanged: &[u16],
     hand: Row,
 ) -> Found
     requires { ⌜ Ready (now words) (now counts) used (now holes) (now head) (now next) (now mix) × Handling (storeOf (now words) (now counts) used) (answersIn used (now words)) (take states (now s)) (take rules (now t)) (take contexts (now c)) (now reps) × Descended (take states (now s)) (now reps) (storeOf (now words) (now counts) used) (now down) (now at) (now exchanged) used × HandFits (storeOf (now words) (now counts) used) (answersIn used (now words)) (take states (now s)) (take rules (now t)) (take contexts (now c)) (hand .0) ⌝ }

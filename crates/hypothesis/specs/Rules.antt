@@ -16,7 +16,6 @@ use Rattle.hypothesis.specs.declared.Led.{Led}
 
 -- THE REPRESENTATIVE of each transition, by the table of answers: of the first state with its row, 0 for none; rows that are no transition have 0
 pub record RepsBy (table : List ℕ) (m : ℕ) (places s t reps : List ℕ) : Type 0 where
-  pub long : length reps ≡ mostRows
   pub right : (i : ℕ) → i < mostRows → getD reps i 0 ≡ cond (among i t) (getD s (stateAt table m places (placeOf i 0 t)) 0) 0
 
 -- A RULE for each transition: its target is the place of its representative
@@ -34,7 +33,7 @@ hypothesis ws ns u s q t n reps =
 
 -- WHAT A RUN NEEDS: T2, T3, and a representative in S for each transition
 pub record Ruled (x : Store) (s t reps : List ℕ) : Type 0 where
-  pub long : length reps ≡ mostRows
+  pub long : x .room ≤ length reps
   pub row : (i : ℕ) → In i t → (0 < i) × (i < used x)
   pub kids : (i : ℕ) → In i t → Each (λ (k : ℕ). In k s) (kidsAt x i)
   pub among : (i : ℕ) → In i s → In i t

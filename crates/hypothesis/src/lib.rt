@@ -15,18 +15,18 @@ ghost use Rattle.bank.specs.Rows.{answerIn, Within};
 ghost use Rattle.bank.specs.Ready.{Ready};
 ghost use Rattle.table.specs.Answers.{Sized};
 ghost use Rattle.hypothesis.specs.Rules.{RepsBy, rulesBy, hypothesis, Ruled, repOf, ledBy};
+use bank::context;
 use bank::index;
 use bank::listed;
 use bank::rows;
 use model::Row;
 
 // All entries 0.
-fn clear(reps: &mut [u16; 16384])
-    requires { ⌜ length (now reps) ≡ 16384 ⌝ }
-    ensures { λ _. ⌜ (length (now (reps .exit)) ≡ 16384) × ((i : ℕ) → i < 16384 → getD (now (reps .exit)) i 0 ≡ 0) ⌝ }
+fn clear(reps: &mut [u16])
+    ensures { λ _. ⌜ (length (now (reps .exit)) ≡ length (now (reps .entry))) × ((i : ℕ) → getD (now (reps .exit)) i 0 ≡ 0) ⌝ }
 {
     let mut i = 0;
-    while i < 16384 {
+    while i < reps.len() {
         reps[i] = 0;
         i += 1;
     }
@@ -34,22 +34,22 @@ fn clear(reps: &mut [u16; 16384])
 
 // The representative of each transition; 0 for a row that is none.
 pub fn find_reps(
-    table: &[u8; 73984],
+    table: &[u8],
     contexts: usize,
     places: &[u16; 32],
     s: &[u16; 32],
     states: usize,
     t: &[u16; 256],
     rules: usize,
-    reps: &mut [u16; 16384],
+    reps: &mut [u16],
 )
-    requires { ⌜ Sized (now table) 256 contexts × (states ≤ 32) × (length (now places) ≡ 32) × ((i : ℕ) → i < states → getD (now places) i 0 < 256) × (length (now s) ≡ 32) × (length (now t) ≡ 256) × (rules ≤ 256) × ((k : ℕ) → k < rules → getD (now t) k 0 < 16384) × (noRepeats (take rules (now t)) ≡ true) × (length (now reps) ≡ 16384) ⌝ }
+    requires { ⌜ Sized (now table) rules contexts × (states ≤ 32) × (length (now places) ≡ 32) × ((i : ℕ) → i < states → getD (now places) i 0 < rules) × (length (now s) ≡ 32) × (length (now t) ≡ 256) × (rules ≤ 256) × ((k : ℕ) → k < rules → getD (now t) k 0 < length (now reps)) × (noRepeats (take rules (now t)) ≡ true) ⌝ }
     ensures { λ _. ⌜ RepsBy (now (table .entry)) contexts (take states (now (places .entry))) (take states (now (s .entry))) (take rules (now (t .entry))) (now (reps .exit)) ⌝ }
 {
     clear(reps);
     let mut k = 0;
     while k < rules {
-        let q = table::state_of(table, contexts, places, states, k);
+        let q = table::state_of(table, rules, contexts, places, states, k);
         let at = q.0 as usize;
         if at < states {
             let i = t[k] as usize;
@@ -64,15 +64,15 @@ fn target_of(
     words: &[u32],
     counts: &[u8],
     used: u16,
-    holes: &[u8; 16384],
-    head: &[u16; 16384],
-    next: &[u16; 16384],
+    holes: &[u8],
+    head: &[u16],
+    next: &[u16],
     mix: &[u32; 5],
-    reps: &[u16; 16384],
+    reps: &[u16],
     symbol: u32,
     places: [u32; 4],
 ) -> Row
-    requires { ⌜ Ready (now words) (now counts) used (now holes) (now head) (now next) (now mix) × (length (now reps) ≡ 16384) ⌝ }
+    requires { ⌜ Ready (now words) (now counts) used (now holes) (now head) (now next) (now mix) × (used ≤ length (now reps)) ⌝ }
     ensures { λ r. ⌜ r .0 ≡ getD (now (reps .entry)) (findPlaces (storeOf (now (words .entry)) (now (counts .entry)) used) symbol places) 0 ⌝ }
 {
     let found = index::find(words, used, head, next, mix, symbol, places);
@@ -84,19 +84,19 @@ fn row_rep(
     words: &[u32],
     counts: &[u8],
     used: u16,
-    holes: &[u8; 16384],
-    head: &[u16; 16384],
-    next: &[u16; 16384],
+    holes: &[u8],
+    head: &[u16],
+    next: &[u16],
     mix: &[u32; 5],
     s: &[u16; 32],
     states: usize,
     t: &[u16; 256],
     rules: usize,
-    reps: &[u16; 16384],
-    led: &[u16; 16384],
+    reps: &[u16],
+    led: &[u16],
     row: Row,
 ) -> Row
-    requires { ⌜ Ready (now words) (now counts) used (now holes) (now head) (now next) (now mix) × Ruled (storeOf (now words) (now counts) used) (take states (now s)) (take rules (now t)) (now reps) × (length (now led) ≡ 16384) × (0 < row .0) × (row .0 < used) × ((i : ℕ) → i < row .0 → getD (now led) i 0 ≡ repOf (take states (now s)) (rowState (rulesBy (storeOf (now words) (now counts) used) (take states (now s)) (take rules (now t)) (now reps)) (storeOf (now words) (now counts) used) i)) ⌝ }
+    requires { ⌜ Ready (now words) (now counts) used (now holes) (now head) (now next) (now mix) × Ruled (storeOf (now words) (now counts) used) (take states (now s)) (take rules (now t)) (now reps) × (used ≤ length (now led)) × (0 < row .0) × (row .0 < used) × ((i : ℕ) → i < row .0 → getD (now led) i 0 ≡ repOf (take states (now s)) (rowState (rulesBy (storeOf (now words) (now counts) used) (take states (now s)) (take rules (now t)) (now reps)) (storeOf (now words) (now counts) used) i)) ⌝ }
     ensures { λ r. ⌜ r .0 ≡ repOf (take states (now (s .entry))) (rowState (rulesBy (storeOf (now (words .entry)) (now (counts .entry)) used) (take states (now (s .entry))) (take rules (now (t .entry))) (now (reps .entry))) (storeOf (now (words .entry)) (now (counts .entry)) used) (row .0)) ⌝ }
 {
     let symbol = rows::symbol_of(words, row);
@@ -131,20 +131,20 @@ pub fn row_reps(
     words: &[u32],
     counts: &[u8],
     used: u16,
-    holes: &[u8; 16384],
-    head: &[u16; 16384],
-    next: &[u16; 16384],
+    holes: &[u8],
+    head: &[u16],
+    next: &[u16],
     mix: &[u32; 5],
     s: &[u16; 32],
     states: usize,
     t: &[u16; 256],
     rules: usize,
-    reps: &[u16; 16384],
+    reps: &[u16],
     upto: Row,
-    led: &mut [u16; 16384],
+    led: &mut [u16],
 )
-    requires { ⌜ Ready (now words) (now counts) used (now holes) (now head) (now next) (now mix) × Ruled (storeOf (now words) (now counts) used) (take states (now s)) (take rules (now t)) (now reps) × (length (now led) ≡ 16384) × (upto .0 < used) ⌝ }
-    ensures { λ _. ⌜ (length (now (led .exit)) ≡ 16384) × ((i : ℕ) → i ≤ upto .0 → getD (now (led .exit)) i 0 ≡ repOf (take states (now (s .entry))) (rowState (rulesBy (storeOf (now (words .entry)) (now (counts .entry)) used) (take states (now (s .entry))) (take rules (now (t .entry))) (now (reps .entry))) (storeOf (now (words .entry)) (now (counts .entry)) used) i)) ⌝ }
+    requires { ⌜ Ready (now words) (now counts) used (now holes) (now head) (now next) (now mix) × Ruled (storeOf (now words) (now counts) used) (take states (now s)) (take rules (now t)) (now reps) × (used ≤ length (now led)) × (upto .0 < used) ⌝ }
+    ensures { λ _. ⌜ (length (now (led .exit)) ≡ length (now (led .entry))) × ((i : ℕ) → i ≤ upto .0 → getD (now (led .exit)) i 0 ≡ repOf (take states (now (s .entry))) (rowState (rulesBy (storeOf (now (words .entry)) (now (counts .entry)) used) (take states (now (s .entry))) (take rules (now (t .entry))) (now (reps .entry))) (storeOf (now (words .entry)) (now (counts .entry)) used) i)) ⌝ }
 {
     led[0] = 0;
     let mut i: u16 = 1;
@@ -175,22 +175,39 @@ pub fn accepts_row(
     words: &[u32],
     counts: &[u8],
     used: u16,
-    holes: &[u8; 16384],
-    head: &[u16; 16384],
-    next: &[u16; 16384],
+    holes: &[u8],
+    head: &[u16],
+    next: &[u16],
     mix: &[u32; 5],
     s: &[u16; 32],
     states: usize,
     t: &[u16; 256],
     rules: usize,
-    reps: &[u16; 16384],
+    reps: &[u16],
     row: Row,
 ) -> bool
     requires { ⌜ Ready (now words) (now counts) used (now holes) (now head) (now next) (now mix) × Ruled (storeOf (now words) (now counts) used) (take states (now s)) (take rules (now t)) (now reps) × (row .0 < used) ⌝ }
     ensures { λ r. ⌜ r ≡ acceptsRow (hypothesis (now (words .entry)) (now (counts .entry)) used (now (s .entry)) states (now (t .entry)) rules (now (reps .entry))) (storeOf (now (words .entry)) (now (counts .entry)) used) (row .0) ⌝ }
 {
+    if used <= context::FEW {
+        return accepts_few(
+            words,
+            counts,
+            used,
+            holes,
+            head,
+            next,
+            mix,
+            s,
+            states,
+            t,
+            rules,
+            reps,
+            row,
+        );
+    }
     let mut led = [0u16; 16384];
-    row_reps(
+    accepts_with(
         words,
         counts,
         used,
@@ -205,6 +222,82 @@ pub fn accepts_row(
         reps,
         row,
         &mut led,
+    )
+}
+
+// The same over few rows.
+fn accepts_few(
+    words: &[u32],
+    counts: &[u8],
+    used: u16,
+    holes: &[u8],
+    head: &[u16],
+    next: &[u16],
+    mix: &[u32; 5],
+    s: &[u16; 32],
+    states: usize,
+    t: &[u16; 256],
+    rules: usize,
+    reps: &[u16],
+    row: Row,
+) -> bool
+    requires { ⌜ Ready (now words) (now counts) used (now holes) (now head) (now next) (now mix) × Ruled (storeOf (now words) (now counts) used) (take states (now s)) (take rules (now t)) (now reps) × (row .0 < used) × (used ≤ 1024) ⌝ }
+    ensures { λ r. ⌜ r ≡ acceptsRow (hypothesis (now (words .entry)) (now (counts .entry)) used (now (s .entry)) states (now (t .entry)) rules (now (reps .entry))) (storeOf (now (words .entry)) (now (counts .entry)) used) (row .0) ⌝ }
+{
+    let mut led = [0u16; 1024];
+    accepts_with(
+        words,
+        counts,
+        used,
+        holes,
+        head,
+        next,
+        mix,
+        s,
+        states,
+        t,
+        rules,
+        reps,
+        row,
+        &mut led,
+    )
+}
+
+// The same in an array that holds an entry for each used row.
+fn accepts_with(
+    words: &[u32],
+    counts: &[u8],
+    used: u16,
+    holes: &[u8],
+    head: &[u16],
+    next: &[u16],
+    mix: &[u32; 5],
+    s: &[u16; 32],
+    states: usize,
+    t: &[u16; 256],
+    rules: usize,
+    reps: &[u16],
+    row: Row,
+    led: &mut [u16],
+) -> bool
+    requires { ⌜ Ready (now words) (now counts) used (now holes) (now head) (now next) (now mix) × Ruled (storeOf (now words) (now counts) used) (take states (now s)) (take rules (now t)) (now reps) × (row .0 < used) × (used ≤ length (now led)) ⌝ }
+    ensures { λ r. ⌜ r ≡ acceptsRow (hypothesis (now (words .entry)) (now (counts .entry)) used (now (s .entry)) states (now (t .entry)) rules (now (reps .entry))) (storeOf (now (words .entry)) (now (counts .entry)) used) (row .0) ⌝ }
+{
+    row_reps(
+        words,
+        counts,
+        used,
+        holes,
+        head,
+        next,
+        mix,
+        s,
+        states,
+        t,
+        rules,
+        reps,
+        row,
+        led,
     );
     let rep = led[row.0 as usize];
     if rep == 0 {
@@ -232,15 +325,15 @@ pub fn run_list(
     words: &[u32],
     counts: &[u8],
     used: u16,
-    holes: &[u8; 16384],
-    head: &[u16; 16384],
-    next: &[u16; 16384],
+    holes: &[u8],
+    head: &[u16],
+    next: &[u16],
     mix: &[u32; 5],
     s: &[u16; 32],
     states: usize,
     t: &[u16; 256],
     rules: usize,
-    reps: &[u16; 16384],
+    reps: &[u16],
     symbols: &[u8],
 ) -> Led
     requires { ⌜ Ready (now words) (now counts) used (now holes) (now head) (now next) (now mix) × Ruled (storeOf (now words) (now counts) used) (take states (now s)) (take rules (now t)) (now reps) × Parses (now counts) 0 (now symbols) × (length (now symbols) ≤ 1024) ⌝ }
@@ -281,15 +374,15 @@ pub fn accepts_list(
     words: &[u32],
     counts: &[u8],
     used: u16,
-    holes: &[u8; 16384],
-    head: &[u16; 16384],
-    next: &[u16; 16384],
+    holes: &[u8],
+    head: &[u16],
+    next: &[u16],
     mix: &[u32; 5],
     s: &[u16; 32],
     states: usize,
     t: &[u16; 256],
     rules: usize,
-    reps: &[u16; 16384],
+    reps: &[u16],
     symbols: &[u8],
 ) -> bool
     requires { ⌜ Ready (now words) (now counts) used (now holes) (now head) (now next) (now mix) × Ruled (storeOf (now words) (now counts) used) (take states (now s)) (take rules (now t)) (now reps) × Parses (now counts) 0 (now symbols) × (length (now symbols) ≤ 1024) ⌝ }

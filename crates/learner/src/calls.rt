@@ -1,12 +1,12 @@
 // Answers (§3.5) and acceptance (§3.6), by value: 18, 30, 31, the input, then the step; a refusal leaves words and lists as they were.
 ghost use mathlib.Core.Path.{_≡_};
 ghost use mathlib.Core.Bool.{true};
-ghost use Prim.Native.Nat.{_+_, _*_, _≤_};
+ghost use Prim.Native.Nat.{_<_, _+_, _*_, _≤_};
 ghost use lib.ListN.{length};
 ghost use Rattle.model.specs.Calls.{answers, accept as acceptCall};
 ghost use Rattle.model.specs.Sound.{isSound};
 ghost use Rattle.model.specs.Entry.{sizeFits, listsFit, tablesOf, refused};
-ghost use Rattle.sound.specs.Working.{Working};
+ghost use Rattle.sound.specs.Working.{Room, Working};
 ghost use Rattle.step.specs.Stepping.{countsIn, closed as closedOf, accepting as acceptingOf};
 ghost use Rattle.learner.specs.Calls.{CallAs, FirstAs};
 use bank::rows;
@@ -50,15 +50,15 @@ fn take_answer(
     lists: Lists,
     mark: u8,
     saved: &mut [u32],
-    holes: &mut [u8; 16384],
-    head: &mut [u16; 16384],
-    next: &mut [u16; 16384],
+    holes: &mut [u8],
+    head: &mut [u16],
+    next: &mut [u16],
     mix: &[u32; 5],
-    table: &mut [u8; 73984],
+    table: &mut [u8],
     places: &[u16; 32],
-    reps: &[u16; 16384],
+    reps: &[u16],
 ) -> Done
-    requires { ⌜ (sizeFits (now words) ≡ true) × (listsFit lists ≡ true) × (isSound (tablesOf (now words) lists) ≡ true) × (lists .asked ≡ 0 → ⊥) × (mark ≤ 1) × Working (now words) (countsIn lists) (lists .used) (lists .s) (lists .states) (lists .t) (lists .rules) (lists .c) (lists .contexts) (now holes) (now head) (now next) (now mix) (now table) (now places) (now reps) × (length (now words) ≤ 6 * lists .used + length (now saved)) ⌝ }
+    requires { ⌜ (sizeFits (now words) ≡ true) × (listsFit lists ≡ true) × (isSound (tablesOf (now words) lists) ≡ true) × (lists .asked ≡ 0 → ⊥) × (mark ≤ 1) × Working (now words) (countsIn lists) (lists .used) (lists .s) (lists .states) (lists .t) (lists .rules) (lists .c) (lists .contexts) (now holes) (now head) (now next) (now mix) (now table) (now places) (now reps) × (length (now words) ≤ 6 * lists .used + length (now saved)) × (289 * (lists .rules + 1) ≤ length (now table)) ⌝ }
     ensures { λ r. ⌜ CallAs (now (words .entry)) lists (answers mark) r (now (words .exit)) ⌝ }
 {
     undo::save(words, lists.used, saved);
@@ -79,29 +79,24 @@ fn take_answer(
     }
 }
 
-// An answer to tables of a size that fits, in lists that fit, with room to save the rows in.
-fn answer_within(words: &mut [u32], lists: Lists, mark: u8, saved: &mut [u32]) -> Done
-    requires { ⌜ (sizeFits (now words) ≡ true) × (listsFit lists ≡ true) × (length (now words) ≤ 6 * lists .used + length (now saved)) ⌝ }
+// An answer to tables of a size that fits, in lists that fit, with room to work in and to save the rows in.
+fn answer_in(
+    words: &mut [u32],
+    lists: Lists,
+    mark: u8,
+    saved: &mut [u32],
+    holes: &mut [u8],
+    head: &mut [u16],
+    next: &mut [u16],
+    mix: &mut [u32; 5],
+    table: &mut [u8],
+    places: &mut [u16; 32],
+    reps: &mut [u16],
+) -> Done
+    requires { ⌜ (sizeFits (now words) ≡ true) × (listsFit lists ≡ true) × (length (now words) ≤ 6 * lists .used + length (now saved)) × Room (now words) (lists .rules) (now holes) (now head) (now next) (now mix) (now table) (now places) (now reps) × (289 * (lists .rules + 1) ≤ length (now table)) ⌝ }
     ensures { λ r. ⌜ CallAs (now (words .entry)) lists (answers mark) r (now (words .exit)) ⌝ }
 {
-    let mut holes = [0u8; 16384];
-    let mut head = [0u16; 16384];
-    let mut next = [0u16; 16384];
-    let mut mix = [0u32; 5];
-    let mut table = [0u8; 73984];
-    let mut places = [0u16; 32];
-    let mut reps = [0u16; 16384];
-    if !sound::lists_sound(
-        words,
-        lists,
-        &mut holes,
-        &mut head,
-        &mut next,
-        &mut mix,
-        &mut table,
-        &mut places,
-        &mut reps,
-    ) {
+    if !sound::lists_sound(words, lists, holes, head, next, mix, table, places, reps) {
         return refuse(30, lists);
     }
     if lists.asked == 0 {
@@ -115,14 +110,145 @@ fn answer_within(words: &mut [u32], lists: Lists, mark: u8, saved: &mut [u32]) -
         lists,
         mark,
         saved,
+        holes,
+        head,
+        next,
+        mix,
+        table,
+        places,
+        reps,
+    )
+}
+
+// The same with room for at most 384 rows and fewer than 40 transitions.
+fn answer_tiny(words: &mut [u32], lists: Lists, mark: u8, saved: &mut [u32]) -> Done
+    requires { ⌜ (sizeFits (now words) ≡ true) × (listsFit lists ≡ true) × (length (now words) ≤ 6 * lists .used + length (now saved)) × (length (now words) ≤ 2304) × (lists .rules < 40) ⌝ }
+    ensures { λ r. ⌜ CallAs (now (words .entry)) lists (answers mark) r (now (words .exit)) ⌝ }
+{
+    let mut holes = [0u8; 384];
+    let mut head = [0u16; 512];
+    let mut next = [0u16; 384];
+    let mut mix = [0u32; 5];
+    let mut table = [0u8; 11560];
+    let mut places = [0u16; 32];
+    let mut reps = [0u16; 384];
+    answer_in(
+        words,
+        lists,
+        mark,
+        saved,
         &mut holes,
         &mut head,
         &mut next,
-        &mix,
+        &mut mix,
         &mut table,
-        &places,
-        &reps,
+        &mut places,
+        &mut reps,
     )
+}
+
+// The same with room for at most 1,024 rows and fewer than 64 transitions.
+fn answer_small(words: &mut [u32], lists: Lists, mark: u8, saved: &mut [u32]) -> Done
+    requires { ⌜ (sizeFits (now words) ≡ true) × (listsFit lists ≡ true) × (length (now words) ≤ 6 * lists .used + length (now saved)) × (length (now words) ≤ 6144) × (lists .rules < 64) ⌝ }
+    ensures { λ r. ⌜ CallAs (now (words .entry)) lists (answers mark) r (now (words .exit)) ⌝ }
+{
+    let mut holes = [0u8; 1024];
+    let mut head = [0u16; 1024];
+    let mut next = [0u16; 1024];
+    let mut mix = [0u32; 5];
+    let mut table = [0u8; 18496];
+    let mut places = [0u16; 32];
+    let mut reps = [0u16; 1024];
+    answer_in(
+        words,
+        lists,
+        mark,
+        saved,
+        &mut holes,
+        &mut head,
+        &mut next,
+        &mut mix,
+        &mut table,
+        &mut places,
+        &mut reps,
+    )
+}
+
+// The same with room for at most 2,048 rows and fewer than 128 transitions.
+fn answer_mid(words: &mut [u32], lists: Lists, mark: u8, saved: &mut [u32]) -> Done
+    requires { ⌜ (sizeFits (now words) ≡ true) × (listsFit lists ≡ true) × (length (now words) ≤ 6 * lists .used + length (now saved)) × (length (now words) ≤ 12288) × (lists .rules < 128) ⌝ }
+    ensures { λ r. ⌜ CallAs (now (words .entry)) lists (answers mark) r (now (words .exit)) ⌝ }
+{
+    let mut holes = [0u8; 2048];
+    let mut head = [0u16; 4096];
+    let mut next = [0u16; 2048];
+    let mut mix = [0u32; 5];
+    let mut table = [0u8; 36992];
+    let mut places = [0u16; 32];
+    let mut reps = [0u16; 2048];
+    answer_in(
+        words,
+        lists,
+        mark,
+        saved,
+        &mut holes,
+        &mut head,
+        &mut next,
+        &mut mix,
+        &mut table,
+        &mut places,
+        &mut reps,
+    )
+}
+
+// The same with room for all that may be lent.
+fn answer_wide(words: &mut [u32], lists: Lists, mark: u8, saved: &mut [u32]) -> Done
+    requires { ⌜ (sizeFits (now words) ≡ true) × (listsFit lists ≡ true) × (length (now words) ≤ 6 * lists .used + length (now saved)) ⌝ }
+    ensures { λ r. ⌜ CallAs (now (words .entry)) lists (answers mark) r (now (words .exit)) ⌝ }
+{
+    let mut holes = [0u8; 16384];
+    let mut head = [0u16; 16384];
+    let mut next = [0u16; 16384];
+    let mut mix = [0u32; 5];
+    let mut table = [0u8; 74273];
+    let mut places = [0u16; 32];
+    let mut reps = [0u16; 16384];
+    answer_in(
+        words,
+        lists,
+        mark,
+        saved,
+        &mut holes,
+        &mut head,
+        &mut next,
+        &mut mix,
+        &mut table,
+        &mut places,
+        &mut reps,
+    )
+}
+
+// The same with as much room as it takes.
+fn answer_within(words: &mut [u32], lists: Lists, mark: u8, saved: &mut [u32]) -> Done
+    requires { ⌜ (sizeFits (now words) ≡ true) × (listsFit lists ≡ true) × (length (now words) ≤ 6 * lists .used + length (now saved)) ⌝ }
+    ensures { λ r. ⌜ CallAs (now (words .entry)) lists (answers mark) r (now (words .exit)) ⌝ }
+{
+    if words.len() <= 2304 {
+        if lists.rules < 40 {
+            return answer_tiny(words, lists, mark, saved);
+        }
+    }
+    if words.len() <= 6144 {
+        if lists.rules < 64 {
+            return answer_small(words, lists, mark, saved);
+        }
+    }
+    if words.len() <= 12288 {
+        if lists.rules < 128 {
+            return answer_mid(words, lists, mark, saved);
+        }
+    }
+    answer_wide(words, lists, mark, saved)
 }
 
 // The same with few rows past the used ones, and only these are saved: 34 where they are not enough.

@@ -17,9 +17,9 @@ pub fn roles_fit(
     words: &[u32],
     counts: &[u8],
     used: u16,
-    holes: &[u8; 16384],
-    head: &[u16; 16384],
-    next: &[u16; 16384],
+    holes: &[u8],
+    head: &[u16],
+    next: &[u16],
     mix: &[u32; 5],
     s: &[u16; 32],
     states: usize,
@@ -61,7 +61,7 @@ pub fn find_places(
     places: &mut [u16; 32],
 )
     requires { ⌜ (length (now s) ≡ 32) × (states ≤ 32) × (length (now t) ≡ 256) × (rules ≤ 256) × (length (now places) ≡ 32) × (allAmong (take states (now s)) (take rules (now t)) ≡ true) ⌝ }
-    ensures { λ _. ⌜ Placing (now (places .exit)) states × Placed (now (t .entry)) rules (now (s .entry)) states (now (places .exit)) ⌝ }
+    ensures { λ _. ⌜ Placing (now (places .exit)) states rules × Placed (now (t .entry)) rules (now (s .entry)) states (now (places .exit)) ⌝ }
 {
     let mut i = 0;
     while i < states {
@@ -72,7 +72,7 @@ pub fn find_places(
 }
 
 // Whether an answer of a transition at a context is missing.
-pub fn is_missing(table: &[u8; 73984], rules: usize, contexts: usize) -> bool
+pub fn is_missing(table: &[u8], rules: usize, contexts: usize) -> bool
     requires { ⌜ Sized (now table) rules contexts ⌝ }
     ensures { λ r. ⌜ r ≡ isOpen (gapFrom (now (table .entry)) contexts 0 rules) ⌝ }
 {
@@ -98,20 +98,20 @@ fn few_fit(states: usize, rules: usize, contexts: usize, missing: bool) -> bool
 
 // T4's last clause, T5 and T6.
 pub fn table_fits(
-    table: &[u8; 73984],
+    table: &[u8],
     places: &[u16; 32],
     states: usize,
     rules: usize,
     contexts: usize,
     missing: bool,
 ) -> bool
-    requires { ⌜ Sized (now table) rules contexts × Placing (now places) states ⌝ }
+    requires { ⌜ Sized (now table) rules contexts × Placing (now places) states rules ⌝ }
     ensures { λ r. ⌜ r ≡ tableFits (now (table .entry)) (now (places .entry)) states rules contexts missing ⌝ }
 {
     if !few_fit(states, rules, contexts, missing) {
         return false;
     }
-    if !judge::all_differ(table, contexts, places, states) {
+    if !judge::all_differ(table, rules, contexts, places, states) {
         return false;
     }
     if !judge::all_yes(table, rules, contexts) {
@@ -127,13 +127,13 @@ pub fn table_fits(
 pub fn question_fits(
     words: &[u32],
     used: u16,
-    holes: &[u8; 16384],
+    holes: &[u8],
     hand: u16,
     asked: u16,
     accepted: u8,
     missing: bool,
 ) -> bool
-    requires { ⌜ (length (now holes) ≡ 16384) × (used ≤ 16384) × (6 * used ≤ length (now words)) ⌝ }
+    requires { ⌜ (used ≤ length (now holes)) × (6 * used ≤ length (now words)) ⌝ }
     ensures { λ r. ⌜ r ≡ questionFits (now (words .entry)) (now (holes .entry)) used hand asked accepted missing ⌝ }
 {
     if asked == 0 {

@@ -8,8 +8,8 @@ ghost use Rattle.model.specs.Terms.{recordFault};
 ghost use Rattle.model.specs.Entry.{sizeFits};
 ghost use Rattle.bank.specs.Ready.{Ready};
 ghost use Rattle.probe.specs.Probed.{isPassed, Shown, Marks, said, saidOf, found, FilledReady, Filled, StoredReady, Stored, known};
-use bank::add;
 use bank::add::Grown;
+use bank::context;
 use bank::index;
 use bank::listed;
 use bank::pass;
@@ -49,9 +49,9 @@ fn passes(
     words: &[u32],
     counts: &[u8],
     used: u16,
-    holes: &mut [u8; 16384],
-    head: &mut [u16; 16384],
-    next: &mut [u16; 16384],
+    holes: &mut [u8],
+    head: &mut [u16],
+    next: &mut [u16],
     mix: &mut [u32; 5],
 ) -> bool
     requires { ⌜ (length (now holes) ≡ 16384) × (length (now head) ≡ 16384) × (length (now next) ≡ 16384) × (length (now mix) ≡ 5) ⌝ }
@@ -65,8 +65,8 @@ fn passes(
 }
 
 // The first marks of holes, copied.
-fn show(holes: &[u8; 16384], used: u16, marks: &mut [u8])
-    requires { ⌜ (length (now holes) ≡ 16384) × (used ≤ 16384) × (used ≤ length (now marks)) ⌝ }
+fn show(holes: &[u8], used: u16, marks: &mut [u8])
+    requires { ⌜ (used ≤ length (now holes)) × (used ≤ length (now marks)) ⌝ }
     ensures { λ _. ⌜ Shown (now (holes .entry)) used (now (marks .exit)) ⌝ }
 {
     let n = used as usize;
@@ -171,9 +171,9 @@ fn filled(
     words: &mut [u32],
     counts: &[u8],
     used: u16,
-    holes: &mut [u8; 16384],
-    head: &mut [u16; 16384],
-    next: &mut [u16; 16384],
+    holes: &mut [u8],
+    head: &mut [u16],
+    next: &mut [u16],
     mix: &[u32; 5],
     context: u16,
     with: u16,
@@ -190,8 +190,7 @@ fn filled(
     if used <= with {
         return refused();
     }
-    let down = *holes;
-    let grown = add::fill(
+    let grown = context::fill_context(
         words,
         counts,
         used,
@@ -199,7 +198,6 @@ fn filled(
         head,
         next,
         mix,
-        &down,
         Row(context),
         Row(with),
     );
@@ -250,9 +248,9 @@ fn stored(
     words: &mut [u32],
     counts: &[u8],
     used: u16,
-    holes: &mut [u8; 16384],
-    head: &mut [u16; 16384],
-    next: &mut [u16; 16384],
+    holes: &mut [u8],
+    head: &mut [u16],
+    next: &mut [u16],
     mix: &[u32; 5],
     symbols: &[u8],
 ) -> Reply

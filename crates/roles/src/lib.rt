@@ -12,8 +12,8 @@ use model::Row;
 pub mod transitions; // transitions.rt: T2
 
 // Whether a number is that of a used row without a hole.
-pub fn is_record(used: u16, holes: &[u8; 16384], row: Row) -> bool
-    requires { ⌜ (length (now holes) ≡ 16384) × (used ≤ 16384) ⌝ }
+pub fn is_record(used: u16, holes: &[u8], row: Row) -> bool
+    requires { ⌜ used ≤ length (now holes) ⌝ }
     ensures { λ r. ⌜ r ≡ recordBy (now (holes .entry)) used (row .0) ⌝ }
 {
     let i = row.0;
@@ -24,8 +24,8 @@ pub fn is_record(used: u16, holes: &[u8; 16384], row: Row) -> bool
 }
 
 // Whether a number is that of a used row with a hole.
-pub fn is_context(used: u16, holes: &[u8; 16384], row: Row) -> bool
-    requires { ⌜ (length (now holes) ≡ 16384) × (used ≤ 16384) ⌝ }
+pub fn is_context(used: u16, holes: &[u8], row: Row) -> bool
+    requires { ⌜ used ≤ length (now holes) ⌝ }
     ensures { λ r. ⌜ r ≡ contextBy (now (holes .entry)) used (row .0) ⌝ }
 {
     let i = row.0;
@@ -36,8 +36,8 @@ pub fn is_context(used: u16, holes: &[u8; 16384], row: Row) -> bool
 }
 
 // Whether the first n of a list are all records.
-pub fn all_records(used: u16, holes: &[u8; 16384], xs: &[u16], n: usize) -> bool
-    requires { ⌜ (length (now holes) ≡ 16384) × (used ≤ 16384) × (n ≤ length (now xs)) ⌝ }
+pub fn all_records(used: u16, holes: &[u8], xs: &[u16], n: usize) -> bool
+    requires { ⌜ (used ≤ length (now holes)) × (n ≤ length (now xs)) ⌝ }
     ensures { λ r. ⌜ r ≡ recordsBy (now (holes .entry)) used (take n (now (xs .entry))) ⌝ }
 {
     let mut i = 0;
@@ -52,8 +52,8 @@ pub fn all_records(used: u16, holes: &[u8; 16384], xs: &[u16], n: usize) -> bool
 }
 
 // Whether the first n of a list are all contexts.
-pub fn all_contexts(used: u16, holes: &[u8; 16384], xs: &[u16], n: usize) -> bool
-    requires { ⌜ (length (now holes) ≡ 16384) × (used ≤ 16384) × (n ≤ length (now xs)) ⌝ }
+pub fn all_contexts(used: u16, holes: &[u8], xs: &[u16], n: usize) -> bool
+    requires { ⌜ (used ≤ length (now holes)) × (n ≤ length (now xs)) ⌝ }
     ensures { λ r. ⌜ r ≡ contextsBy (now (holes .entry)) used (take n (now (xs .entry))) ⌝ }
 {
     let mut i = 0;
@@ -79,8 +79,8 @@ pub fn t3(s: &[u16], states: usize, t: &[u16], rules: usize) -> bool
 }
 
 // T4 but for its last clause: row 0 first, contexts, none twice, at most one more than S and T have members.
-pub fn contexts_fit(used: u16, holes: &[u8; 16384], size: usize, c: &[u16], n: usize) -> bool
-    requires { ⌜ (length (now holes) ≡ 16384) × (used ≤ 16384) × (n ≤ length (now c)) × (size < 1000) ⌝ }
+pub fn contexts_fit(used: u16, holes: &[u8], size: usize, c: &[u16], n: usize) -> bool
+    requires { ⌜ (used ≤ length (now holes)) × (n ≤ length (now c)) × (size < 1000) ⌝ }
     ensures { λ r. ⌜ r ≡ contextsFitBy (now (holes .entry)) used size (take n (now (c .entry))) ⌝ }
 {
     if n == 0 {

@@ -1,18 +1,17 @@
 // Settling (§4.2, §4.3): the first unknown answer is asked; where none is unknown, S grows and the automaton is proposed.
 ghost use mathlib.Core.Path.{_≡_};
-ghost use mathlib.Core.Bool.{true, false};
+ghost use mathlib.Core.Bool.{false};
 ghost use Prim.Native.Nat.{ℕ, _<_, _≤_};
 ghost use lib.ListN.{length, getD, take};
 ghost use Rattle.model.specs.Base.{over};
-ghost use Rattle.model.specs.Store.{hasHole, framesOf, fill};
 ghost use Rattle.model.specs.Steps.{settled};
 ghost use Rattle.model.specs.Entry.{storeOf, answersIn};
-ghost use Rattle.bank.specs.Ready.{Ready, Came};
+ghost use Rattle.bank.specs.Ready.{Ready};
 ghost use Rattle.table.specs.Answers.{Observed, KnownRows, gapFrom, rowsAt};
 ghost use Rattle.observe.specs.Given.{given};
 ghost use Rattle.settle.specs.Settled.{Settling, StepAs};
-use bank::add;
 use bank::add::Grown;
+use bank::context;
 use model::Row;
 use observe::judge;
 use table::Gap;
@@ -24,36 +23,6 @@ pub enum Step {
     NoRules,
     Asks(Row, u16),
     Proposes(u8),
-}
-
-// A context filled with a record: the marks of holes are the way down.
-pub fn fill_context(
-    words: &mut [u32],
-    counts: &[u8],
-    used: u16,
-    holes: &mut [u8; 16384],
-    head: &mut [u16; 16384],
-    next: &mut [u16; 16384],
-    mix: &[u32; 5],
-    context: Row,
-    with: Row,
-) -> Grown
-    requires { ⌜ Ready (now words) (now counts) used (now holes) (now head) (now next) (now mix) × (context .0 < used) × (hasHole (storeOf (now words) (now counts) used) (context .0) ≡ true) × (with .0 < used) ⌝ }
-    ensures { λ r. ⌜ Came (now (words .entry)) (now (counts .entry)) used (fill (storeOf (now (words .entry)) (now (counts .entry)) used) (framesOf (storeOf (now (words .entry)) (now (counts .entry)) used) (context .0)) (with .0)) r (now (words .exit)) (now (holes .exit)) (now (head .exit)) (now (next .exit)) (now (mix .entry)) ⌝ }
-{
-    let down = *holes;
-    add::fill(
-        words,
-        counts,
-        used,
-        holes,
-        head,
-        next,
-        mix,
-        &down,
-        context,
-        with,
-    )
 }
 
 // S as its places in T name it.
@@ -80,7 +49,7 @@ fn propose(
     rules: usize,
     c: &[u16; 289],
     contexts: usize,
-    table: &[u8; 73984],
+    table: &[u8],
 ) -> Step
     requires { ⌜ Settling (now words) (now counts) used (now s) states (now t) rules (now c) contexts × Observed (storeOf (now words) (now counts) used) (answersIn used (now words)) (now t) rules (now c) contexts (now table) × (gapFrom (now table) contexts 0 rules ≡ Gap.Closed) ⌝ }
     ensures { λ r. ⌜ StepAs (now (words .entry)) (now (counts .entry)) used (now (s .entry)) (settled (given (now (words .entry)) (now (counts .entry)) used (now (s .entry)) states (now (t .entry)) rules (now (c .entry)) contexts 0 0 false)) r (now (words .entry)) (now (s .exit)) ⌝ }
@@ -105,9 +74,9 @@ pub fn settle(
     words: &mut [u32],
     counts: &[u8],
     used: u16,
-    holes: &mut [u8; 16384],
-    head: &mut [u16; 16384],
-    next: &mut [u16; 16384],
+    holes: &mut [u8],
+    head: &mut [u16],
+    next: &mut [u16],
     mix: &[u32; 5],
     s: &mut [u16; 32],
     states: usize,
@@ -115,7 +84,7 @@ pub fn settle(
     rules: usize,
     c: &[u16; 289],
     contexts: usize,
-    table: &mut [u8; 73984],
+    table: &mut [u8],
 ) -> Step
     requires { ⌜ Ready (now words) (now counts) used (now holes) (now head) (now next) (now mix) × Settling (now words) (now counts) used (now s) states (now t) rules (now c) contexts × KnownRows (storeOf (now words) (now counts) used) (answersIn used (now words)) (now t) rules (now c) contexts (now table) ⌝ }
     ensures { λ r. ⌜ StepAs (now (words .entry)) (now (counts .entry)) used (now (s .entry)) (settled (given (now (words .entry)) (now (counts .entry)) used (now (s .entry)) states (now (t .entry)) rules (now (c .entry)) contexts 0 0 false)) r (now (words .exit)) (now (s .exit)) ⌝ }
@@ -137,9 +106,9 @@ pub fn settle(
     match table::first_unknown(table, n, contexts) {
         Gap::Closed => propose(words, counts, used, s, states, t, rules, c, contexts, table),
         Gap::At(k, j) => {
-            let context = Row(c[j as usize]);
+            let around = Row(c[j as usize]);
             let with = Row(t[k as usize]);
-            match fill_context(words, counts, used, holes, head, next, mix, context, with) {
+            match context::fill_context(words, counts, used, holes, head, next, mix, around, with) {
                 Grown::Full => Step::NoRows,
                 Grown::At(row, then) => Step::Asks(row, then),
             }

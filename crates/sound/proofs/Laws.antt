@@ -2,4 +2,5 @@
 pub mod Prepared
 pub mod Hand
 pub mod Judged
+pub mod Rooms
 pub mod Looked

@@ -2,16 +2,17 @@
 use mathlib.Core.Path.{_≡_}
 use mathlib.Core.Bool.{Bool, _&&_, _||_, not, cond}
 use mathlib.Core.List.{List}
-use Prim.Native.Nat.{ℕ, _≤_}
+use Prim.Native.Nat.{ℕ, _*_, _≤_}
 use lib.Dec.{eqb}
 use lib.ListN.{length, take}
-use Rattle.model.specs.Limits.{mostRows}
+use Rattle.model.specs.Limits.{rowWidth, mostContexts}
 use Rattle.model.specs.Automata.{acceptsRow}
 use Rattle.model.specs.Table.{Tables}
 use Rattle.model.specs.Sound.{isT1, contextsFew, isT5, isT6, isT7, isT8}
 use Rattle.model.specs.Entry.{storeOf, answersIn}
 use Rattle.bank.specs.Rows.{answerIn}
 use Rattle.bank.specs.Ready.{Ready}
+use Rattle.bank.specs.Pass as Rows
 use Rattle.table.specs.Answers.{Observed, Placing, Placed}
 use Rattle.roles.specs.Marked.{recordBy}
 use Rattle.hypothesis.specs.Rules.{RepsBy, hypothesis}
@@ -26,23 +27,22 @@ pub record Arrays (s : List ℕ) (q : ℕ) (t : List ℕ) (n : ℕ) (c : List �
   pub c-long : length c ≡ 289
   pub few-c : m ≤ 289
 
--- room to work in
-pub record Room (holes head next mix table places reps : List ℕ) : Type 0 where
-  pub holes-long : length holes ≡ mostRows
-  pub head-long : length head ≡ mostRows
-  pub next-long : length next ≡ mostRows
+-- room to work in, for all rows lent and n transitions
+pub record Room (words : List ℕ) (n : ℕ) (holes head next mix table places reps : List ℕ) : Type 0 where
+  pub rows : Rows.Room words holes head next
   pub mix-long : length mix ≡ 5
-  pub table-long : length table ≡ 73984
+  pub table-long : mostContexts * n ≤ length table
   pub places-long : length places ≡ 32
-  pub reps-long : length reps ≡ mostRows
+  pub reps-long : length words ≤ rowWidth * length reps
 
 -- the index, the table of answers, S by its places in T, the representative of each transition
 pub record Working (words counts : List ℕ) (u : ℕ) (s : List ℕ) (q : ℕ) (t : List ℕ) (n : ℕ) (c : List ℕ) (m : ℕ) (holes head next mix table places reps : List ℕ) : Type 0 where
   pub ready : Ready words counts u holes head next mix
   pub observed : Observed (storeOf words counts u) (answersIn u words) t n c m table
-  pub placing : Placing places q
+  pub placing : Placing places q n
   pub placed : Placed t n s q places
   pub reps-by : RepsBy table m (take q places) (take q s) (take n t) reps
+  pub reps-long : length words ≤ rowWidth * length reps
 
 -- T1, T2, T3, and T4 but for its last clause; then the rest
 abbrev pub preparedFit : Tables → Bool

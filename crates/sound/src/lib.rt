@@ -28,15 +28,15 @@ fn prepare(
     rules: usize,
     c: &[u16; 289],
     contexts: usize,
-    holes: &mut [u8; 16384],
-    head: &mut [u16; 16384],
-    next: &mut [u16; 16384],
+    holes: &mut [u8],
+    head: &mut [u16],
+    next: &mut [u16],
     mix: &mut [u32; 5],
-    table: &mut [u8; 73984],
+    table: &mut [u8],
     places: &mut [u16; 32],
-    reps: &mut [u16; 16384],
+    reps: &mut [u16],
 ) -> bool
-    requires { ⌜ (sizeFits (now words) ≡ true) × Arrays (now s) states (now t) rules (now c) contexts × Room (now holes) (now head) (now next) (now mix) (now table) (now places) (now reps) ⌝ }
+    requires { ⌜ (sizeFits (now words) ≡ true) × Arrays (now s) states (now t) rules (now c) contexts × Room (now words) rules (now holes) (now head) (now next) (now mix) (now table) (now places) (now reps) ⌝ }
     ensures { λ r. ⌜ r ≡ preparedFit (given (now (words .entry)) (now (counts .entry)) used (now (s .entry)) states (now (t .entry)) rules (now (c .entry)) contexts 0 0 false) ⌝ }
     ensures working { λ r. ⌜ (r ≡ true → Working (now (words .entry)) (now (counts .entry)) used (now (s .entry)) states (now (t .entry)) rules (now (c .entry)) contexts (now (holes .exit)) (now (head .exit)) (now (next .exit)) (now (mix .exit)) (now (table .exit)) (now (places .exit)) (now (reps .exit))) ⌝ }
 {
@@ -88,11 +88,11 @@ fn hand_fits(
     states: usize,
     t: &[u16; 256],
     rules: usize,
-    holes: &[u8; 16384],
-    head: &[u16; 16384],
-    next: &[u16; 16384],
+    holes: &[u8],
+    head: &[u16],
+    next: &[u16],
     mix: &[u32; 5],
-    reps: &[u16; 16384],
+    reps: &[u16],
     hand: u16,
     missing: bool,
 ) -> bool
@@ -140,13 +140,13 @@ fn judged(
     rules: usize,
     c: &[u16; 289],
     contexts: usize,
-    holes: &[u8; 16384],
-    head: &[u16; 16384],
-    next: &[u16; 16384],
+    holes: &[u8],
+    head: &[u16],
+    next: &[u16],
     mix: &[u32; 5],
-    table: &[u8; 73984],
+    table: &[u8],
     places: &[u16; 32],
-    reps: &[u16; 16384],
+    reps: &[u16],
     hand: u16,
     asked: u16,
     accepted: u8,
@@ -193,15 +193,15 @@ fn is_sound(
     hand: u16,
     asked: u16,
     accepted: u8,
-    holes: &mut [u8; 16384],
-    head: &mut [u16; 16384],
-    next: &mut [u16; 16384],
+    holes: &mut [u8],
+    head: &mut [u16],
+    next: &mut [u16],
     mix: &mut [u32; 5],
-    table: &mut [u8; 73984],
+    table: &mut [u8],
     places: &mut [u16; 32],
-    reps: &mut [u16; 16384],
+    reps: &mut [u16],
 ) -> bool
-    requires { ⌜ (sizeFits (now words) ≡ true) × Arrays (now s) states (now t) rules (now c) contexts × Room (now holes) (now head) (now next) (now mix) (now table) (now places) (now reps) ⌝ }
+    requires { ⌜ (sizeFits (now words) ≡ true) × Arrays (now s) states (now t) rules (now c) contexts × Room (now words) rules (now holes) (now head) (now next) (now mix) (now table) (now places) (now reps) ⌝ }
     ensures { λ r. ⌜ r ≡ isSound (given (now (words .entry)) (now (counts .entry)) used (now (s .entry)) states (now (t .entry)) rules (now (c .entry)) contexts hand asked (eqb accepted 1)) ⌝ }
     ensures working { λ r. ⌜ (r ≡ true → Working (now (words .entry)) (now (counts .entry)) used (now (s .entry)) states (now (t .entry)) rules (now (c .entry)) contexts (now (holes .exit)) (now (head .exit)) (now (next .exit)) (now (mix .exit)) (now (table .exit)) (now (places .exit)) (now (reps .exit))) ⌝ }
 {
@@ -252,15 +252,15 @@ fn is_sound(
 pub fn lists_sound(
     words: &[u32],
     lists: Lists,
-    holes: &mut [u8; 16384],
-    head: &mut [u16; 16384],
-    next: &mut [u16; 16384],
+    holes: &mut [u8],
+    head: &mut [u16],
+    next: &mut [u16],
     mix: &mut [u32; 5],
-    table: &mut [u8; 73984],
+    table: &mut [u8],
     places: &mut [u16; 32],
-    reps: &mut [u16; 16384],
+    reps: &mut [u16],
 ) -> bool
-    requires { ⌜ (sizeFits (now words) ≡ true) × (listsFit lists ≡ true) × Room (now holes) (now head) (now next) (now mix) (now table) (now places) (now reps) ⌝ }
+    requires { ⌜ (sizeFits (now words) ≡ true) × (listsFit lists ≡ true) × Room (now words) (lists .rules) (now holes) (now head) (now next) (now mix) (now table) (now places) (now reps) ⌝ }
     ensures { λ r. ⌜ r ≡ isSound (tablesOf (now (words .entry)) lists) ⌝ }
     ensures working { λ r. ⌜ (r ≡ true → Working (now (words .entry)) (take (lists .letters) (lists .counts)) (lists .used) (lists .s) (lists .states) (lists .t) (lists .rules) (lists .c) (lists .contexts) (now (holes .exit)) (now (head .exit)) (now (next .exit)) (now (mix .exit)) (now (table .exit)) (now (places .exit)) (now (reps .exit))) ⌝ }
 {

@@ -1,7 +1,8 @@
 // A step (§4): with a record in hand the search goes on, with none the first unknown is asked.
 ghost use mathlib.Core.Path.{_≡_};
-ghost use Prim.Native.Nat.{_<_};
+ghost use Prim.Native.Nat.{_+_, _*_, _≤_, _<_};
 ghost use lib.ListN.{length};
+ghost use Rattle.model.specs.Limits.{mostContexts};
 ghost use Rattle.model.specs.Facts.{IsRecord, Fits};
 ghost use Rattle.model.specs.Steps.{advance as advanceOf, search, searched, atNewTransition, atUnknown};
 ghost use Rattle.model.specs.Entry.{tablesOf};
@@ -13,6 +14,7 @@ use crate::finish::Stepped;
 use crate::putdown;
 use bank::add;
 use bank::add::Grown;
+use bank::context;
 use hand::Found;
 use model::Lists;
 use model::Row;
@@ -33,16 +35,16 @@ fn with_rule(lists: Lists, row: Row) -> Lists
 fn new_transition(
     words: &mut [u32],
     lists: Lists,
-    holes: &mut [u8; 16384],
-    head: &mut [u16; 16384],
-    next: &mut [u16; 16384],
+    holes: &mut [u8],
+    head: &mut [u16],
+    next: &mut [u16],
     mix: &[u32; 5],
-    table: &mut [u8; 73984],
-    down: &[u8; 16384],
+    table: &mut [u8],
+    down: &[u8],
     hand: Row,
     spot: Row,
 ) -> Stepped
-    requires { ⌜ Stepping (now words) lists (now holes) (now head) (now next) (now mix) × (length (now table) ≡ 73984) × (length (now down) ≡ 16384) × (lists .contexts < 289) × IsRecord (tablesOf (now words) lists .store) (hand .0) × IsRecord (tablesOf (now words) lists .store) (spot .0) × Fits (tablesOf (now words) lists .store) (pathOf (now down) (tablesOf (now words) lists .store) (hand .0)) ⌝ }
+    requires { ⌜ Stepping (now words) lists (now holes) (now head) (now next) (now mix) × (mostContexts * (lists .rules + 1) ≤ length (now table)) × (lists .used ≤ length (now down)) × (lists .contexts < 289) × IsRecord (tablesOf (now words) lists .store) (hand .0) × IsRecord (tablesOf (now words) lists .store) (spot .0) × Fits (tablesOf (now words) lists .store) (pathOf (now down) (tablesOf (now words) lists .store) (hand .0)) ⌝ }
     ensures { λ r. ⌜ EndedAs (now (words .entry)) lists (searched (tablesOf (now (words .entry)) lists) (atNewTransition (hand .0) (record { row = spot .0; around = pathOf (now (down .entry)) (tablesOf (now (words .entry)) lists .store) (hand .0) }))) r (now (words .exit)) ⌝ }
 {
     if lists.rules == 256 {
@@ -56,15 +58,15 @@ fn new_transition(
 fn ask_exchanged(
     words: &mut [u32],
     lists: Lists,
-    holes: &mut [u8; 16384],
-    head: &mut [u16; 16384],
-    next: &mut [u16; 16384],
+    holes: &mut [u8],
+    head: &mut [u16],
+    next: &mut [u16],
     mix: &[u32; 5],
-    down: &[u8; 16384],
+    down: &[u8],
     hand: Row,
     rep: Row,
 ) -> Stepped
-    requires { ⌜ Stepping (now words) lists (now holes) (now head) (now next) (now mix) × (length (now down) ≡ 16384) × IsRecord (tablesOf (now words) lists .store) (hand .0) × (rep .0 < lists .used) × Fits (tablesOf (now words) lists .store) (pathOf (now down) (tablesOf (now words) lists .store) (hand .0)) ⌝ }
+    requires { ⌜ Stepping (now words) lists (now holes) (now head) (now next) (now mix) × (lists .used ≤ length (now down)) × IsRecord (tablesOf (now words) lists .store) (hand .0) × (rep .0 < lists .used) × Fits (tablesOf (now words) lists .store) (pathOf (now down) (tablesOf (now words) lists .store) (hand .0)) ⌝ }
     ensures { λ r. ⌜ EndedAs (now (words .entry)) lists (searched (tablesOf (now (words .entry)) lists) (atUnknown (hand .0) (record { row = 0; around = pathOf (now (down .entry)) (tablesOf (now (words .entry)) lists .store) (hand .0) }) (rep .0))) r (now (words .exit)) ⌝ }
 {
     let letters = lists.letters as usize;
@@ -93,18 +95,18 @@ fn ask_exchanged(
 fn ended_at(
     words: &mut [u32],
     lists: Lists,
-    holes: &mut [u8; 16384],
-    head: &mut [u16; 16384],
-    next: &mut [u16; 16384],
+    holes: &mut [u8],
+    head: &mut [u16],
+    next: &mut [u16],
     mix: &[u32; 5],
-    table: &mut [u8; 73984],
-    reps: &[u16; 16384],
-    down: &[u8; 16384],
-    at: &[u16; 16384],
-    exchanged: &[u16; 16384],
+    table: &mut [u8],
+    reps: &[u16],
+    down: &[u8],
+    at: &[u16],
+    exchanged: &[u16],
     found: Found,
 ) -> Stepped
-    requires { ⌜ Stepping (now words) lists (now holes) (now head) (now next) (now mix) × (length (now table) ≡ 73984) × InHand (now words) lists (now reps) × Descended (tablesOf (now words) lists .s) (now reps) (tablesOf (now words) lists .store) (now down) (now at) (now exchanged) (lists .used) × (searchBy (tablesOf (now words) lists .s) (now reps) (tablesOf (now words) lists .store) found ≡ search (tablesOf (now words) lists .store) (tablesOf (now words) lists .answers) (tablesOf (now words) lists .s) (tablesOf (now words) lists .t) (tablesOf (now words) lists .c) (lists .hand)) ⌝ }
+    requires { ⌜ Stepping (now words) lists (now holes) (now head) (now next) (now mix) × (mostContexts * (lists .rules + 1) ≤ length (now table)) × InHand (now words) lists (now reps) × Descended (tablesOf (now words) lists .s) (now reps) (tablesOf (now words) lists .store) (now down) (now at) (now exchanged) (lists .used) × (searchBy (tablesOf (now words) lists .s) (now reps) (tablesOf (now words) lists .store) found ≡ search (tablesOf (now words) lists .store) (tablesOf (now words) lists .answers) (tablesOf (now words) lists .s) (tablesOf (now words) lists .t) (tablesOf (now words) lists .c) (lists .hand)) ⌝ }
     ensures { λ r. ⌜ EndedAs (now (words .entry)) lists (searched (tablesOf (now (words .entry)) lists) (searchBy (tablesOf (now (words .entry)) lists .s) (now (reps .entry)) (tablesOf (now (words .entry)) lists .store) found)) r (now (words .exit)) ⌝ }
 {
     match found {
@@ -126,16 +128,16 @@ fn ended_at(
 fn find(
     words: &[u32],
     lists: Lists,
-    holes: &[u8; 16384],
-    head: &[u16; 16384],
-    next: &[u16; 16384],
+    holes: &[u8],
+    head: &[u16],
+    next: &[u16],
     mix: &[u32; 5],
-    reps: &[u16; 16384],
-    down: &mut [u8; 16384],
-    at: &mut [u16; 16384],
-    exchanged: &mut [u16; 16384],
+    reps: &[u16],
+    down: &mut [u8],
+    at: &mut [u16],
+    exchanged: &mut [u16],
 ) -> Found
-    requires { ⌜ Stepping (now words) lists (now holes) (now head) (now next) (now mix) × InHand (now words) lists (now reps) × (length (now down) ≡ 16384) × (length (now at) ≡ 16384) × (length (now exchanged) ≡ 16384) ⌝ }
+    requires { ⌜ Stepping (now words) lists (now holes) (now head) (now next) (now mix) × InHand (now words) lists (now reps) × (lists .used ≤ length (now down)) × (lists .used ≤ length (now at)) × (lists .used ≤ length (now exchanged)) ⌝ }
     ensures { λ r. ⌜ Descended (tablesOf (now (words .entry)) lists .s) (now (reps .entry)) (tablesOf (now (words .entry)) lists .store) (now (down .exit)) (now (at .exit)) (now (exchanged .exit)) (lists .used) ⌝ }
     ensures ended { λ r. ⌜ searchBy (tablesOf (now (words .entry)) lists .s) (now (reps .entry)) (tablesOf (now (words .entry)) lists .store) r ≡ search (tablesOf (now (words .entry)) lists .store) (tablesOf (now (words .entry)) lists .answers) (tablesOf (now (words .entry)) lists .s) (tablesOf (now (words .entry)) lists .t) (tablesOf (now (words .entry)) lists .c) (lists .hand) ⌝ }
 {
@@ -185,23 +187,23 @@ fn find(
     )
 }
 
-// With a record in hand: the search, and what its end asks for.
-fn in_hand(
+// With a record in hand: the search, and what its end asks for. The arrays lent have room for the rows used.
+fn in_hand_with(
     words: &mut [u32],
     lists: Lists,
-    holes: &mut [u8; 16384],
-    head: &mut [u16; 16384],
-    next: &mut [u16; 16384],
+    holes: &mut [u8],
+    head: &mut [u16],
+    next: &mut [u16],
     mix: &[u32; 5],
-    table: &mut [u8; 73984],
-    reps: &[u16; 16384],
+    table: &mut [u8],
+    reps: &[u16],
+    down: &mut [u8],
+    at: &mut [u16],
+    exchanged: &mut [u16],
 ) -> Stepped
-    requires { ⌜ Stepping (now words) lists (now holes) (now head) (now next) (now mix) × (length (now table) ≡ 73984) × InHand (now words) lists (now reps) × (lists .hand ≡ 0 → ⊥) ⌝ }
+    requires { ⌜ Stepping (now words) lists (now holes) (now head) (now next) (now mix) × (mostContexts * (lists .rules + 1) ≤ length (now table)) × InHand (now words) lists (now reps) × (lists .hand ≡ 0 → ⊥) × (lists .used ≤ length (now down)) × (lists .used ≤ length (now at)) × (lists .used ≤ length (now exchanged)) ⌝ }
     ensures { λ r. ⌜ EndedAs (now (words .entry)) lists (advanceOf (tablesOf (now (words .entry)) lists)) r (now (words .exit)) ⌝ }
 {
-    let mut down = [0u8; 16384];
-    let mut at = [0u16; 16384];
-    let mut exchanged = [0u16; 16384];
     let found = find(
         words,
         lists,
@@ -210,9 +212,9 @@ fn in_hand(
         next,
         mix,
         reps,
-        &mut down,
-        &mut at,
-        &mut exchanged,
+        down,
+        at,
+        exchanged,
     );
     ended_at(
         words,
@@ -223,25 +225,92 @@ fn in_hand(
         mix,
         table,
         reps,
-        &down,
-        &at,
-        &exchanged,
+        down,
+        at,
+        exchanged,
         found,
     )
 }
 
-// A step. With nothing in hand, rows of the table without an unknown answer are right.
+// The same where few rows are used.
+fn in_hand_few(
+    words: &mut [u32],
+    lists: Lists,
+    holes: &mut [u8],
+    head: &mut [u16],
+    next: &mut [u16],
+    mix: &[u32; 5],
+    table: &mut [u8],
+    reps: &[u16],
+) -> Stepped
+    requires { ⌜ Stepping (now words) lists (now holes) (now head) (now next) (now mix) × (mostContexts * (lists .rules + 1) ≤ length (now table)) × InHand (now words) lists (now reps) × (lists .hand ≡ 0 → ⊥) × (lists .used ≤ 1024) ⌝ }
+    ensures { λ r. ⌜ EndedAs (now (words .entry)) lists (advanceOf (tablesOf (now (words .entry)) lists)) r (now (words .exit)) ⌝ }
+{
+    let mut down = [0u8; 1024];
+    let mut at = [0u16; 1024];
+    let mut exchanged = [0u16; 1024];
+    in_hand_with(
+        words,
+        lists,
+        holes,
+        head,
+        next,
+        mix,
+        table,
+        reps,
+        &mut down,
+        &mut at,
+        &mut exchanged,
+    )
+}
+
+// The same, whatever is used.
+fn in_hand(
+    words: &mut [u32],
+    lists: Lists,
+    holes: &mut [u8],
+    head: &mut [u16],
+    next: &mut [u16],
+    mix: &[u32; 5],
+    table: &mut [u8],
+    reps: &[u16],
+) -> Stepped
+    requires { ⌜ Stepping (now words) lists (now holes) (now head) (now next) (now mix) × (mostContexts * (lists .rules + 1) ≤ length (now table)) × InHand (now words) lists (now reps) × (lists .hand ≡ 0 → ⊥) ⌝ }
+    ensures { λ r. ⌜ EndedAs (now (words .entry)) lists (advanceOf (tablesOf (now (words .entry)) lists)) r (now (words .exit)) ⌝ }
+{
+    if lists.used <= context::FEW {
+        return in_hand_few(words, lists, holes, head, next, mix, table, reps);
+    }
+    let mut down = [0u8; 16384];
+    let mut at = [0u16; 16384];
+    let mut exchanged = [0u16; 16384];
+    in_hand_with(
+        words,
+        lists,
+        holes,
+        head,
+        next,
+        mix,
+        table,
+        reps,
+        &mut down,
+        &mut at,
+        &mut exchanged,
+    )
+}
+
+// A step. With nothing in hand, rows of the table without an unknown answer are right; there is room in it for one transition more.
 pub fn advance(
     words: &mut [u32],
     lists: Lists,
-    holes: &mut [u8; 16384],
-    head: &mut [u16; 16384],
-    next: &mut [u16; 16384],
+    holes: &mut [u8],
+    head: &mut [u16],
+    next: &mut [u16],
     mix: &[u32; 5],
-    table: &mut [u8; 73984],
-    reps: &[u16; 16384],
+    table: &mut [u8],
+    reps: &[u16],
 ) -> Stepped
-    requires { ⌜ Stepping (now words) lists (now holes) (now head) (now next) (now mix) × (length (now table) ≡ 73984) × ((lists .hand ≡ 0 → ⊥) → InHand (now words) lists (now reps)) × (lists .hand ≡ 0 → KnownTable (now words) lists (now table)) × (lists .asked ≡ 0) × (lists .accepted ≡ 0) ⌝ }
+    requires { ⌜ Stepping (now words) lists (now holes) (now head) (now next) (now mix) × (mostContexts * (lists .rules + 1) ≤ length (now table)) × ((lists .hand ≡ 0 → ⊥) → InHand (now words) lists (now reps)) × (lists .hand ≡ 0 → KnownTable (now words) lists (now table)) × (lists .asked ≡ 0) × (lists .accepted ≡ 0) ⌝ }
     ensures { λ r. ⌜ EndedAs (now (words .entry)) lists (advanceOf (tablesOf (now (words .entry)) lists)) r (now (words .exit)) ⌝ }
 {
     if lists.hand == 0 {

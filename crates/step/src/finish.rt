@@ -52,11 +52,11 @@ fn proposing(lists: Lists, s: [u16; 32], states: u8) -> Lists
 pub fn finish(
     words: &mut [u32],
     lists: Lists,
-    holes: &mut [u8; 16384],
-    head: &mut [u16; 16384],
-    next: &mut [u16; 16384],
+    holes: &mut [u8],
+    head: &mut [u16],
+    next: &mut [u16],
     mix: &[u32; 5],
-    table: &mut [u8; 73984],
+    table: &mut [u8],
 ) -> Stepped
     requires { ⌜ Stepping (now words) lists (now holes) (now head) (now next) (now mix) × KnownTable (now words) lists (now table) × (lists .hand ≡ 0) × (lists .asked ≡ 0) × (lists .accepted ≡ 0) ⌝ }
     ensures { λ r. ⌜ EndedAs (now (words .entry)) lists (settled (tablesOf (now (words .entry)) lists)) r (now (words .exit)) ⌝ }

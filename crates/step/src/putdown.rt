@@ -1,7 +1,8 @@
 // The record in hand is put down (§4.1): the context around its spot is added, to C too if it is absent there.
 ghost use mathlib.Core.Path.{_≡_};
-ghost use Prim.Native.Nat.{_<_};
+ghost use Prim.Native.Nat.{_*_, _≤_, _<_};
 ghost use lib.ListN.{length};
+ghost use Rattle.model.specs.Limits.{mostContexts};
 ghost use Rattle.model.specs.Facts.{IsRecord, Fits};
 ghost use Rattle.model.specs.Steps.{putDown};
 ghost use Rattle.model.specs.Entry.{tablesOf};
@@ -37,15 +38,15 @@ fn with_context(lists: Lists, context: Row, used: u16) -> Lists
 pub fn put_down(
     words: &mut [u32],
     lists: Lists,
-    holes: &mut [u8; 16384],
-    head: &mut [u16; 16384],
-    next: &mut [u16; 16384],
+    holes: &mut [u8],
+    head: &mut [u16],
+    next: &mut [u16],
     mix: &[u32; 5],
-    table: &mut [u8; 73984],
-    down: &[u8; 16384],
+    table: &mut [u8],
+    down: &[u8],
     hand: Row,
 ) -> Stepped
-    requires { ⌜ Stepping (now words) lists (now holes) (now head) (now next) (now mix) × (length (now table) ≡ 73984) × (length (now down) ≡ 16384) × (lists .contexts < 289) × IsRecord (tablesOf (now words) lists .store) (hand .0) × Fits (tablesOf (now words) lists .store) (pathOf (now down) (tablesOf (now words) lists .store) (hand .0)) ⌝ }
+    requires { ⌜ Stepping (now words) lists (now holes) (now head) (now next) (now mix) × (mostContexts * lists .rules ≤ length (now table)) × (lists .used ≤ length (now down)) × (lists .contexts < 289) × IsRecord (tablesOf (now words) lists .store) (hand .0) × Fits (tablesOf (now words) lists .store) (pathOf (now down) (tablesOf (now words) lists .store) (hand .0)) ⌝ }
     ensures { λ r. ⌜ EndedAs (now (words .entry)) lists (putDown (tablesOf (now (words .entry)) lists) (pathOf (now (down .entry)) (tablesOf (now (words .entry)) lists .store) (hand .0))) r (now (words .exit)) ⌝ }
 {
     let letters = lists.letters as usize;

@@ -19,9 +19,9 @@ use Rattle.table.specs.declared.Growth.{Growth}
 abbrev pub rowAt : (table : List ℕ) → (m k : ℕ) → List ℕ
 rowAt tb m k = take m (drop (mostContexts * k) tb)
 
--- within the table
+-- within the table, which has room for n rows
 pub record Sized (table : List ℕ) (n m : ℕ) : Type 0 where
-  pub long : length table ≡ 73984
+  pub long : mostContexts * n ≤ length table
   pub few-t : n ≤ mostRules
   pub few-c : m ≤ mostContexts
 
@@ -77,18 +77,17 @@ pub record KnownRows (x : Store) (w t : List ℕ) (n : ℕ) (c : List ℕ) (m : 
 
 -- the first answer of each of the first n rows is unknown
 pub record Forgotten (n : ℕ) (table : List ℕ) : Type 0 where
-  pub long : length table ≡ 73984
   pub first : (k : ℕ) → k < n → getD table (mostContexts * k) 0 ≡ 0
 
 -- the first q places name the first q of S among the first n of T
 abbrev pub Placed : (t : List ℕ) → (n : ℕ) → (s : List ℕ) → (q : ℕ) → (places : List ℕ) → Type 0
 Placed t n s q ps = (i : ℕ) → i < q → (getD ps i 0 < n) × (getD t (getD ps i 0) 0 ≡ getD s i 0)
 
--- places of representatives, as a call carries them
-pub record Placing (places : List ℕ) (q : ℕ) : Type 0 where
+-- places of representatives, as a call carries them: rows of a table of n
+pub record Placing (places : List ℕ) (q n : ℕ) : Type 0 where
   pub long : length places ≡ 32
   pub few : q ≤ 32
-  pub within : (i : ℕ) → i < q → getD places i 0 < mostRules
+  pub within : (i : ℕ) → i < q → getD places i 0 < n
 
 -- the question at a gap, and whether there is one
 abbrev pub soughtBy : (t c : List ℕ) → Gap → Sought

@@ -9,7 +9,7 @@ ghost use Rattle.model.specs.Sound.{differKnown, allDiffer, countSame};
 ghost use Rattle.table.specs.Answers.{rowAt, Sized, placesFrom, Placing};
 
 // Whether each transition has a yes at some context.
-pub fn all_yes(table: &[u8; 73984], rules: usize, contexts: usize) -> bool
+pub fn all_yes(table: &[u8], rules: usize, contexts: usize) -> bool
     requires { ⌜ Sized (now table) rules contexts ⌝ }
     ensures { λ r. ⌜ r ≡ all (λ (k : ℕ). among 2 (rowAt (now (table .entry)) contexts k)) (placesFrom 0 rules) ⌝ }
 {
@@ -25,14 +25,15 @@ pub fn all_yes(table: &[u8; 73984], rules: usize, contexts: usize) -> bool
 
 // Whether a transition differs from every representative from a place on.
 fn differs(
-    table: &[u8; 73984],
+    table: &[u8],
+    rules: usize,
     contexts: usize,
     places: &[u16; 32],
     states: usize,
     from: usize,
     a: usize,
 ) -> bool
-    requires { ⌜ Sized (now table) 256 contexts × (a < 256) × (from ≤ states) × Placing (now places) states ⌝ }
+    requires { ⌜ Sized (now table) rules contexts × (a < rules) × (from ≤ states) × Placing (now places) states rules ⌝ }
     ensures { λ r. ⌜ r ≡ all (differKnown (rowAt (now (table .entry)) contexts a)) (map (rowAt (now (table .entry)) contexts) (drop from (take states (now (places .entry))))) ⌝ }
 {
     let mut q = from;
@@ -46,13 +47,27 @@ fn differs(
 }
 
 // Whether each two representatives differ at a context where both answers are known.
-pub fn all_differ(table: &[u8; 73984], contexts: usize, places: &[u16; 32], states: usize) -> bool
-    requires { ⌜ Sized (now table) 256 contexts × Placing (now places) states ⌝ }
+pub fn all_differ(
+    table: &[u8],
+    rules: usize,
+    contexts: usize,
+    places: &[u16; 32],
+    states: usize,
+) -> bool
+    requires { ⌜ Sized (now table) rules contexts × Placing (now places) states rules ⌝ }
     ensures { λ r. ⌜ r ≡ allDiffer (map (rowAt (now (table .entry)) contexts) (take states (now (places .entry)))) ⌝ }
 {
     let mut q = 0;
     while q < states {
-        if !differs(table, contexts, places, states, q + 1, places[q] as usize) {
+        if !differs(
+            table,
+            rules,
+            contexts,
+            places,
+            states,
+            q + 1,
+            places[q] as usize,
+        ) {
             return false;
         }
         q += 1;
@@ -62,13 +77,14 @@ pub fn all_differ(table: &[u8; 73984], contexts: usize, places: &[u16; 32], stat
 
 // How many representatives have a transition's row.
 fn count_same(
-    table: &[u8; 73984],
+    table: &[u8],
+    rules: usize,
     contexts: usize,
     places: &[u16; 32],
     states: usize,
     a: usize,
 ) -> u8
-    requires { ⌜ Sized (now table) 256 contexts × (a < 256) × Placing (now places) states ⌝ }
+    requires { ⌜ Sized (now table) rules contexts × (a < rules) × Placing (now places) states rules ⌝ }
     ensures { λ r. ⌜ r ≡ countSame (rowAt (now (table .entry)) contexts a) (map (rowAt (now (table .entry)) contexts) (take states (now (places .entry)))) ⌝ }
 {
     let mut n: u8 = 0;
@@ -84,18 +100,18 @@ fn count_same(
 
 // Whether each transition has the row of exactly one representative.
 pub fn all_once(
-    table: &[u8; 73984],
+    table: &[u8],
     rules: usize,
     contexts: usize,
     places: &[u16; 32],
     states: usize,
 ) -> bool
-    requires { ⌜ Sized (now table) rules contexts × Placing (now places) states ⌝ }
+    requires { ⌜ Sized (now table) rules contexts × Placing (now places) states rules ⌝ }
     ensures { λ r. ⌜ r ≡ all (λ (k : ℕ). eqb (countSame (rowAt (now (table .entry)) contexts k) (map (rowAt (now (table .entry)) contexts) (take states (now (places .entry))))) 1) (placesFrom 0 rules) ⌝ }
 {
     let mut k = 0;
     while k < rules {
-        if count_same(table, contexts, places, states, k) != 1 {
+        if count_same(table, rules, contexts, places, states, k) != 1 {
             return false;
         }
         k += 1;

@@ -11,8 +11,8 @@ use model::State;
 pub mod judge; // judge.rt: T5 and T6
 
 // Whether two transitions have the same answers at the first `contexts` contexts.
-pub fn same_rows(table: &[u8; 73984], contexts: usize, a: usize, b: usize) -> bool
-    requires { ⌜ Sized (now table) 256 contexts × (a < 256) × (b < 256) ⌝ }
+pub fn same_rows(table: &[u8], contexts: usize, a: usize, b: usize) -> bool
+    requires { ⌜ Sized (now table) (a + 1) contexts × Sized (now table) (b + 1) contexts ⌝ }
     ensures { λ r. ⌜ r ≡ same (rowAt (now (table .entry)) contexts a) (rowAt (now (table .entry)) contexts b) ⌝ }
 {
     let mut j = 0;
@@ -26,8 +26,8 @@ pub fn same_rows(table: &[u8; 73984], contexts: usize, a: usize, b: usize) -> bo
 }
 
 // Whether two transitions differ at a context where both answers are known.
-pub fn differ_known(table: &[u8; 73984], contexts: usize, a: usize, b: usize) -> bool
-    requires { ⌜ Sized (now table) 256 contexts × (a < 256) × (b < 256) ⌝ }
+pub fn differ_known(table: &[u8], contexts: usize, a: usize, b: usize) -> bool
+    requires { ⌜ Sized (now table) (a + 1) contexts × Sized (now table) (b + 1) contexts ⌝ }
     ensures { λ r. ⌜ r ≡ differKnown (rowAt (now (table .entry)) contexts a) (rowAt (now (table .entry)) contexts b) ⌝ }
 {
     let mut j = 0;
@@ -47,8 +47,8 @@ pub fn differ_known(table: &[u8; 73984], contexts: usize, a: usize, b: usize) ->
 }
 
 // Whether a transition has an answer at some context: 2 for a yes, 0 for an unknown one.
-pub fn has_answer(table: &[u8; 73984], contexts: usize, a: usize, answer: u8) -> bool
-    requires { ⌜ Sized (now table) 256 contexts × (a < 256) ⌝ }
+pub fn has_answer(table: &[u8], contexts: usize, a: usize, answer: u8) -> bool
+    requires { ⌜ Sized (now table) (a + 1) contexts ⌝ }
     ensures { λ r. ⌜ r ≡ among answer (rowAt (now (table .entry)) contexts a) ⌝ }
 {
     let mut j = 0;
@@ -62,8 +62,8 @@ pub fn has_answer(table: &[u8; 73984], contexts: usize, a: usize, answer: u8) ->
 }
 
 // The first answer of each transition made unknown: of a table that no longer holds, no row is then taken for known.
-pub fn forget(table: &mut [u8; 73984], rules: usize)
-    requires { ⌜ (length (now table) ≡ 73984) × (rules ≤ 256) ⌝ }
+pub fn forget(table: &mut [u8], rules: usize)
+    requires { ⌜ (289 * rules ≤ length (now table)) × (rules ≤ 256) ⌝ }
     ensures { λ _. ⌜ Forgotten rules (now (table .exit)) ⌝ }
 {
     let mut k = 0;
@@ -80,8 +80,8 @@ pub enum Gap {
 }
 
 // The place of the first unknown answer of one transition; `contexts` for none.
-fn first_in(table: &[u8; 73984], contexts: usize, a: usize) -> usize
-    requires { ⌜ Sized (now table) 256 contexts × (a < 256) ⌝ }
+fn first_in(table: &[u8], contexts: usize, a: usize) -> usize
+    requires { ⌜ Sized (now table) (a + 1) contexts ⌝ }
     ensures { λ r. ⌜ r ≡ placeBy contexts (unknownIn (rowAt (now (table .entry)) contexts a) 0) ⌝ }
 {
     let mut j = 0;
@@ -95,7 +95,7 @@ fn first_in(table: &[u8; 73984], contexts: usize, a: usize) -> usize
 }
 
 // Transitions in order, and for each the contexts in order (§4.2).
-pub fn first_unknown(table: &[u8; 73984], rules: usize, contexts: usize) -> Gap
+pub fn first_unknown(table: &[u8], rules: usize, contexts: usize) -> Gap
     requires { ⌜ Sized (now table) rules contexts ⌝ }
     ensures { λ r. ⌜ r ≡ gapFrom (now (table .entry)) contexts 0 rules ⌝ }
 {
@@ -112,13 +112,14 @@ pub fn first_unknown(table: &[u8; 73984], rules: usize, contexts: usize) -> Gap
 
 // The state of a transition: the first representative with its row; past the last for none.
 pub fn state_of(
-    table: &[u8; 73984],
+    table: &[u8],
+    rules: usize,
     contexts: usize,
     places: &[u16; 32],
     states: usize,
     a: usize,
 ) -> State
-    requires { ⌜ Sized (now table) 256 contexts × (a < 256) × (states ≤ 32) × (length (now places) ≡ 32) × ((i : ℕ) → i < states → getD (now places) i 0 < 256) ⌝ }
+    requires { ⌜ Sized (now table) rules contexts × (a < rules) × (states ≤ 32) × (length (now places) ≡ 32) × ((i : ℕ) → i < states → getD (now places) i 0 < rules) ⌝ }
     ensures { λ r. ⌜ r .0 ≡ stateAt (now (table .entry)) contexts (take states (now (places .entry))) a ⌝ }
 {
     let mut q = 0;
@@ -139,22 +140,16 @@ pub struct Growth {
 }
 
 // T in order: each transition whose row no representative has becomes one (§4.3).
-pub fn grow(
-    table: &[u8; 73984],
-    rules: usize,
-    contexts: usize,
-    places: [u16; 32],
-    states: u8,
-) -> Growth
-    requires { ⌜ Sized (now table) rules contexts × (states ≤ 32) × ((i : ℕ) → i < states → getD places i 0 < 256) ⌝ }
+pub fn grow(table: &[u8], rules: usize, contexts: usize, places: [u16; 32], states: u8) -> Growth
+    requires { ⌜ Sized (now table) rules contexts × (states ≤ 32) × ((i : ℕ) → i < states → getD places i 0 < rules) ⌝ }
     ensures { λ r. ⌜ grownBy (growAt (now (table .entry)) contexts rules (take states places)) r ⌝ }
-    ensures below { λ r. ⌜ ((i : ℕ) → i < r .states → getD (r .places) i 0 < 256) ⌝ }
+    ensures below { λ r. ⌜ ((i : ℕ) → i < r .states → getD (r .places) i 0 < rules) ⌝ }
 {
     let mut ps = places;
     let mut n = states;
     let mut k = 0;
     while k < rules {
-        let q = state_of(table, contexts, &ps, n as usize, k);
+        let q = state_of(table, rules, contexts, &ps, n as usize, k);
         if q.0 as u8 == n {
             if n == 32 {
                 return Growth {

@@ -13,7 +13,8 @@ fn multipliers_are_those_of_bank() {
     for mix in MIXES {
         assert!(pass.contains(&format!("{mix:?}")), "{mix:?}");
     }
-    assert!(index.contains("sum % 2147483629 % 16384"));
+    assert!(index.contains("scaled(sum % 2147483648, size)"));
+    assert!(index.contains("(x * size as u64 / 2147483648) as usize"));
 }
 
 /// The table passes, its rows are found, and a twin at its end is seen.

@@ -3,7 +3,7 @@
 use mathlib.Core.Path.{_≡_, sym, ap, subst, _∙_}
 use mathlib.Core.Bool.{true}
 use mathlib.Core.List.{List}
-use Prim.Native.Nat.{ℕ, _+_, _-_, _<_}
+use Prim.Native.Nat.{ℕ, _+_, _-_, _≤_, _<_}
 use native.Mathlib.Omega.{arith}
 use lib.ListN.{length, getD, set, length-set}
 use lib.Seq.{getD-set-same, getD-set-other}
@@ -26,7 +26,7 @@ pub record RightEntry (x : Store) (i row entry : ℕ) : Type 0 where
 
 -- the entries of row 0 and of the first p listed rows
 pub record Entries (x : Store) (row : ℕ) (list : List ℕ) (p : ℕ) (filled : List ℕ) : Type 0 where
-  pub long : length filled ≡ mostRows
+  pub long : used x ≤ length filled
   pub first : RightEntry x 0 row (getD filled 0 0)
   pub listed : (q : ℕ) → q < p → RightEntry x (getD list q 0) row (getD filled (getD list q 0) 0)
 
@@ -35,11 +35,11 @@ module _ {ws ns : List ℕ} {n : ℕ} {hs he ne m : List ℕ} (r : Ready ws ns n
   x = storeOf ws ns n
 
   -- THE START: row 0 holds the record
-  pub entries-start : (fs : List ℕ) → length fs ≡ mostRows → getD fs 0 0 < n → Entries (storeOf ws ns n) (getD fs 0 0) list 0 fs
+  pub entries-start : (fs : List ℕ) → n ≤ length fs → getD fs 0 0 < n → Entries (storeOf ws ns n) (getD fs 0 0) list 0 fs
   unfolding filledRow
   entries-start fs l u =
       record {
-        long = l;
+        long = omega (arith, used-of ws ns n);
         first = record { is = sym (ap (λ (gs : List Frame). filledRow x gs (getD fs 0 0)) (frames-none x (r .good))); within = omega (arith, used-of ws ns n) };
         listed = λ q a. absurd (omega arith);
       }
@@ -76,7 +76,7 @@ module _ {ws ns : List ℕ} {n : ℕ} {hs he ne m : List ℕ} (r : Ready ws ns n
         new-right : RightEntry (storeOf ws ns n) (getD list p 0) row (getD (set fs (getD list p 0) v) (getD list p 0) 0)
         new-right =
             let i = getD list p 0 in
-            let s = getD-set-same fs i v 0 (omega (arith, f .long, h .within p more, r .finding .few)) in
+            let s = getD-set-same fs i v 0 (omega (arith, f .long, h .within p more, used-of ws ns n)) in
             record {
               is = s ∙ is ∙ ap (nextRow x (frameAt x i (getD hs i 0 - 1))) (kid-right .is) ∙ sym (filled-step r i (h .within p more) (h .marked p more) row);
               within = omega (arith, s, used-of ws ns n);

@@ -9,14 +9,13 @@ use lib.Dec.{ltb}
 use borrow.Author.Tests.{ltb-true, ltb-false}
 use lib.ListN.{length, getD, set, length-set}
 use lib.Seq.{getD-set-same, getD-set-other}
-use Rattle.model.specs.Limits.{mostRows}
 use Rattle.bank.proofs.Laws.Chains.{by-equal}
 use Rattle.answers.specs.Columns.{HoledRows}
 
-pub holed-none : (hs rows : List ℕ) → length rows ≡ mostRows → HoledRows hs 1 rows 0
-holed-none hs rows l =
+pub holed-none : (hs rows : List ℕ) → HoledRows hs 1 rows 0
+holed-none hs rows =
     record {
-      long = l;
+      long = omega arith;
       few = omega arith;
       some = λ p a. absurd (omega arith);
       within = λ p a. absurd (omega arith);
@@ -49,9 +48,9 @@ module _ {hs rows : List ℕ} {i n : ℕ} (h : HoledRows hs i rows n) where
         order = h .order;
       }
 
-  module _ (some : 0 < i) (room : i < mostRows) (mark : getD hs i 0 ≡ 0 → ⊥) where
+  module _ (some : 0 < i) (room : n < length rows) (mark : getD hs i 0 ≡ 0 → ⊥) where
     last : (p : ℕ) → p ≡ n → getD (set rows n i) p 0 ≡ i
-    last p e = ap (λ (k : ℕ). getD (set rows n i) k 0) e ∙ getD-set-same rows n i 0 (omega (arith, h .few, h .long))
+    last p e = ap (λ (k : ℕ). getD (set rows n i) k 0) e ∙ getD-set-same rows n i 0 room
 
     before : (p : ℕ) → (p ≡ n → ⊥) → getD (set rows n i) p 0 ≡ getD rows p 0
     before p e = getD-set-other rows n p i 0 e
@@ -59,7 +58,7 @@ module _ {hs rows : List ℕ} {i n : ℕ} (h : HoledRows hs i rows n) where
     pub holed-more : HoledRows hs (i + 1) (set rows n i) (n + 1)
     holed-more =
         record {
-          long = simp length-set (h .long);
+          long = simp length-set (omega arith);
           few = omega (arith, h .few);
           some = λ p a. by-equal p n (λ e. omega (arith, last p e)) (λ e. omega (arith, before p e, h .some p (omega arith)));
           within = λ p a. by-equal p n (λ e. omega (arith, last p e)) (λ e. omega (arith, before p e, h .within p (omega arith)));

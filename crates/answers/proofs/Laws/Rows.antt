@@ -100,13 +100,13 @@ by-order {A} i j f g h = by-equal i j g (λ d. go (ltb i j) refl d)
     go false e d = h (let l = ltb-false i j e in omega arith)
 
 -- OBSERVED: no row at first, and a row more
-pub observed-none : (x : Store) (w t c : List ℕ) (m : ℕ) (tb : List ℕ) → length tb ≡ 73984 → m ≤ mostContexts → Observed x w t 0 c m tb
-observed-none x w t c m tb l f = record { sized = record { long = l; few-t = omega arith; few-c = f }; rows = λ k a. absurd (omega arith) }
+pub observed-none : (x : Store) (w t c : List ℕ) (m : ℕ) (tb : List ℕ) → m ≤ mostContexts → Observed x w t 0 c m tb
+observed-none x w t c m tb f = record { sized = record { long = omega arith; few-t = omega arith; few-c = f }; rows = λ k a. absurd (omega arith) }
 
-pub observed-more : {x : Store} {w t : List ℕ} {k : ℕ} {c : List ℕ} {m : ℕ} {tb : List ℕ} → Observed x w t k c m tb → k < mostRules → m ≤ length c →
+pub observed-more : {x : Store} {w t : List ℕ} {k : ℕ} {c : List ℕ} {m : ℕ} {tb : List ℕ} → Observed x w t k c m tb → k < mostRules → mostContexts * k + mostContexts ≤ length tb → m ≤ length c →
     Observed x w t (k + 1) c m (sets tb (mostContexts * k) (answersOf x w (take m c) (getD t k 0)))
-observed-more {x} {w} {t} {k} {c} {m} {tb} o l h =
-    record { sized = record { long = length-sets tb (mostContexts * k) vs ∙ o .sized .long; few-t = omega arith; few-c = o .sized .few-c }; rows = rows }
+observed-more {x} {w} {t} {k} {c} {m} {tb} o l z h =
+    record { sized = record { long = omega (arith, length-sets tb (mostContexts * k) vs); few-t = omega arith; few-c = o .sized .few-c }; rows = rows }
   where
     vs : List ℕ
     vs = answersOf x w (take m c) (getD t k 0)
@@ -115,7 +115,7 @@ observed-more {x} {w} {t} {k} {c} {m} {tb} o l h =
     long = answers-length x w c m (getD t k 0) h
 
     fits : mostContexts * k + m ≤ length tb
-    fits = let a = o .sized .long in let b = o .sized .few-c in omega arith
+    fits = let b = o .sized .few-c in omega arith
 
     rows : (i : ℕ) → i < k + 1 → rowAt (sets tb (mostContexts * k) vs) m i ≡ answersOf x w (take m c) (getD t i 0)
     rows i a =
@@ -126,7 +126,7 @@ observed-more {x} {w} {t} {k} {c} {m} {tb} o l h =
 pub known-more : {x : Store} {w t : List ℕ} {n : ℕ} {c : List ℕ} {m : ℕ} {tb : List ℕ} → KnownRows x w t n c m tb → (k : ℕ) → k < n → m ≤ length c →
     KnownRows x w t n c m (sets tb (mostContexts * k) (answersOf x w (take m c) (getD t k 0)))
 known-more {x} {w} {t} {n} {c} {m} {tb} o k l h =
-    record { sized = record { long = length-sets tb (mostContexts * k) vs ∙ o .sized .long; few-t = o .sized .few-t; few-c = o .sized .few-c }; right = λ i a e. at i a e }
+    record { sized = record { long = omega (arith, length-sets tb (mostContexts * k) vs, o .sized .long); few-t = o .sized .few-t; few-c = o .sized .few-c }; right = λ i a e. at i a e }
   where
     vs : List ℕ
     vs = answersOf x w (take m c) (getD t k 0)

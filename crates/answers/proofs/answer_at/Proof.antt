@@ -4,6 +4,7 @@ use mathlib.Core.Path.{_∙_}
 use Prim.Native.Nat.{_-_, _<_}
 use native.Mathlib.Omega.{arith}
 use borrow.Author.Needs.{needs}
+use Rattle.bank.proofs.Laws.Words.{used-of}
 use lib.ListN.{getD}
 use Rattle.answers.proofs.Laws.Columns.{context-used, entry-used, entry-answer}
 use Rattle.answers.proofs.answer_at.Statement.{statement}
@@ -18,22 +19,31 @@ cast-t8 c = search needs
 mul-t9 : tie.Need-mul-t9
 mul-t9 c = search needs
 
-element-copy-out-t12 : tie.Need-element-copy-out-t12
-element-copy-out-t12 c = let s = c .before .before .before in omega (arith, context-used (s .args .words .now) (s .args .counts .now) (s .args .used) (s .pre .3) (s .args .context .0) (s .pre .4), s .pre .1)
+shared-slice-read-t11 : tie.Need-shared-slice-read-t11
+shared-slice-read-t11 c =
+    let s = c .before .before .before .before .before in
+    omega (arith, context-used (s .args .words .now) (s .args .counts .now) (s .args .used) (s .pre .3) (s .args .context .0) (s .pre .4), s .pre .3 .long, used-of (s .args .words .now) (s .args .counts .now) (s .args .used))
 
 answer-of-requires : tie.Need-answer-of-requires
-answer-of-requires c κs = let s = c .before .before .before .before in omega (arith, used-row s, s .pre .0)
+answer-of-requires c κs = let s = c .before .before .before .before .before in omega (arith, used-row s, s .pre .0)
 
 cast-result : tie.Need-cast-result
 cast-result c =
-    let s = c .before .before .before .before .before in
+    let s = c .before .before .before .before .before .before in
     omega (arith, c .answer-of .ensures, s .pre .2 (getD (s .args .filled .now) (s .args .context .0) 0) (used-row s))
 
 returns : tie.Need-returns
 returns c =
-    let s = c .before .before .before .before .before in
+    let s = c .before .before .before .before .before .before in
     c .answer-of .ensures ∙ entry-answer (s .args .words .now) (s .args .counts .now) (s .args .used) (s .pre .3) (s .args .context .0) (s .pre .4)
 
 pub answer-at-spec : {M : Type 1} → statement M
 answer-at-spec =
-    tie.close (tie.spec cast-t8 mul-t9 element-copy-out-t12 answer-of-requires cast-result returns)
+    tie.close
+    (tie.spec
+    cast-t8
+    mul-t9
+    shared-slice-read-t11
+    answer-of-requires
+    cast-result
+    returns)

@@ -20,30 +20,37 @@ falls s = kid-early (s .pre .0) (s .args .row .0) (s .pre .1) (s .pre .2)
 cast-i : tie.Need-cast-i
 cast-i c = search needs
 
-element-copy-out-place : tie.Need-element-copy-out-place
-element-copy-out-place c = search needs
+shared-slice-read-place : tie.Need-shared-slice-read-place
+shared-slice-read-place c = search needs
 
 cast-place : tie.Need-cast-place
-cast-place c = omega (arith, small (c .before .before .before .before))
+cast-place c = omega (arith, small (c .before .before .before .before .before .before .before))
 
 sub-place : tie.Need-sub-place
 sub-place c = search needs
 
 kid-of-requires : tie.Need-kid-of-requires
 kid-of-requires c κs =
-    let s = c .before .before .before .before in
+    let s = c .before .before .before .before .before .before .before in
     (omega (arith, s .pre .0 .finding .room, s .pre .1), small s)
 
-cast-t16 : tie.Need-cast-t16
-cast-t16 c = let s = c .before .before .before .before .before in omega (arith, falls s, c .kid-of .ensures ∙ kid-read (s .pre .0) (s .args .row .0) (s .pre .1) (s .pre .2), s .pre .0 .finding .few)
+cast-t15 : tie.Need-cast-t15
+cast-t15 c = let s = c .before .before .before .before .before .before .before .before in omega (arith, falls s, c .kid-of .ensures ∙ kid-read (s .pre .0) (s .args .row .0) (s .pre .1) (s .pre .2), s .pre .0 .finding .few)
 
 returns : tie.Need-returns
 returns c =
-    let s = c .before .before .before .before .before in
+    let s = c .before .before .before .before .before .before .before .before in
     let e = c .kid-of .ensures ∙ kid-read (s .pre .0) (s .args .row .0) (s .pre .1) (s .pre .2) in
     (e, omega (arith, e, falls s))
 
 pub hole-kid-spec : {M : Type 1} → statement M
 hole-kid-spec =
     tie.close
-    (tie.spec cast-i element-copy-out-place cast-place sub-place kid-of-requires cast-t16 returns)
+    (tie.spec
+    cast-i
+    shared-slice-read-place
+    cast-place
+    sub-place
+    kid-of-requires
+    cast-t15
+    returns)

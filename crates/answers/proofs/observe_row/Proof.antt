@@ -18,12 +18,25 @@ fill-column-requires c κs = search needs
 read-column-requires : tie.Need-read-column-requires
 read-column-requires c κs = search needs
 
+same-length : tie.Need-same-length
+same-length c = search needs
+
+same-length-2 : tie.Need-same-length-2
+same-length-2 c = search needs
+
 returns : tie.Need-returns
 returns c =
-    let s = c .before .before .before .before .before .before .before .before in
-    (rw (c .read-column .ensures) (observed-more (s .pre .10) (s .pre .4) (omega (arith, s .pre .7, s .pre .8))), (c .before .before .before .fill-column .ensures .long, c .read-column .ensures))
+    let s = c .before .before .before .before .before .before .before .before .before .before .before .before .before .before .before .before .before .before in
+    (rw (c .before .before .read-column .ensures) (observed-more (s .pre .11) (s .pre .4) (s .pre .10) (omega (arith, s .pre .7, s .pre .8))), (c .before .before .before .before .before .before .before .fill-column .kept .1 .1 .1 .1 .1 .1 .1 .1 .1 .1 .0, c .before .before .read-column .ensures))
 
 pub observe-row-spec : {M : Type 1} → statement M
 observe-row-spec =
     tie.close
-    (tie.spec mul-t17 element-copy-out-t20 fill-column-requires read-column-requires returns)
+    (tie.spec
+    mul-t17
+    element-copy-out-t20
+    fill-column-requires
+    read-column-requires
+    same-length
+    same-length-2
+    returns)

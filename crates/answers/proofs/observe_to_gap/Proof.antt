@@ -1,81 +1,44 @@
--- `answers::observe_to_gap` meets its contract. The invariant: the first k transitions have their rows of answers, and every row without an unknown answer is right.
--- An unknown answer in the last row updated is a gap; past the loop all have their rows.
-use mathlib.Core.Path.{_≡_, refl, sym, _∙_, subst}
-use Prim.Native.Nat.{ℕ, _-_, _≤_}
-use native.Mathlib.Omega.{arith}
+-- `answers::observe_to_gap` meets its contract: small arrays for few rows, and else arrays for all.
 use borrow.Author.Needs.{needs}
-use lib.ListN.{length}
-use Rattle.model.specs.Entry.{storeOf, answersIn}
-use Rattle.table.specs.Answers.{Observed, KnownRows}
-use Rattle.table.proofs.Laws.Tied.{gap-at-last}
-use Rattle.answers.proofs.Laws.Rows.{observed-none}
 use Rattle.answers.proofs.observe_to_gap.Statement.{statement}
 use Rattle.answers.proofs.observe_to_gap.Tie as tie
 
-abbrev Inv-loop : tie.InvT-loop
-Inv-loop words counts used holes head next mix t rules c contexts table₀ list filled₀ n k₀ table filled k =
-    (k ≤ rules) × (length filled ≡ 16384) × Observed (storeOf words counts used) (answersIn used words) t k c contexts table × KnownRows (storeOf words counts used) (answersIn used words) t rules c contexts table
+gap-few-requires : tie.Need-gap-few-requires
+gap-few-requires c κs = search needs
 
-abbrev μ-loop : tie.MeasureT-loop
-μ-loop words counts used holes head next mix t rules c contexts table₀ list filled₀ n k₀ table filled k = rules - k
+same-length : tie.Need-same-length
+same-length c = search needs
 
-holed-rows-requires : tie.Need-holed-rows-requires Inv-loop μ-loop
-holed-rows-requires c κs =
-    let s = c .before .before .before in
-    (s .pre .0 .holes-long, refl, s .pre .0 .finding .some, s .pre .0 .finding .few)
+returns : tie.Need-returns
+returns c = search needs
 
-loop-holds : tie.Need-loop-holds Inv-loop μ-loop
-loop-holds c =
-    let s = c .before .before .before .before in
-    (omega arith, refl, observed-none (storeOf (s .args .words .now) (s .args .counts .now) (s .args .used)) (answersIn (s .args .used) (s .args .words .now)) (s .args .t .now) (s .args .c .now) (s .args .contexts) (s .args .table .now) (s .pre .8 .sized .long) (s .pre .7), s .pre .8)
+slice-aggregate-gap-with : tie.Need-slice-aggregate-gap-with
+slice-aggregate-gap-with c = search needs
 
-update-row-requires : tie.Need-update-row-requires Inv-loop μ-loop
-update-row-requires c κs =
-    let s = c .before .before .before .before .before .before .before .before .before in
-    let l = c .before .before .before .before .loop in
-    let more = c .before .before .before .loop-test .taken in
-    (s .pre .0, s .pre .1, c .before .before .before .before .before .holed-rows .ensures, s .pre .3, more, s .pre .2 (l .k) more, s .pre .5, s .pre .6, l .inv .1, l .inv .2, l .inv .3)
+slice-aggregate-gap-with-2 : tie.Need-slice-aggregate-gap-with-2
+slice-aggregate-gap-with-2 c = search needs
 
-add-result : tie.Need-add-result Inv-loop μ-loop
-add-result c = search needs
+gap-with-requires : tie.Need-gap-with-requires
+gap-with-requires c κs =
+    let s = c .before .before .before .before .before .before .before .before .before .before in
+    let r = s .pre .0 in
+    (r, s .pre .1, s .pre .2, s .pre .3, s .pre .4, s .pre .5, s .pre .6, s .pre .7, s .pre .8, r .finding .few, r .finding .few)
 
-returns : tie.Need-returns Inv-loop μ-loop
-returns c =
-    let u = c .before .update-row .ensures in
-    let more = c .before .before .before .before .before .loop-test .taken in
-    record { few = omega (arith, more); observed = u .0; whole = λ g. absurd (gap-at-last _ _ _ (sym (u .3) ∙ c .if1 .taken) g) }
+same-length-2 : tie.Need-same-length-2
+same-length-2 c = search needs
 
-add-k : tie.Need-add-k Inv-loop μ-loop
-add-k c = search needs
-
-loop-less : tie.Need-loop-less Inv-loop μ-loop
-loop-less c = search needs
-
-loop-again : tie.Need-loop-again Inv-loop μ-loop
-loop-again c =
-    let u = c .before .update-row .ensures in
-    let more = c .before .before .before .before .before .loop-test .taken in
-    (omega (arith, more), u .2, u .0, u .1)
-
-returns-2 : tie.Need-returns-2 Inv-loop μ-loop
-returns-2 c =
-    let s = c .before .before .before .before .before .before in
-    let l = c .before .loop in
-    let e : l .k ≡ s .args .rules = omega arith in
-    record { few = omega arith; observed = subst (λ (k : ℕ). Observed (storeOf (s .args .words .now) (s .args .counts .now) (s .args .used)) (answersIn (s .args .used) (s .args .words .now)) (s .args .t .now) k (s .args .c .now) (s .args .contexts) (l .table)) e (l .inv .2); whole = λ g. refl }
+returns-2 : tie.Need-returns-2
+returns-2 c = search needs
 
 pub observe-to-gap-spec : {M : Type 1} → statement M
 observe-to-gap-spec =
     tie.close
     (tie.spec
-    Inv-loop
-    μ-loop
-    holed-rows-requires
-    loop-holds
-    update-row-requires
-    add-result
+    gap-few-requires
+    same-length
     returns
-    add-k
-    loop-less
-    loop-again
+    slice-aggregate-gap-with
+    slice-aggregate-gap-with-2
+    gap-with-requires
+    same-length-2
     returns-2)

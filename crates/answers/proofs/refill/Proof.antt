@@ -14,17 +14,17 @@ small s = place-four (s .pre .0) (s .args .row .0) (s .pre .1) (s .pre .2)
 
 returns : tie.Need-returns
 returns c =
-    let s = c .before .before .before .before in
+    let s = c .before .before .before .before .before .before .before in
     (sym (next-none (s .pre .0) (s .args .row .0) (s .pre .1) (s .pre .2) (s .args .with .0) (c .if1 .taken)), omega arith)
 
 cast-i : tie.Need-cast-i
 cast-i c = search needs
 
-element-copy-out-place : tie.Need-element-copy-out-place
-element-copy-out-place c = search needs
+shared-slice-read-place : tie.Need-shared-slice-read-place
+shared-slice-read-place c = search needs
 
 cast-place : tie.Need-cast-place
-cast-place c = omega (arith, small (c .before .before .before .before .before .before))
+cast-place c = omega (arith, small (c .before .before .before .before .before .before .before .before .before))
 
 sub-place : tie.Need-sub-place
 sub-place c = search needs
@@ -39,17 +39,17 @@ cast-places : tie.Need-cast-places
 cast-places c = search needs
 
 mul-places : tie.Need-mul-places
-mul-places c = omega (arith, small (c .before .before .before .before .before .before .before .before .before))
+mul-places c = omega (arith, small (c .before .before .before .before .before .before .before .before .before .before .before .before))
 
 array-write-places : tie.Need-array-write-places
-array-write-places c = small (c .before .before .before .before .before .before .before .before .before)
+array-write-places c = small (c .before .before .before .before .before .before .before .before .before .before .before .before)
 
 find-requires : tie.Need-find-requires
 find-requires c κs = search needs
 
 returns-2 : tie.Need-returns-2
 returns-2 c =
-    let s = c .before .before .before .before .before .before .before .before .before .before in
+    let s = c .before .before .before .before .before .before .before .before .before .before .before .before .before in
     next-row (s .pre .0) (s .args .row .0) (s .pre .1) (s .pre .2) (s .args .with .0) (s .pre .3) (c .before .before .before .before .before .before .if1 .left) (c .before .before .before .symbol-of .result) (c .before .before .places-of .result)
     (c .before .before .before .symbol-of .ensures) (c .before .before .places-of .ensures) (c .find .result .0) (c .find .ensures)
 
@@ -59,7 +59,7 @@ refill-spec =
     (tie.spec
     returns
     cast-i
-    element-copy-out-place
+    shared-slice-read-place
     cast-place
     sub-place
     symbol-of-requires

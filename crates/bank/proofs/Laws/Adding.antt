@@ -125,17 +125,17 @@ module _ {ws ns : List ℕ} {n : ℕ} {hs he ne m : List ℕ} (r : Ready ws ns n
 
     hole-new : getD (set hs n hole) n 0 ≡ placeCode (hasHole y) (kidsAt y n)
     hole-new =
-        getD-set-same hs n hole 0 (omega (arith, r .holes-long, fits-one (lent-of r) w)) ∙ q .hole-place ∙ place-ext x y (r .good) ext (q .asked .below) ∙
+        getD-set-same hs n hole 0 (omega (arith, r .holes-long, w)) ∙ q .hole-place ∙ place-ext x y (r .good) ext (q .asked .below) ∙
         ap (placeCode (hasHole y)) (sym (new-kids x (r .good) a (kidsOf ns a ps) (q .asked) room) ∙ ap (kidsAt y) (used-of ws ns n))
 
-    ready-more : (he' ne' : List ℕ) → Indexed m (withRow ws n a ps) (n + 1) he' ne' → length he' ≡ mostRows → length ne' ≡ mostRows →
+    ready-more : (he' ne' : List ℕ) → Indexed m (withRow ws n a ps) (n + 1) he' ne' → length he' ≡ length he → length ne' ≡ length ne →
         Ready (withRow ws n a ps) ns (n + 1) (set hs n hole) he' ne' m
     ready-more he' ne' i s t =
         record {
           good = subst (λ (z : Store). Good z) (sym store-is) good;
           lent = rw length-withRow (r .lent);
           finding = finding-more he' ne' (entered (lent-of r) a ps w) (fits-one (lent-of r) w) (rw length-withRow w) alone i s t;
-          holes-long = length-set hs n hole ∙ r .holes-long;
+          holes-long = simp (length-withRow, length-set) (r .holes-long);
           holed = subst (λ (z : Store). Holed z (set hs n hole) (n + 1)) (sym store-is) (λ k l. holed k (last-cases k n l));
         }
       where
@@ -143,7 +143,7 @@ module _ {ws ns : List ℕ} {n : ℕ} {hs he ne m : List ℕ} (r : Ready ws ns n
         holed k (inl l) = hole-old k l
         holed k (inr e) = rw e hole-new
 
-    comes-added : (he' ne' : List ℕ) → Indexed m (withRow ws n a ps) (n + 1) he' ne' → length he' ≡ mostRows → length ne' ≡ mostRows →
+    comes-added : (he' ne' : List ℕ) → Indexed m (withRow ws n a ps) (n + 1) he' ne' → length he' ≡ length he → length ne' ≡ length ne →
         Comes ws ns n (rowFor (storeOf ws ns n) a (kidsOf ns a ps)) (grownRow n (n + 1)) (withRow ws n a ps) (set hs n hole) he' ne' m
     comes-added he' ne' i s t =
         let f : eqb (findRow (storeOf ws ns n) a (kidsOf ns a ps)) 0 ≡ true = eq-eqb (findRow (storeOf ws ns n) a (kidsOf ns a ps)) 0 unseen in
@@ -159,7 +159,7 @@ module _ {ws ns : List ℕ} {n : ℕ} {hs he ne m : List ℕ} (r : Ready ws ns n
         })
 
     -- the same for words that are those
-    comes-put : (vs he' ne' : List ℕ) → vs ≡ withRow ws n a ps → Indexed m vs (n + 1) he' ne' → length he' ≡ mostRows → length ne' ≡ mostRows →
+    comes-put : (vs he' ne' : List ℕ) → vs ≡ withRow ws n a ps → Indexed m vs (n + 1) he' ne' → length he' ≡ length he → length ne' ≡ length ne →
         Comes ws ns n (rowFor (storeOf ws ns n) a (kidsOf ns a ps)) (grownRow n (n + 1)) vs (set hs n hole) he' ne' m
     comes-put vs he' ne' e i s t =
         subst (λ (v : List ℕ). Comes ws ns n (rowFor (storeOf ws ns n) a (kidsOf ns a ps)) (grownRow n (n + 1)) v (set hs n hole) he' ne' m) (sym e)

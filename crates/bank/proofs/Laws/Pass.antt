@@ -94,9 +94,10 @@ module _ (ws ns : List ℕ) (n : ℕ) where
         let e : countOf x (symbolAt x 0) ≡ 0 = ap (countOf x) (symbol-in ws ns n 0 (omega arith) ∙ h) ∙ List·getD-eq-default ns 0 {n = holeSymbol} (omega (arith, letters)) in
         ap (λ (c : ℕ). take c (nodeAt x 0 .kids)) e
 
-    pub starts : {mix head next : List ℕ} (hs : List ℕ) → length hs ≡ mostRows → Finding mix ws 1 head next → Passing ws ns n mix (set hs 0 0) head next 1
+    pub starts : {mix head next : List ℕ} (hs : List ℕ) → n ≤ length hs → Finding mix ws 1 head next → Passing ws ns n mix (set hs 0 0) head next 1
     unfolding placeCode
     starts hs l f =
+        let some = b .some in
         record {
           reached = record {
             some = omega arith;
@@ -104,7 +105,7 @@ module _ (ws ns : List ℕ) (n : ℕ) where
             room = b .room;
             wide = few-kids;
             earlier = λ j u. let e : j ≡ 0 = omega arith in rw (e, no-kids) none-below;
-            holes-long = length-set hs 0 0 ∙ l;
+            holes-long = simp length-set l;
             holed = λ j u. let e : j ≡ 0 = omega arith in rw (e, no-kids) (getD-set-same hs 0 0 0 (omega arith));
           };
           most = b .some;
@@ -136,7 +137,7 @@ module _ (ws ns : List ℕ) (n : ℕ) where
       pub doubled : (twin ≡ 0 → ⊥) → rowsPass ws ns n ≡ false
       doubled z = sym step ∙ (λ t. (fitting t && not (not (ne-eqb twin 0 z t))) && rest i)
 
-      pub goes-on : {head' next' : List ℕ} → twin ≡ 0 → Indexed mix ws (i + 1) head' next' → length head' ≡ mostRows → length next' ≡ mostRows →
+      pub goes-on : {head' next' : List ℕ} → twin ≡ 0 → Indexed mix ws (i + 1) head' next' → length head' ≡ length head → length next' ≡ length next →
           Passing ws ns n mix (set hs i h) head' next' (i + 1)
       goes-on {head'} {next'} z y p q =
           let r = s .reached in
@@ -151,7 +152,7 @@ module _ (ws ns : List ℕ) (n : ℕ) where
               room = r .room;
               wide = r .wide;
               earlier = earlier-more r u node;
-              holes-long = length-set hs i h ∙ long;
+              holes-long = simp length-set long;
               holed = λ j l. by-equal j i
                   (λ d. rw d (getD-set-same hs i h 0 (omega arith) ∙ told-hole fits code h e .1))
                   (λ d. getD-set-other hs i j h 0 d ∙ r .holed j (omega arith));
@@ -199,7 +200,7 @@ module _ {ws ns : List ℕ} {n most : ℕ} {hs head next mix : List ℕ} {r : Pa
       go q (P.passed f m) e = (f, m)
 
 -- AN INDEX of no row beyond row 0
-pub finding-none : {mix ws ns head next : List ℕ} {n : ℕ} → Begun ws ns n → Mixing mix → Cleared head → length next ≡ mostRows → Finding mix ws 1 head next
+pub finding-none : {mix ws ns head next : List ℕ} {n : ℕ} → Begun ws ns n → Mixing mix → Cleared head → length ws ≤ rowWidth * length next → Finding mix ws 1 head next
 finding-none {mix} {ws} {ns} {head} {next} b m c l =
     let some = b .some in
     let room = b .room in
@@ -208,7 +209,8 @@ finding-none {mix} {ws} {ns} {head} {next} b m c l =
       few = omega arith;
       room = omega arith;
       mixing = m;
-      head-long = c .long;
+      some-heads = c .some;
+      few-heads = c .few;
       next-long = l;
       indexed = indexed-none mix ws head next (c .empty);
       no-twins = λ i j z h k p q. omega arith;

@@ -81,7 +81,7 @@ module _ (ws ns : List ℕ) (n : ℕ) where
         rows-decide e = sym (left ∙ ap (λ (b : Bool). b && rowsPass ws ns n) e)
 
 -- READY, where T1 holds and all rows are marked
-pub ready : (ws ns : List ℕ) (n : ℕ) {hs head next mix : List ℕ} → sizeFits ws ≡ true → isT1 (stored ws ns n) ≡ true → length hs ≡ mostRows → Marked ws ns n hs head next mix →
+pub ready : (ws ns : List ℕ) (n : ℕ) {hs head next mix : List ℕ} → sizeFits ws ≡ true → isT1 (stored ws ns n) ≡ true → length ws ≤ rowWidth * length hs → Marked ws ns n hs head next mix →
     Ready ws ns n hs head next mix
 ready ws ns n z e l m =
     record {

@@ -56,11 +56,11 @@ module _ (p : ℕ → Bool) (x : Store) (g : Good x) (ds : List ℕ) (h : (i : �
   pub path-way : (i : ℕ) → i < used x → pathOf ds x i ≡ down p x i .around
   path-way i u = way-from (suc i) i u
 
--- A CONTEXT over a record table that is ready
-module _ {ws ns : List ℕ} {n : ℕ} {hs head next mix : List ℕ} (r : Ready ws ns n hs head next mix) (c : ℕ) (u : c < n) where
-  pub path-frames : pathOf hs (storeOf ws ns n) c ≡ framesOf (storeOf ws ns n) c
+-- A CONTEXT over a record table that is ready, along the marks of holes or a copy of them
+module _ {ws ns : List ℕ} {n : ℕ} {hs head next mix : List ℕ} (r : Ready ws ns n hs head next mix) (ds : List ℕ) (same : (i : ℕ) → i < n → getD ds i 0 ≡ getD hs i 0) (c : ℕ) (u : c < n) where
+  pub path-frames : pathOf ds (storeOf ws ns n) c ≡ framesOf (storeOf ws ns n) c
   path-frames =
-      path-way (hasHole (storeOf ws ns n)) (storeOf ws ns n) (r .good) hs (λ i l. r .holed i (omega (arith, used-of ws ns n))) c (omega (arith, used-of ws ns n))
+      path-way (hasHole (storeOf ws ns n)) (storeOf ws ns n) (r .good) ds (λ i l. let b : i < n = omega (arith, used-of ws ns n) in same i b ∙ r .holed i b) c (omega (arith, used-of ws ns n))
 
-  pub path-fits : hasHole (storeOf ws ns n) c ≡ true → Fits (storeOf ws ns n) (pathOf hs (storeOf ws ns n) c)
+  pub path-fits : hasHole (storeOf ws ns n) c ≡ true → Fits (storeOf ws ns n) (pathOf ds (storeOf ws ns n) c)
   path-fits e = subst (Fits (storeOf ws ns n)) (sym path-frames) (context-fits (storeOf ws ns n) (r .good) c (omega (arith, used-of ws ns n)) e)

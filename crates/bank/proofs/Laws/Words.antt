@@ -103,10 +103,10 @@ module _ (ws vs : List ℕ) (n : ℕ) (same : SameRows ws n vs) where
     pub places-kept : placesIn vs i ≡ placesIn ws i
     places-kept = λ t. kid-kept 0 (omega arith) t ∷ kid-kept 1 (omega arith) t ∷ kid-kept 2 (omega arith) t ∷ kid-kept 3 (omega arith) t ∷ []
 
-    pub bucket-kept : (mix : List ℕ) → bucketAt mix vs i ≡ bucketAt mix ws i
+    pub bucket-kept : (mix : List ℕ) (z : ℕ) → bucketAt mix z vs i ≡ bucketAt mix z ws i
     unfolding bucketAt
-    bucket-kept m =
-        λ t. bucketOf m (symbol-kept t) (kid-kept 0 (omega arith) t) (kid-kept 1 (omega arith) t) (kid-kept 2 (omega arith) t) (kid-kept 3 (omega arith) t)
+    bucket-kept m z =
+        λ t. bucketOf m z (symbol-kept t) (kid-kept 0 (omega arith) t) (kid-kept 1 (omega arith) t) (kid-kept 2 (omega arith) t) (kid-kept 3 (omega arith) t)
 
   pub answers-kept : answersIn n vs ≡ answersIn n ws
   answers-kept =

@@ -8,7 +8,6 @@ use native.Mathlib.Omega.{arith}
 use native.Mathlib.Decide.{ℕ-discrete}
 use lib.ListN.{length, getD, set, length-set}
 use lib.Seq.{getD-set-same, getD-set-other}
-use Rattle.model.specs.Limits.{mostRows}
 use Rattle.model.specs.Base.{Below, none-below, one-below, among}
 use Rattle.model.specs.Store.{Store, Spot, used, kidsAt, filledRow, nextRow, spotOf}
 use Rattle.model.specs.Facts.{Good}
@@ -16,6 +15,7 @@ use Rattle.model.specs.Entry.{storeOf}
 use Rattle.model.proofs.Laws.Fold.{earlier}
 use Rattle.bank.specs.Rows.{kidIn}
 use Rattle.bank.specs.Ready.{Ready, placeCode, frameAt}
+use Rattle.bank.proofs.Laws.Words.{used-of}
 use Rattle.hand.specs.Spots.{outsideAt, exchangedRow, Handling, Descended}
 use Rattle.hand.proofs.Laws.Steps.{step-none, step-some}
 use Rattle.hand.proofs.Laws.Reps.{hole-rep}
@@ -63,7 +63,18 @@ module _ {ws ns : List ℕ} {n : ℕ} {hs head next mix : List ℕ} (r : Ready w
       let c = turn-inner s reps (storeOf ws ns n) (r .good) i (code - 1) (row-used r i l) names (getD at kid 0) (getD ex kid 0) (subst (λ (j : ℕ). TurnIs s reps (storeOf ws ns n) j (getD at kid 0) (getD ex kid 0)) w t) in
       record { spot-is = c .spot-is; row-is = v ∙ c .row-is }
 
--- ALL ROWS, one further
+-- ALL ROWS: an entry for each
+module _ (ws ns : List ℕ) (n : ℕ) {s reps ds at ex : List ℕ} {i : ℕ} (d : Descended s reps (storeOf ws ns n) ds at ex i) where
+  pub down-rows : n ≤ length ds
+  down-rows = omega (arith, used-of ws ns n, d .down-long)
+
+  pub at-rows : n ≤ length at
+  at-rows = omega (arith, used-of ws ns n, d .at-long)
+
+  pub exchanged-rows : n ≤ length ex
+  exchanged-rows = omega (arith, used-of ws ns n, d .exchanged-long)
+
+-- one further
 set-more : {f : ℕ → ℕ} (vs : List ℕ) (n v : ℕ) → n < length vs → v ≡ f n → ((i : ℕ) → i < n → getD vs i 0 ≡ f i) → (i : ℕ) → i < n + 1 → getD (set vs n v) i 0 ≡ f i
 set-more {f} vs n v l e h i u = go (ℕ-discrete i n)
   where
@@ -77,13 +88,13 @@ no-kids none-below p = refl
 no-kids (one-below l b) p = absurd (omega arith)
 
 module _ {s reps : List ℕ} {x : Store} {ds at ex : List ℕ} where
-  pub descended-more : {n : ℕ} (code spot row : ℕ) → n < mostRows → Descended s reps x ds at ex n → code ≡ outsideAt s x n → TurnIs s reps x n spot row →
+  pub descended-more : {n : ℕ} (code spot row : ℕ) → n < used x → Descended s reps x ds at ex n → code ≡ outsideAt s x n → TurnIs s reps x n spot row →
       Descended s reps x (set ds n code) (set at n spot) (set ex n row) (n + 1)
   descended-more {n} code spot row l d e t =
       record {
-        down-long = length-set ds n code ∙ d .down-long;
-        at-long = length-set at n spot ∙ d .at-long;
-        exchanged-long = length-set ex n row ∙ d .exchanged-long;
+        down-long = rw length-set (d .down-long);
+        at-long = rw length-set (d .at-long);
+        exchanged-long = rw length-set (d .exchanged-long);
         down-is = set-more {f = outsideAt s x} ds n code (omega (arith, d .down-long)) e (d .down-is);
         at-is = set-more {f = λ i. spotOf s x i .row} at n spot (omega (arith, d .at-long)) (t .spot-is) (d .at-is);
         exchanged-is = set-more {f = exchangedRow s reps x} ex n row (omega (arith, d .exchanged-long)) (t .row-is) (d .exchanged-is);
@@ -101,12 +112,12 @@ module _ {s reps : List ℕ} {x : Store} {ds at ex : List ℕ} where
       }
 
 -- row 0 has no children and no representative
-pub descended-hole : {x : Store} {w s t cs reps : List ℕ} → Handling x w s t cs reps → (ds at ex : List ℕ) → length ds ≡ mostRows → length at ≡ mostRows → length ex ≡ mostRows →
+pub descended-hole : {x : Store} {w s t cs reps : List ℕ} → Handling x w s t cs reps → (ds at ex : List ℕ) → used x ≤ length ds → used x ≤ length at → used x ≤ length ex →
     Descended s reps x (set ds 0 0) (set at 0 0) (set ex 0 0) 1
 descended-hole {x} {w} {s} {t} {cs} {reps} f ds at ex a b c =
     let g = f .full .good in
     let e = no-kids (earlier x g 0 (g .start)) (λ (k : ℕ). not (among k s)) in
     let v = turn-itself s reps x g 0 e in
-    descended-more {ds = ds} {at = at} {ex = ex} {n = 0} 0 0 0 (omega arith)
+    descended-more {ds = ds} {at = at} {ex = ex} {n = 0} 0 0 0 (g .start)
     (record { down-long = a; at-long = b; exchanged-long = c; down-is = λ i l. absurd (omega arith); at-is = λ i l. absurd (omega arith); exchanged-is = λ i l. absurd (omega arith) })
     (sym e) (record { spot-is = v .spot-is; row-is = sym (hole-rep f) ∙ v .row-is })

@@ -3,20 +3,26 @@
 use mathlib.Core.Path.{_≡_, refl, sym, ap, subst, _∙_}
 use mathlib.Core.Bool.{Bool, true, false}
 use mathlib.Core.List.{List}
-use Prim.Native.Nat.{ℕ, _<_}
+use Prim.Native.Nat.{ℕ, _≤_, _<_}
 use native.Mathlib.Omega.{arith}
 use lib.Dec.{eqb}
 use borrow.Author.Tests.{eq-eqb, ne-eqb}
-use lib.ListN.{getD}
+use lib.ListN.{length, getD}
 use Rattle.model.specs.Limits.{mostRows}
 use Rattle.model.specs.Base.{In, among}
-use Rattle.model.specs.Store.{Store}
+use Rattle.model.specs.Store.{Store, used}
 use Rattle.model.specs.Table.{answersOf}
+use Rattle.model.specs.Entry.{storeOf}
 use Rattle.model.proofs.Laws.Lists.{member-in, not-in, in-not}
 use Rattle.model.proofs.Laws.Search.{rep-is}
+use Rattle.bank.proofs.Laws.Words.{used-of}
 use Rattle.hand.specs.Spots.{Handling}
 
 module _ {x : Store} {w s t cs reps : List ℕ} (f : Handling x w s t cs reps) where
+  -- an entry for each used row
+  pub reps-long : used x ≤ length reps
+  reps-long = let l = f .full .good .fits in omega (arith, f .long)
+
   pub record RepOf (u : ℕ) : Type 0 where
     pub in-s : In (getD reps u 0) s
     pub same-row : answersOf x w cs u ≡ answersOf x w cs (getD reps u 0)
@@ -60,3 +66,7 @@ module _ {x : Store} {w s t cs reps : List ℕ} (f : Handling x w s t cs reps) w
           let r = rep-of i (f .full .shaped .among i m) in
           eq-eqb (getD reps i 0) i (sym (f .full .shaped .differ i (getD reps i 0) m (r .in-s) (r .same-row)))
       go false e = ne-eqb (getD reps i 0) i (λ q. in-not i s e (subst (λ (j : ℕ). In j s) q (rep-of i (transition i l (λ z. omega arith)) .in-s)))
+
+-- by the words
+pub reps-rows : (ws ns : List ℕ) (n : ℕ) {w s t cs reps : List ℕ} → Handling (storeOf ws ns n) w s t cs reps → n ≤ length reps
+reps-rows ws ns n f = let l = reps-long f in omega (arith, used-of ws ns n)

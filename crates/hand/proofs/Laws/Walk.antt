@@ -4,7 +4,7 @@ use mathlib.Core.Path.{_≡_, sym, ap, subst, _∙_}
 use mathlib.Core.List.{List}
 use Prim.Native.Nat.{ℕ, _<_}
 use native.Mathlib.Omega.{arith}
-use lib.ListN.{getD}
+use lib.ListN.{length, getD}
 use Rattle.model.specs.Limits.{mostRows}
 use Rattle.model.specs.Base.{In}
 use Rattle.model.specs.Store.{outside, spotOf}
@@ -15,7 +15,8 @@ use Rattle.bank.specs.Rows.{answerIn}
 use Rattle.bank.specs.Ready.{Ready}
 use Rattle.bank.proofs.Laws.Words.{used-of, answer-in}
 use Rattle.hand.specs.Spots.{Handling, Descended, exchangedRow}
-use Rattle.hand.proofs.Laws.Reps.{transition}
+use Rattle.hand.proofs.Laws.Reps.{transition, reps-rows}
+use Rattle.hand.proofs.Laws.Descent.{at-rows, exchanged-rows}
 use Rattle.hand.proofs.Laws.Turns.{InHand, hand-used, spot-used, exchanged-used, ends-new, ends-unknown, ends-different, goes-on, goes-down}
 
 module _ {ws ns : List ℕ} {n : ℕ} {hs head next mix s t cs reps ds at ex : List ℕ} {first h : ℕ} (r : Ready ws ns n hs head next mix)
@@ -29,8 +30,21 @@ module _ {ws ns : List ℕ} {n : ℕ} {hs head next mix s t cs reps ds at ex : L
   row-at : getD ex h 0 ≡ exchangedRow s reps (storeOf ws ns n) h
   row-at = d .exchanged-is h in-hand
 
+  spot-row : getD at h 0 < n
+  spot-row = let u = spot-used f first h q in omega (arith, used-of ws ns n, spot-at)
+
   pub spot-few : getD at h 0 < mostRows
-  spot-few = let u = spot-used f first h q in let l = r .finding .few in omega (arith, used-of ws ns n, spot-at)
+  spot-few = let l = r .finding .few in omega (arith, spot-row)
+
+  -- entries that the arrays have
+  pub within-at : h < length at
+  within-at = let u = in-hand in omega (arith, at-rows ws ns n d)
+
+  pub within-exchanged : h < length ex
+  within-exchanged = let u = in-hand in omega (arith, exchanged-rows ws ns n d)
+
+  pub within-reps : getD at h 0 < length reps
+  within-reps = let u = spot-row in omega (arith, reps-rows ws ns n f)
 
   pub stops-new : getD reps (getD at h 0) 0 ≡ 0 → atNewTransition h (spotOf s (storeOf ws ns n) h) ≡ search (storeOf ws ns n) (answersIn n ws) s t cs first
   stops-new e = ends-new f first h q (ap (λ (u : ℕ). getD reps u 0) (sym spot-at) ∙ e)

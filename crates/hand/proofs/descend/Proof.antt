@@ -1,19 +1,20 @@
 -- `hand::descend` meets its contract. The invariant: the arrays are right for the rows before i.
--- Row 0 is its own spot and has no representative; any other row's turn comes from the turns of earlier rows.
+-- Row 0 is its own spot and has no representative; any other row's entries come from those of earlier rows.
+use mathlib.Core.Path.{_≡_, refl, _∙_}
 use Prim.Native.Nat.{_-_, _<_}
 use native.Mathlib.Omega.{arith}
 use borrow.Author.Needs.{needs}
-use lib.ListN.{take}
+use lib.ListN.{length, take, length-set}
 use Rattle.model.specs.Entry.{storeOf}
+use Rattle.bank.proofs.Laws.Words.{used-of}
 use Rattle.hand.specs.Spots.{Descended}
-use Rattle.hand.proofs.Laws.Children.{row-few}
-use Rattle.hand.proofs.Laws.Descent.{descended-hole, descended-more, descended-fewer}
+use Rattle.hand.proofs.Laws.Descent.{descended-hole, descended-fewer}
 use Rattle.hand.proofs.descend.Statement.{statement}
 use Rattle.hand.proofs.descend.Tie as tie
 
 abbrev Inv-loop : tie.InvT-loop
 Inv-loop words counts used holes head next mix s states t rules c contexts reps down₀ at₀ exchanged₀ i₀ down at exchanged i =
-    (0 < i) × Descended (take states s) reps (storeOf words counts used) down at exchanged i
+    (0 < i) × (length down ≡ length down₀) × (length at ≡ length at₀) × (length exchanged ≡ length exchanged₀) × Descended (take states s) reps (storeOf words counts used) down at exchanged i
 
 abbrev μ-loop : tie.MeasureT-loop
 μ-loop words counts used holes head next mix s states t rules c contexts reps down₀ at₀ exchanged₀ i₀ down at exchanged i = used - i
@@ -22,50 +23,28 @@ abbrev In : Type 0
 In = tie.In-loop Inv-loop μ-loop
 
 abbrev start : In → tie.Start Inv-loop μ-loop
-start c = c .before .before .before .before
+start c = c .before .before .before .before .before .before .before .before .before .before .before
 
-few : (c : In) → c .before .loop .i < 16384
-few c = let s = start c in row-few (s .pre .0) (c .before .loop .i) (c .loop-test .taken)
+slice-write-down : tie.Need-slice-write-down Inv-loop μ-loop
+slice-write-down c = let s = c .before .before .before .before .before .before .before .before .before in omega (arith, s .pre .0 .finding .some, s .pre .2)
 
-element-write-down : tie.Need-element-write-down Inv-loop μ-loop
-element-write-down c = search needs
+slice-write-at : tie.Need-slice-write-at Inv-loop μ-loop
+slice-write-at c = let s = c .before .before .before .before .before .before .before .before .before in omega (arith, s .pre .0 .finding .some, s .pre .3)
 
-element-write-at : tie.Need-element-write-at Inv-loop μ-loop
-element-write-at c = search needs
-
-element-write-exchanged : tie.Need-element-write-exchanged Inv-loop μ-loop
-element-write-exchanged c = search needs
+slice-write-exchanged : tie.Need-slice-write-exchanged Inv-loop μ-loop
+slice-write-exchanged c = let s = c .before .before .before .before .before .before .before .before .before in omega (arith, s .pre .0 .finding .some, s .pre .4)
 
 loop-holds : tie.Need-loop-holds Inv-loop μ-loop
-loop-holds c = let s = c .before .before in (omega arith, descended-hole (s .pre .1) (s .args .down .now) (s .args .at .now) (s .args .exchanged .now) (s .pre .2) (s .pre .3) (s .pre .4))
+loop-holds c =
+    let s = c .before .before .before .before .before .before .before .before .before in
+    let u = used-of (s .args .words .now) (s .args .counts .now) (s .args .used) in
+    (omega arith, refl, refl, refl, descended-hole (s .pre .1) (s .args .down .now) (s .args .at .now) (s .args .exchanged .now) (omega (arith, u, s .pre .2)) (omega (arith, u, s .pre .3)) (omega (arith, u, s .pre .4)))
 
-first-outside-requires : tie.Need-first-outside-requires Inv-loop μ-loop
-first-outside-requires c κs = let s = start c in (s .pre .0, s .pre .1, c .before .loop .inv .0, c .loop-test .taken)
-
-turn-of-requires : tie.Need-turn-of-requires Inv-loop μ-loop
-turn-of-requires c κs =
-    let f = c .before .before .before in
-    let d = f .before in
+descend-row-requires : tie.Need-descend-row-requires Inv-loop μ-loop
+descend-row-requires c κs =
+    let d = c .before .before .before in
     let s = start d in
-    (s .pre .0, s .pre .1 .long, d .before .loop .inv .1, d .before .loop .inv .0, d .loop-test .taken, f .first-outside .ensures)
-
-cast-n : tie.Need-cast-n Inv-loop μ-loop
-cast-n c = search needs
-
-element-write-down-2 : tie.Need-element-write-down-2 Inv-loop μ-loop
-element-write-down-2 c = few (c .before .before .before .before .before)
-
-mul-at : tie.Need-mul-at Inv-loop μ-loop
-mul-at c = search needs
-
-element-write-at-2 : tie.Need-element-write-at-2 Inv-loop μ-loop
-element-write-at-2 c = few (c .before .before .before .before .before)
-
-mul-exchanged : tie.Need-mul-exchanged Inv-loop μ-loop
-mul-exchanged c = search needs
-
-element-write-exchanged-2 : tie.Need-element-write-exchanged-2 Inv-loop μ-loop
-element-write-exchanged-2 c = few (c .before .before .before .before .before)
+    (s .pre .0, s .pre .1, d .before .loop .inv .4, d .before .loop .inv .0, d .loop-test .taken)
 
 add-i : tie.Need-add-i Inv-loop μ-loop
 add-i c = search needs
@@ -75,13 +54,21 @@ loop-less c = search needs
 
 loop-again : tie.Need-loop-again Inv-loop μ-loop
 loop-again c =
-    let f = c .before .before .before .before in
-    let d = f .before in
-    let t = c .turn-of in
-    (omega arith, descended-more (f .first-outside .result) (t .result .spot .0) (t .result .row .0) (few d) (d .before .loop .inv .1) (f .first-outside .ensures) (record { spot-is = t .ensures .0; row-is = t .ensures .1 }))
+    let d = c .before .before .before .before .before .before .descend-row in
+    let l = c .before .before .before .before .before .before .before .before .before .before .before .loop in
+    (omega arith, d .kept .1 .1 .1 .1 .1 .1 .1 .1 .1 .1 .1 .1 .1 .1 .0 ∙ l .inv .1, d .kept .1 .1 .1 .1 .1 .1 .1 .1 .1 .1 .1 .1 .1 .1 .1 .0 ∙ l .inv .2, d .kept .1 .1 .1 .1 .1 .1 .1 .1 .1 .1 .1 .1 .1 .1 .1 .1 .0 ∙ l .inv .3, d .ensures)
+
+same-length : tie.Need-same-length Inv-loop μ-loop
+same-length c = c .before .loop .inv .1 ∙ simp length-set
+
+same-length-2 : tie.Need-same-length-2 Inv-loop μ-loop
+same-length-2 c = c .before .loop .inv .2 ∙ simp length-set
+
+same-length-3 : tie.Need-same-length-3 Inv-loop μ-loop
+same-length-3 c = c .before .loop .inv .3 ∙ simp length-set
 
 returns : tie.Need-returns Inv-loop μ-loop
-returns c = descended-fewer (c .loop-test .left) (c .before .loop .inv .1)
+returns c = descended-fewer (c .loop-test .left) (c .before .loop .inv .4)
 
 pub descend-spec : {M : Type 1} → statement M
 descend-spec =
@@ -89,19 +76,15 @@ descend-spec =
     (tie.spec
     Inv-loop
     μ-loop
-    element-write-down
-    element-write-at
-    element-write-exchanged
+    slice-write-down
+    slice-write-at
+    slice-write-exchanged
     loop-holds
-    first-outside-requires
-    turn-of-requires
-    cast-n
-    element-write-down-2
-    mul-at
-    element-write-at-2
-    mul-exchanged
-    element-write-exchanged-2
+    descend-row-requires
     add-i
     loop-less
     loop-again
+    same-length
+    same-length-2
+    same-length-3
     returns)

@@ -7,7 +7,7 @@ use borrow.Author.Needs.{needs}
 use lib.ListN.{length, getD, take}
 use Rattle.model.specs.Store.{kidsAt}
 use Rattle.model.specs.Entry.{storeOf}
-use Rattle.hand.proofs.Laws.Children.{row-within, row-few, symbol-known, kids-long, kid-is, kid-earlier}
+use Rattle.hand.proofs.Laws.Children.{row-within, symbol-known, kids-long, kid-is, kid-earlier}
 use Rattle.hand.proofs.Laws.Scan.{Scanning, scan-starts, scan-hits, scan-passes, scan-ends}
 use Rattle.hand.proofs.first_outside.Statement.{statement}
 use Rattle.hand.proofs.first_outside.Tie as tie
@@ -23,26 +23,26 @@ abbrev In : Type 0
 In = tie.In-loop Inv-loop μ-loop
 
 abbrev start : In → tie.Start Inv-loop μ-loop
-start c = c .before .before .before .before .before .before
+start c = c .before .before .before .before .before .before .before .before .before .before
 
 -- the child's place is one that the row has
 place : (c : In) → c .before .loop .k < length (kidsAt (storeOf (start c .args .words .now) (start c .args .counts .now) (start c .args .used)) (start c .args .row .0))
 place c = omega (arith, c .before .loop .inv .count-is, c .loop-test .taken)
 
 symbol-of-requires : tie.Need-symbol-of-requires Inv-loop μ-loop
-symbol-of-requires c κs = let s = c .before .before in row-within (s .pre .0) (s .args .row .0) (s .pre .3)
+symbol-of-requires c κs = let s = c .before .before .before .before .before .before in row-within (s .pre .0) (s .args .row .0) (s .pre .3)
 
 cast-count : tie.Need-cast-count Inv-loop μ-loop
 cast-count c = search needs
 
 shared-slice-read-count : tie.Need-shared-slice-read-count Inv-loop μ-loop
 shared-slice-read-count c =
-    let s = c .before .before .before .before in
+    let s = c .before .before .before .before .before .before .before .before in
     omega (arith, symbol-known (s .pre .0) (s .args .row .0) (s .pre .3) (s .pre .2), c .before .symbol-of .ensures)
 
 loop-holds : tie.Need-loop-holds Inv-loop μ-loop
 loop-holds c =
-    let s = c .before .before .before .before in
+    let s = c .before .before .before .before .before .before .before .before in
     let a = c .before .symbol-of in
     scan-starts (take (s .args .states) (s .args .s .now)) (storeOf (s .args .words .now) (s .args .counts .now) (s .args .used)) (s .args .row .0) (getD (s .args .counts .now) (a .result) 0)
     (ap (λ (v : ℕ). getD (s .args .counts .now) v 0) (a .ensures) ∙ sym (kids-long (s .pre .0) (s .args .row .0) (s .pre .3) (s .pre .2))) (s .pre .0 .good .wide (a .result))
@@ -55,18 +55,17 @@ kid-of-requires c κs =
     let s = start c in
     (row-within (s .pre .0) (s .args .row .0) (s .pre .3), omega (arith, c .before .loop .inv .few, c .loop-test .taken))
 
-earlier : (c : tie.After-kid-of Inv-loop μ-loop) → c .kid-of .result < 16384
+earlier : (c : tie.After-kid-of Inv-loop μ-loop) → c .kid-of .result < start (c .before) .args .used
 earlier c =
     let s = start (c .before) in
     let a = kid-earlier (s .pre .0) (s .args .row .0) (s .pre .3) (s .pre .2) (c .before .before .loop .k) (place (c .before)) in
-    let b = row-few (s .pre .0) (s .args .row .0) (s .pre .3) in
-    omega (arith, c .kid-of .ensures)
+    omega (arith, c .kid-of .ensures, s .pre .3)
 
 cast-kid : tie.Need-cast-kid Inv-loop μ-loop
-cast-kid c = omega (arith, earlier c)
+cast-kid c = omega (arith, earlier c, start (c .before) .pre .0 .finding .few)
 
 is-rep-requires : tie.Need-is-rep-requires Inv-loop μ-loop
-is-rep-requires c κs = (start (c .before) .pre .1, earlier c)
+is-rep-requires c κs = let s = start (c .before) in (s .pre .1, s .pre .0 .finding .few, earlier c)
 
 add-result : tie.Need-add-result Inv-loop μ-loop
 add-result c = omega (arith, c .before .before .before .before .loop .inv .few, c .before .before .before .loop-test .taken)

@@ -6,9 +6,9 @@ use borrow.Author.Needs.{needs}
 use lib.ListN.{getD, take}
 use Rattle.model.specs.Store.{outside}
 use Rattle.model.specs.Entry.{storeOf, answersIn}
-use Rattle.hand.proofs.Laws.Children.{row-within, row-few}
+use Rattle.hand.proofs.Laws.Children.{row-within}
 use Rattle.hand.proofs.Laws.Turns.{InHand, starts}
-use Rattle.hand.proofs.Laws.Walk.{in-hand, spot-few, stops-new, next-used, stops-unknown, stops-different, steps, steps-less}
+use Rattle.hand.proofs.Laws.Walk.{in-hand, spot-few, within-at, within-exchanged, within-reps, stops-new, next-used, stops-unknown, stops-different, steps, steps-less}
 use Rattle.hand.proofs.search.Statement.{statement}
 use Rattle.hand.proofs.search.Tie as tie
 
@@ -24,19 +24,16 @@ abbrev Turn : Type 0
 Turn = tie.At-loop Inv-loop μ-loop
 
 abbrev start : Turn → tie.Start Inv-loop μ-loop
-start c = c .before .before .before
+start c = c .before .before .before .before .before .before .before .before .before .before
 
 used-row : (c : Turn) → c .loop .h < start c .args .used
 used-row c = let s = start c in in-hand (s .pre .0) (s .pre .1) (s .pre .2) (c .loop .inv)
-
-few : (c : Turn) → c .loop .h < 16384
-few c = row-few (start c .pre .0) (c .loop .h) (used-row c)
 
 spot : (c : Turn) → getD (start c .args .at .now) (c .loop .h) 0 < 16384
 spot c = let s = start c in spot-few (s .pre .0) (s .pre .1) (s .pre .2) (c .loop .inv)
 
 loop-holds : tie.Need-loop-holds Inv-loop μ-loop
-loop-holds c = starts (c .before .before .pre .3)
+loop-holds c = starts (c .before .before .before .before .before .before .before .before .before .pre .3)
 
 cast-spot : tie.Need-cast-spot Inv-loop μ-loop
 cast-spot c = search needs
@@ -44,8 +41,8 @@ cast-spot c = search needs
 mul-spot : tie.Need-mul-spot Inv-loop μ-loop
 mul-spot c = search needs
 
-element-copy-out-spot : tie.Need-element-copy-out-spot Inv-loop μ-loop
-element-copy-out-spot c = few c
+shared-slice-read-spot : tie.Need-shared-slice-read-spot Inv-loop μ-loop
+shared-slice-read-spot c = let s = start (c .before) in within-at (s .pre .0) (s .pre .1) (s .pre .2) (c .before .loop .inv)
 
 cast-if1 : tie.Need-cast-if1 Inv-loop μ-loop
 cast-if1 c = let l = spot (c .before) in omega arith
@@ -53,8 +50,8 @@ cast-if1 c = let l = spot (c .before) in omega arith
 mul-if1 : tie.Need-mul-if1 Inv-loop μ-loop
 mul-if1 c = let l = spot (c .before) in omega arith
 
-element-copy-out-if1 : tie.Need-element-copy-out-if1 Inv-loop μ-loop
-element-copy-out-if1 c = spot (c .before)
+shared-slice-read-if1 : tie.Need-shared-slice-read-if1 Inv-loop μ-loop
+shared-slice-read-if1 c = let d = c .before .before in let s = start d in within-reps (s .pre .0) (s .pre .1) (s .pre .2) (d .loop .inv)
 
 returns : tie.Need-returns Inv-loop μ-loop
 returns c =
@@ -68,8 +65,8 @@ cast-row c = search needs
 mul-row : tie.Need-mul-row Inv-loop μ-loop
 mul-row c = search needs
 
-element-copy-out-row : tie.Need-element-copy-out-row Inv-loop μ-loop
-element-copy-out-row c = few (c .before .before .before)
+shared-slice-read-row : tie.Need-shared-slice-read-row Inv-loop μ-loop
+shared-slice-read-row c = let d = c .before .before .before .before in let s = start d in within-exchanged (s .pre .0) (s .pre .1) (s .pre .2) (d .loop .inv)
 
 answer-of-requires : tie.Need-answer-of-requires Inv-loop μ-loop
 answer-of-requires c κs =
@@ -122,14 +119,14 @@ search-spec =
     loop-holds
     cast-spot
     mul-spot
-    element-copy-out-spot
+    shared-slice-read-spot
     cast-if1
     mul-if1
-    element-copy-out-if1
+    shared-slice-read-if1
     returns
     cast-row
     mul-row
-    element-copy-out-row
+    shared-slice-read-row
     answer-of-requires
     returns-2
     answer-of-requires-2

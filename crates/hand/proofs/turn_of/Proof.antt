@@ -7,8 +7,8 @@ use borrow.Author.Needs.{needs}
 use lib.ListN.{length, take}
 use Rattle.model.specs.Store.{kidsAt}
 use Rattle.model.specs.Entry.{storeOf}
-use Rattle.hand.proofs.Laws.Children.{row-within, row-few, place-four, kid-earlier}
-use Rattle.hand.proofs.Laws.Descent.{turn-itself, place-has, turn-above}
+use Rattle.hand.proofs.Laws.Children.{row-within, place-four, kid-earlier}
+use Rattle.hand.proofs.Laws.Descent.{turn-itself, place-has, turn-above, at-rows, exchanged-rows}
 use Rattle.hand.proofs.turn_of.Statement.{statement}
 use Rattle.hand.proofs.turn_of.Tie as tie
 
@@ -17,19 +17,28 @@ abbrev Inner : Type 0
 Inner = tie.Else1
 
 abbrev start : Inner → tie.Start
-start c = c .before .before .before
+start c = c .before .before .before .before .before .before .before .before .before .before
 
 has : (c : Inner) → start c .args .code - 1 < length (kidsAt (storeOf (start c .args .words .now) (start c .args .counts .now) (start c .args .used)) (start c .args .row .0))
 has c =
     let s = start c in
     place-has (s .pre .0) (take (s .args .states) (s .args .s .now)) (s .args .row .0) (s .pre .3) (s .pre .4) (s .args .code) (s .pre .5) (c .if1 .left)
 
-earlier : (c : tie.After-kid-of) → c .kid-of .result < 16384
+earlier : (c : tie.After-kid-of) → c .kid-of .result < start (c .before) .args .used
 earlier c =
     let s = start (c .before) in
     let a = kid-earlier (s .pre .0) (s .args .row .0) (s .pre .4) (s .pre .3) (s .args .code - 1) (has (c .before)) in
-    let b = row-few (s .pre .0) (s .args .row .0) (s .pre .4) in
-    omega (arith, c .kid-of .ensures)
+    omega (arith, c .kid-of .ensures, s .pre .4)
+
+within-at : (c : tie.After-kid-of) → c .kid-of .result < length (start (c .before) .args .at .now)
+within-at c =
+    let s = start (c .before) in
+    omega (arith, earlier c, at-rows (s .args .words .now) (s .args .counts .now) (s .args .used) (s .pre .2))
+
+within-exchanged : (c : tie.After-kid-of) → c .kid-of .result < length (start (c .before) .args .exchanged .now)
+within-exchanged c =
+    let s = start (c .before) in
+    omega (arith, earlier c, exchanged-rows (s .args .words .now) (s .args .counts .now) (s .args .used) (s .pre .2))
 
 cast-rep : tie.Need-cast-rep
 cast-rep c = search needs
@@ -37,12 +46,12 @@ cast-rep c = search needs
 mul-rep : tie.Need-mul-rep
 mul-rep c = search needs
 
-element-copy-out-rep : tie.Need-element-copy-out-rep
-element-copy-out-rep c = search needs
+shared-slice-read-rep : tie.Need-shared-slice-read-rep
+shared-slice-read-rep c = search needs
 
 returns : tie.Need-returns
 returns c =
-    let s = c .before .before .before .before .before in
+    let s = c .before .before .before .before .before .before .before .before .before .before .before .before in
     let x = storeOf (s .args .words .now) (s .args .counts .now) (s .args .used) in
     let t = turn-itself (take (s .args .states) (s .args .s .now)) (s .args .reps .now) x (s .pre .0 .good) (s .args .row .0) (sym (s .pre .5) ∙ c .before .before .if1 .taken) in
     (t .spot-is, t .row-is)
@@ -61,14 +70,14 @@ cast-kid c = search needs
 mul-spot : tie.Need-mul-spot
 mul-spot c = search needs
 
-element-copy-out-spot : tie.Need-element-copy-out-spot
-element-copy-out-spot c = earlier c
+shared-slice-read-spot : tie.Need-shared-slice-read-spot
+shared-slice-read-spot c = within-at (c .before)
 
 mul-inner : tie.Need-mul-inner
 mul-inner c = search needs
 
-element-copy-out-inner : tie.Need-element-copy-out-inner
-element-copy-out-inner c = earlier (c .before)
+shared-slice-read-inner : tie.Need-shared-slice-read-inner
+shared-slice-read-inner c = within-exchanged (c .before .before)
 
 with-child-requires : tie.Need-with-child-requires
 with-child-requires c κs =
@@ -92,14 +101,14 @@ turn-of-spec =
     (tie.spec
     cast-rep
     mul-rep
-    element-copy-out-rep
+    shared-slice-read-rep
     returns
     sub-place
     kid-of-requires
     cast-kid
     mul-spot
-    element-copy-out-spot
+    shared-slice-read-spot
     mul-inner
-    element-copy-out-inner
+    shared-slice-read-inner
     with-child-requires
     returns-2)

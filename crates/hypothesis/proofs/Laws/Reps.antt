@@ -7,8 +7,9 @@ use mathlib.Core.List.{List, [], _∷_, _++_}
 use Prim.Native.Nat.{ℕ, zero, suc, _+_, _≤_, _<_}
 use native.Mathlib.Numerals.{add-one}
 use native.Mathlib.Omega.{arith}
-use borrow.Author.Tests.{eq-eqb, ne-eqb}
-use lib.ListN.{length, getD, take, set, length-set, List·getD-eq-default, length-take}
+use lib.Dec.{ltb}
+use borrow.Author.Tests.{eq-eqb, ne-eqb, ltb-true, ltb-false}
+use lib.ListN.{length, getD, take, set, List·getD-eq-default, length-take}
 use lib.Seq.{take-suc, take-all, getD-take, getD-set-same, getD-set-other}
 use Rattle.model.specs.Limits.{mostRows}
 use Rattle.model.specs.Base.{In, among, placeOf, noRepeats, Distinct, distinct-nil, distinct-cons}
@@ -46,19 +47,26 @@ module _ (t : List ℕ) (k : ℕ) (within : k < length t) where
           either (inl h) = in-not i (take k t) e h
           either (inr p) = n p
 
+-- ALL 0: the first i entries are, and none stands beyond
+pub all-zero : (reps : List ℕ) (i : ℕ) → length reps ≤ i → ((j : ℕ) → j < i → getD reps j 0 ≡ 0) → (j : ℕ) → getD reps j 0 ≡ 0
+all-zero reps i l z j = go (ltb j i) refl
+  where
+    go : (b : Bool) → ltb j i ≡ b → getD reps j 0 ≡ 0
+    go true e = z j (ltb-true j i e)
+    go false e = List·getD-eq-default reps 0 (omega (arith, ltb-false j i e))
+
 -- AFTER THE FIRST k transitions
 pub record RepsTo (table : List ℕ) (m : ℕ) (places s t reps : List ℕ) (k : ℕ) : Type 0 where
-  pub long : length reps ≡ mostRows
   pub right : (i : ℕ) → i < mostRows → getD reps i 0 ≡ cond (among i (take k t)) (getD s (stateAt table m places (placeOf i 0 t)) 0) 0
 
 module _ (table : List ℕ) (m : ℕ) (ps s t : List ℕ) where
-  pub reps-start : (reps : List ℕ) → length reps ≡ mostRows → ((i : ℕ) → i < mostRows → getD reps i 0 ≡ 0) → RepsTo table m ps s t reps 0
+  pub reps-start : (reps : List ℕ) → ((i : ℕ) → getD reps i 0 ≡ 0) → RepsTo table m ps s t reps 0
   unfolding among
-  reps-start reps l z = record { long = l; right = z }
+  reps-start reps z = record { right = λ i l. z i }
 
   pub reps-end : {reps : List ℕ} {k : ℕ} → RepsTo table m ps s t reps k → length t ≤ k → RepsBy table m ps s t reps
   reps-end {reps} {k} h l =
-      record { long = h .long; right = λ i b. h .right i b ∙ ap (λ (ts : List ℕ). cond (among i ts) (getD s (stateAt table m ps (placeOf i 0 t)) 0) 0) (take-all k t l) }
+      record { right = λ i b. h .right i b ∙ ap (λ (ts : List ℕ). cond (among i ts) (getD s (stateAt table m ps (placeOf i 0 t)) 0) 0) (take-all k t l) }
 
   module _ {reps : List ℕ} {k : ℕ} (h : RepsTo table m ps s t reps k) (within : k < length t) (one : noRepeats t ≡ true) where
     abbrev i : ℕ
@@ -77,11 +85,9 @@ module _ (table : List ℕ) (m : ℕ) (ps s t : List ℕ) where
     other-right : (j : ℕ) → (j ≡ i → ⊥) → j < mostRows → getD reps j 0 ≡ cond (among j (take (k + 1) t)) (getD s (stateAt table m ps (placeOf j 0 t)) 0) 0
     other-right j n l = h .right j l ∙ ap (λ (b : Bool). cond b (getD s (stateAt table m ps (placeOf j 0 t)) 0) 0) (sym (among-other t k within j n))
 
-    pub reps-noted : (row v : ℕ) → row ≡ getD t k 0 → v ≡ getD s (stateAt table m ps k) 0 → row < mostRows → RepsTo table m ps s t (set reps row v) (k + 1)
+    pub reps-noted : (row v : ℕ) → row ≡ getD t k 0 → v ≡ getD s (stateAt table m ps k) 0 → row < length reps → RepsTo table m ps s t (set reps row v) (k + 1)
     reps-noted row v p e l =
-        let n = h .long in
         record {
-          long = simp length-set (h .long);
           right = λ j b. by-equal j row
               (λ q. ap (λ (o : ℕ). getD (set reps row v) o 0) q ∙ getD-set-same reps row v 0 (omega arith) ∙ e ∙ sym last-right ∙
               ap (λ (o : ℕ). cond (among o (take (k + 1) t)) (getD s (stateAt table m ps (placeOf o 0 t)) 0) 0) (sym (q ∙ p)))
@@ -91,7 +97,6 @@ module _ (table : List ℕ) (m : ℕ) (ps s t : List ℕ) where
     pub reps-passed : getD s (stateAt table m ps k) 0 ≡ 0 → RepsTo table m ps s t reps (k + 1)
     reps-passed z =
         record {
-          long = h .long;
           right = λ j b. by-equal j i
               (λ q. ap (λ (o : ℕ). getD reps o 0) q ∙ none-yet b q ∙ sym (last-right ∙ z) ∙
               ap (λ (o : ℕ). cond (among o (take (k + 1) t)) (getD s (stateAt table m ps (placeOf o 0 t)) 0) 0) (sym q))

@@ -28,7 +28,7 @@ use Rattle.hypothesis.proofs.Laws.Lookup.{placeIn, stateBy, Rep, state-
 
 -- THE ROWS BELOW n have the representatives of their states in `led`
 pub record LedBelow (x : Store) (s t reps led : List ℕ) (n : ℕ) : Type 0 where
-  pub long : length led ≡ mostRows
+  pub long : used x ≤ length led
   pub right : (i : ℕ) → i < n → getD led i 0 ≡ repOf s (rowState (rulesBy x s t reps) x i)
 
 -- CHILDREN'S REPRESENTATIVES, where each row has its own in `led`, and the first k of them as child places
@@ -120,7 +120,7 @@ module _ {x : Store} {s t reps : List ℕ} (g : Good x) (d : Ruled x s t reps) w
   first-rep = ap (repOf s) (unfold-state 0 (g .start) ∙ no-rule (statesOf (map st (kidsAt x 0))))
 
   -- one row after the other
-  pub led-more : {led : List ℕ} {i : ℕ} → LedBelow x s t reps led i → i < mostRows → (r : ℕ) → r ≡ rep i → LedBelow x s t reps (set led i r) (i + 1)
+  pub led-more : {led : List ℕ} {i : ℕ} → LedBelow x s t reps led i → i < used x → (r : ℕ) → r ≡ rep i → LedBelow x s t reps (set led i r) (i + 1)
   led-more {led} {i} h l r e =
       let n = h .long in
       record {
@@ -128,10 +128,10 @@ module _ {x : Store} {s t reps : List ℕ} (g : Good x) (d : Ruled x s t reps) w
         right = λ j b. by-equal j i (λ q. rw (q, getD-set-same led i r 0 (omega arith)) e) (λ q. getD-set-other led i j r 0 q ∙ h .right j (omega arith));
       }
 
-  pub led-start : (led : List ℕ) → length led ≡ mostRows → LedBelow x s t reps (set led 0 0) 1
+  pub led-start : (led : List ℕ) → used x ≤ length led → LedBelow x s t reps (set led 0 0) 1
   led-start led l =
       let none-yet : LedBelow x s t reps led 0 = record { long = l; right = λ j b. absurd (omega arith) } in
-      led-more none-yet (omega arith) 0 (sym first-rep)
+      led-more none-yet (g .start) 0 (sym first-rep)
 
   -- CHILDREN: one without a state leaves the row without one; with a state each, the rule over their representatives decides
   child-none : (ks : List ℕ) (k : ℕ) → k < length ks → rep (getD ks k 0) ≡ 0 → statesOf (map st ks) ≡ none

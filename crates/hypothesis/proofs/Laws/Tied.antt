@@ -51,7 +51,6 @@ covers-held h l within =
 
 -- REPRESENTATIVES BY THE STORE'S STATES
 pub record RepsOf (r : ℕ → List ℕ) (s t reps : List ℕ) : Type 0 where
-  pub long : length reps ≡ mostRows
   pub right : (i : ℕ) → i < mostRows → In i t → getD reps i 0 ≡ getD s (stateFrom r (r i) 0 s) 0
   pub others : (i : ℕ) → i < mostRows → (In i t → ⊥) → getD reps i 0 ≡ 0
 
@@ -83,7 +82,6 @@ module _ {x : Store} {w t : List ℕ} {n : ℕ} {c : List ℕ} {m : ℕ} {tb : L
     pub reps-tied : RepsOf (answersOf x w (take m c)) (take q s) (take n t) reps
     reps-tied =
         record {
-          long = by .long;
           right = λ i u a. by .right i u ∙ ap (noted i) (in-member i a) ∙ ap (λ (p : ℕ). getD (take q s) p 0) (transition-tied i a);
           others = λ i u a. by .right i u ∙ ap (noted i) (not-in i (take n t) a);
         }
@@ -93,10 +91,10 @@ module _ {x : Store} {r : ℕ → List ℕ} {s t reps : List ℕ} (c : Covers x 
   rep-right : (i : ℕ) → In i t → getD reps i 0 ≡ getD s (stateFrom r (r i) 0 s) 0
   rep-right i h = p .right i (omega (arith, c .row i h .1)) h
 
-  pub ruled-tied : Ruled x s t reps
-  ruled-tied =
+  pub ruled-tied : x .room ≤ length reps → Ruled x s t reps
+  ruled-tied l =
       record {
-        long = p .long;
+        long = l;
         row = c .row;
         kids = c .kids;
         among = c .among;

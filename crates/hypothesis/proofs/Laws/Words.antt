@@ -17,6 +17,7 @@ use Rattle.bank.proofs.Laws.Words.{used-of, symbol-in, kids-in}
 use Rattle.bank.proofs.Laws.Finding.{found-in}
 use Rattle.bank.proofs.Laws.Chains.{by-equal}
 use Rattle.bank.proofs.Laws.Kids.{place-at}
+use Rattle.hypothesis.specs.Rules.{Ruled}
 
 pub find-used : {mix ws : List ℕ} {n : ℕ} {head next : List ℕ} → Finding mix ws n head next → (a : ℕ) (ps : List ℕ) → findIn ws n a ps < n
 find-used {ws = ws} {n = n} f a ps = by-equal (findIn ws n a ps) 0 (λ e. omega (arith, f .some)) (λ e. found-in ws n (f .room) a ps e .0)
@@ -24,6 +25,9 @@ find-used {ws = ws} {n = n} f a ps = by-equal (findIn ws n a ps) 0 (λ e. omega 
 module _ {ws ns : List ℕ} {n : ℕ} {hs he ne mix : List ℕ} (r : Ready ws ns n hs he ne mix) where
   pub few-rows : used (storeOf ws ns n) ≤ mostRows
   few-rows = omega (arith, used-of ws ns n, r .finding .few)
+
+  pub reps-long : {s t reps : List ℕ} → Ruled (storeOf ws ns n) s t reps → n ≤ length reps
+  reps-long d = omega (arith, used-of ws ns n, r .good .fits, d .long)
 
   module _ (i : ℕ) (h : i < n) where
     pub row-used : i < used (storeOf ws ns n)

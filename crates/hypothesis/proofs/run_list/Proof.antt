@@ -37,7 +37,7 @@ abbrev Turn : Type 0
 Turn = lts.In-loop (top-places-reads.Asked, top-places-reads.Learnt, target-of-reads.Asked, target-of-reads.Learnt) reads.Pre reads.Post Inv-loop μ-loop
 
 abbrev start : Turn → Start
-start t = t .before .before .before .before .before
+start t = t .before .before .before .before .before .before .before .before .before
 
 abbrev s : Start → List ℕ
 s c = take (c .args .states) (c .args .s .now)
@@ -58,17 +58,17 @@ turn c = c .before .before .before .before .before
 loop-holds : tie.Need-loop-holds Inv-loop μ-loop
 unfolding backwards
 loop-holds c =
-    let b : Start = c .before .before .before in
+    let b : Start = c .before .before .before .before .before .before .before in
     (R.running-start (b .args .counts .now) (s b) (b .args .symbols .now) _ (b .pre .2) refl (b .pre .3), refl)
 
 shared-slice-read-symbol : tie.Need-shared-slice-read-symbol Inv-loop μ-loop
 shared-slice-read-symbol c = search needs
 
 cast-symbol : tie.Need-cast-symbol Inv-loop μ-loop
-cast-symbol c = omega (arith, c .shared-slice-known4 .given (c .before .before .loop .at))
+cast-symbol c = omega (arith, c .shared-slice-known8 .given (c .before .before .loop .at))
 
 cast-count : tie.Need-cast-count Inv-loop μ-loop
-cast-count c = omega (arith, c .shared-slice-known4 .given (c .before .before .loop .at))
+cast-count c = omega (arith, c .shared-slice-known8 .given (c .before .before .loop .at))
 
 shared-slice-read-count : tie.Need-shared-slice-read-count Inv-loop μ-loop
 shared-slice-read-count c = R.known (running (c .before .before)) (c .before .before .loop-test .taken)
@@ -76,7 +76,7 @@ shared-slice-read-count c = R.known (running (c .before .before)) (c .before .be
 cast-count-2 : tie.Need-cast-count-2 Inv-loop μ-loop
 cast-count-2 c =
     let t : Turn = c .before .before in
-    omega (arith, c .shared-slice-known5 .given (getD (start t .args .symbols .now) (t .before .loop .at) 0))
+    omega (arith, c .shared-slice-known9 .given (getD (start t .args .symbols .now) (t .before .loop .at) 0))
 
 top-places-requires : tie.Need-top-places-requires Inv-loop μ-loop
 top-places-requires c κs =
@@ -85,7 +85,7 @@ top-places-requires c κs =
     (r .long, start t .pre .0 .good .wide (getD (start t .args .symbols .now) (t .before .loop .at) 0), R.enough r (t .loop-test .taken), omega (arith, r .low, r .within, r .few))
 
 target-of-requires : tie.Need-target-of-requires Inv-loop μ-loop
-target-of-requires c κs = let b : Start = start (c .before .before .before .before) in (b .pre .0, b .pre .1 .long)
+target-of-requires c κs = let b : Start = start (c .before .before .before .before) in (b .pre .0, W.reps-long (b .pre .0) (b .pre .1))
 
 returns : tie.Need-returns Inv-loop μ-loop
 returns c =
@@ -140,7 +140,7 @@ array-read-t31 c = omega arith
 
 returns-2 : tie.Need-returns-2 Inv-loop μ-loop
 returns-2 c =
-    let b : Start = c .before .before .before .before .before in
+    let b : Start = c .before .before .before .before .before .before .before .before .before in
     sym (R.run-ends (c .before .loop .inv .0) (c .loop-test .left) (hypothesis (b .args .words .now) (b .args .counts .now) (b .args .used) (b .args .s .now) (b .args .states)
     (b .args .t .now) (b .args .rules) (b .args .reps .now))) ∙ ap (ledBy (s b)) (c .before .loop .inv .1)
 

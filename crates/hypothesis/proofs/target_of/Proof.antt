@@ -18,15 +18,22 @@ cast-t12 c = search needs
 mul-t13 : tie.Need-mul-t13
 mul-t13 c = search needs
 
-element-copy-out-t16 : tie.Need-element-copy-out-t16
-element-copy-out-t16 c =
-    let s = c .before .before .before .before in
-    omega (arith, c .before .find .ensures, find-used (s .pre .0 .finding) (s .args .symbol) (s .args .places), s .pre .0 .finding .few)
+shared-slice-read-t15 : tie.Need-shared-slice-read-t15
+shared-slice-read-t15 c =
+    let s = c .before .before .before .before .before .before .before .before .before in
+    omega (arith, c .before .before .find .ensures, find-used (s .pre .0 .finding) (s .args .symbol) (s .args .places))
 
 returns : tie.Need-returns
 returns c =
-    let s = c .before .before .before .before .before in
+    let s = c .before .before .before .before .before .before .before .before .before in
     ap (λ (i : ℕ). getD (s .args .reps .now) i 0) (c .before .before .find .ensures)
 
 pub target-of-spec : {M : Type 1} → statement M
-target-of-spec = tie.close (tie.spec find-requires cast-t12 mul-t13 element-copy-out-t16 returns)
+target-of-spec =
+    tie.close
+    (tie.spec
+    find-requires
+    cast-t12
+    mul-t13
+    shared-slice-read-t15
+    returns)

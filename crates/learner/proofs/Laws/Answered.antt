@@ -77,11 +77,11 @@ known-stays : (w : List ℕ) (i v : ℕ) → answerAt w i ≡ 0 → (n : ℕ) �
 known-stays w i v z n d = getD-set-other w i n v 0 (λ p. d (ap (answerAt w) p ∙ z))
 
 pub handling-answered : (x : Tables) → Whole x → (h : ℕ) → HandFits (x .store) (x .answers) (x .s) (x .t) (x .c) h → Open x → (v : ℕ) → (v ≡ 0 → ⊥) → v ≤ 2 → used (x .store) ≤ mostRows →
-    (reps : List ℕ) → RepsOf (answersOf (x .store) (x .answers) (x .c)) (x .s) (x .t) reps → Handling (x .store) (set (x .answers) (x .asked) v) (x .s) (x .t) (x .c) reps
-handling-answered x f h fit o v some small few reps p =
+    (reps : List ℕ) → RepsOf (answersOf (x .store) (x .answers) (x .c)) (x .s) (x .t) reps → x .store .room ≤ length reps → Handling (x .store) (set (x .answers) (x .asked) v) (x .s) (x .t) (x .c) reps
+handling-answered x f h fit o v some small few reps p long =
     record {
       full = full-of (tables (x .store) (set (x .answers) (x .asked) v) (x .s) (x .t) (x .c) h 0 false) (answered-whole x f h fit (x .asked) (o .0) (o .1) v some small);
-      long = p .long;
+      long = long;
       of-t = λ u a. p .right u (omega (arith, f .shaped .row u a .1)) a ∙ ap (λ (q : ℕ). getD (x .s) q 0) (sym (state u a));
       others = p .others;
     }
@@ -206,7 +206,7 @@ module _ (ws : List ℕ) (l : Lists) (m : ℕ) (fit : listsFit l ≡ true) (soun
               room = room arrays (p .0);
               handling =
                   subst (λ (y : Tables). Handling (y .store) (y .answers) (y .s) (y .t) (y .c) reps) (sym tables-answered)
-                  (handling-answered X (p .0) (l .hand) (p .1) o (m + 1) (mark-some m) (mark-small m mark) few-rows reps its-reps);
+                  (handling-answered X (p .0) (l .hand) (p .1) o (m + 1) (mark-some m) (mark-small m mark) few-rows reps its-reps (omega (arith, w .reps-long)));
             }
 
   -- the step goes as model's laws say

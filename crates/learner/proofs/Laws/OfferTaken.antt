@@ -93,12 +93,12 @@ module _ (x : Tables) (f : Whole x) (xs : List ℕ) (m : ℕ) (o : Offering x xs
       let a = put .is-record .some in
       rw (held-advance taken (λ p. omega (arith, p))) (by-hand w (offer-ok x f xs (o .parsed) (m + 1) (mark-some m) (mark-small m (o .mark)) (o .agrees) (o .other-verdict) j y e d w))
 
-  pub handling-offered : {reps : List ℕ} → RepsOf (answersOf (x .store) (x .answers) (x .c)) (x .s) (x .t) reps → used (x .store) ≤ mostRows →
+  pub handling-offered : {reps : List ℕ} → RepsOf (answersOf (x .store) (x .answers) (x .c)) (x .s) (x .t) reps → used (x .store) ≤ mostRows → y .room ≤ length reps →
       Handling y (set (blanked (x .store) y (x .answers)) j (m + 1)) (x .s) (x .t) (x .c) reps
-  handling-offered p small =
+  handling-offered p small long =
       record {
         full = full-of taken taken-whole;
-        long = p .long;
+        long = long;
         of-t = λ i a. p .right i (omega (arith, f .core .held .row i a .within)) a ∙ sym (rep-same i a);
         others = p .others;
       }

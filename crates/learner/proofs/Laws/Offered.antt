@@ -233,7 +233,7 @@ module _ {ws : List ℕ} {l : Lists} {xs : List ℕ} {m : ℕ} {holes head next 
             room = subst (λ (k : Lists). k .contexts < 289) (sym up) (few-contexts few);
             handling =
                 subst (λ (z : Tables). Handling (z .store) (z .answers) (z .s) (z .t) (z .c) reps) (sym back)
-                (handling-offered X whole xs m brought j y (q .is) reps-are (omega (arith, used-of ws (countsIn l) (l .used), t .working .ready .finding .few)));
+                (handling-offered X whole xs m brought j y (q .is) reps-are (omega (arith, used-of ws (countsIn l) (l .used), t .working .ready .finding .few)) (omega (arith, q .ext .room, t .working .reps-long)));
           }
 
       pub no-question : l' .asked ≡ 0

@@ -129,7 +129,7 @@ module _ (s : List ℕ) (q : ℕ) (t : List ℕ) (n : ℕ) (a : q ≤ length s) 
       }
 
 -- all of them found
-pub places-found : {s : List ℕ} {q : ℕ} {t : List ℕ} {n : ℕ} {places : List ℕ} {i : ℕ} → q ≤ 32 → n ≤ 256 → Finding s q t n places i → q ≤ i → Placing places q × Placed t n s q places
+pub places-found : {s : List ℕ} {q : ℕ} {t : List ℕ} {n : ℕ} {places : List ℕ} {i : ℕ} → q ≤ 32 → n ≤ 256 → Finding s q t n places i → q ≤ i → Placing places q n × Placed t n s q places
 places-found few b y l = (
   record { long = y .long; few = few; within = λ j h. omega (arith, y .within j (omega arith)) },
   λ j h. (y .within j (omega arith), y .names j (omega arith)),

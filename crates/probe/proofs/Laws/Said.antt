@@ -1,5 +1,4 @@
 -- What is said of rows added: refused where a test fails, and where all hold what adding came to.
--- Along the marks of holes a context is filled along its own frames, which fit.
 use mathlib.Core.Path.{_≡_, refl, sym, ap, subst, _∙_}
 use mathlib.Core.Bool.{Bool, true, false, _&&_, cond}
 use mathlib.Core.List.{List, []}
@@ -9,13 +8,10 @@ use lib.Dec.{ltb}
 use borrow.Author.Tests.{lt-ltb, le-ltb, eq-eqb, ne-eqb}
 use Rattle.model.specs.Store.{Built, full, built, Frame, used, hasHole, fill, framesOf}
 use Rattle.model.specs.Terms.{recordFault, storeFrom}
-use Rattle.model.specs.Facts.{Fits}
 use Rattle.model.specs.Entry.{storeOf}
-use Rattle.model.proofs.Laws.Down.{context-fits}
 use Rattle.bank.specs.Ready.{Ready, pathOf}
 use Rattle.bank.specs.declared.add.Grown.{Grown}
 use Rattle.bank.proofs.Laws.Words.{used-of}
-use Rattle.bank.proofs.Laws.Ways.{path-frames}
 use Rattle.bank.proofs.Laws.Coming.{Comes, comes-by}
 use Rattle.probe.specs.declared.Reply.{Reply}
 use Rattle.probe.specs.Probed.{isPassed, said, saidOf, Said, SaidIf, isFillable, FilledReady, Filled, isListed, StoredReady, Stored}
@@ -69,23 +65,13 @@ module _ (ws ns : List ℕ) (n c i : ℕ) where
           said-not ws n (fill (storeOf ws ns n) (framesOf (storeOf ws ns n) c) i) r ws (isFillable (storeOf ws ns n) c i)
           (context ∙ le-ltb i (used (storeOf ws ns n)) (omega arith)) p refl
 
-      module _ {hs he ne m : List ℕ} (o : Ready ws ns n hs he ne m) where
-        low : c < used (storeOf ws ns n)
-        low = let u = used-of ws ns n in omega arith
-
-        frames : pathOf hs (storeOf ws ns n) c ≡ framesOf (storeOf ws ns n) c
-        frames = path-frames o c (let u = used-of ws ns n in omega arith)
-
-        pub frames-fit : Fits (storeOf ws ns n) (pathOf hs (storeOf ws ns n) c)
-        frames-fit = rw frames (context-fits (storeOf ws ns n) (o .good) c low h)
-
-        pub filled : i < n → {g : Grown} {r : Reply} {ws' hs' he' ne' : List ℕ} → r ≡ saidOf g →
-            Comes ws ns n (fill (storeOf ws ns n) (pathOf hs (storeOf ws ns n) c) i) g ws' hs' he' ne' m → FilledReady ws ns n c i r ws'
-        filled q {r = r} {ws' = ws'} p k =
-            let u = used-of ws ns n in
-            said-so ws n (fill (storeOf ws ns n) (framesOf (storeOf ws ns n) c) i) r ws' (isFillable (storeOf ws ns n) c i)
-            (context ∙ lt-ltb i (used (storeOf ws ns n)) (omega arith))
-            (comes-said p (comes-by (ap (λ (fs : List Frame). fill (storeOf ws ns n) fs i) (sym frames)) k))
+      pub filled : i < n → {g : Grown} {r : Reply} {ws' hs' he' ne' m : List ℕ} → r ≡ saidOf g →
+          Comes ws ns n (fill (storeOf ws ns n) (framesOf (storeOf ws ns n) c) i) g ws' hs' he' ne' m → FilledReady ws ns n c i r ws'
+      filled q {r = r} {ws' = ws'} p k =
+          let u = used-of ws ns n in
+          said-so ws n (fill (storeOf ws ns n) (framesOf (storeOf ws ns n) c) i) r ws' (isFillable (storeOf ws ns n) c i)
+          (context ∙ lt-ltb i (used (storeOf ws ns n)) (omega arith))
+          (comes-said p k)
 
 module _ (ws ns : List ℕ) (n c i : ℕ) (r : Reply) where
   pub filled-not : isPassed ws ns n ≡ false → r ≡ said 2 0 0 → Filled ws ns n c i r ws

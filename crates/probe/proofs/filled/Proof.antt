@@ -6,13 +6,13 @@ use borrow.Author.Needs.{needs}
 use Rattle.model.specs.Store.{hasHole}
 use Rattle.model.specs.Entry.{storeOf}
 use Rattle.bank.proofs.Laws.T1.{hole-ready}
-use Rattle.probe.proofs.Laws.Said.{past-context, no-hole, past-row, frames-fit, filled as filled-law}
+use Rattle.probe.proofs.Laws.Said.{past-context, no-hole, past-row, filled as filled-law}
 use Rattle.probe.proofs.filled.Statement.{statement}
 use Rattle.probe.proofs.filled.Tie as tie
 
 -- past each test
 abbrev start : tie.Else1 → tie.Start
-start c = c .before .before .before
+start c = c .before .before .before .before .before .before
 
 abbrev tested : tie.After-has-hole → tie.Else1
 tested c = c .before .before
@@ -30,7 +30,7 @@ refused-requires c κs = search needs
 
 returns : tie.Need-returns
 returns c =
-    let s = c .before .before .before .before in
+    let s = c .before .before .before .before .before .before .before in
     past-context (s .args .words .now) (s .args .counts .now) (s .args .used) (s .args .context) (s .args .with) (c .before .if1 .taken) (c .refused .ensures)
 
 has-hole-requires : tie.Need-has-hole-requires
@@ -38,6 +38,9 @@ has-hole-requires c κs = search needs
 
 refused-requires-2 : tie.Need-refused-requires-2
 refused-requires-2 c κs = search needs
+
+same-length : tie.Need-same-length
+same-length c = search needs
 
 returns-2 : tie.Need-returns-2
 returns-2 c =
@@ -48,37 +51,44 @@ returns-2 c =
 refused-requires-3 : tie.Need-refused-requires-3
 refused-requires-3 c κs = search needs
 
+same-length-2 : tie.Need-same-length-2
+same-length-2 c = search needs
+
 returns-3 : tie.Need-returns-3
 returns-3 c =
     let d = c .before .before in
     let s = start (tested (d .before)) in
     past-row (s .args .words .now) (s .args .counts .now) (s .args .used) (s .args .context) (s .args .with) (tested (d .before) .if1 .left) (holed d) (c .before .if3 .taken) (c .refused3 .ensures)
 
-fill-requires : tie.Need-fill-requires
-fill-requires c κs =
-    let e = c .before .before .before .before .before .before in
+fill-context-requires : tie.Need-fill-context-requires
+fill-context-requires c κs =
+    let e = c .before .before .before .before in
     let d = e .before in
-    let s = start (tested (d .before)) in (
-      s .pre,
-      s .pre .holes-long,
-      tested (d .before) .if1 .left,
-      e .if3 .left,
-      frames-fit (s .args .words .now) (s .args .counts .now) (s .args .used) (s .args .context) (s .args .with) (tested (d .before) .if1 .left) (holed d) (s .pre),
-    )
+    let s = start (tested (d .before)) in
+    (s .pre, tested (d .before) .if1 .left, holed d, e .if3 .left)
 
 reply-of-requires : tie.Need-reply-of-requires
 reply-of-requires c κs = search needs
 
-same-length : tie.Need-same-length
-same-length c = search needs
+same-length-3 : tie.Need-same-length-3
+same-length-3 c = search needs
+
+same-length-4 : tie.Need-same-length-4
+same-length-4 c = search needs
+
+same-length-5 : tie.Need-same-length-5
+same-length-5 c = search needs
+
+same-length-6 : tie.Need-same-length-6
+same-length-6 c = search needs
 
 returns-4 : tie.Need-returns-4
 returns-4 c =
-    let f = c .before .before .before in
-    let e = f .before .before .before .before .before .before .before in
+    let f = c .before .before .before .before .before .before .before .before .before in
+    let e = c .before .before .before .before .before .before .before .before .before .before .before .before .before .before in
     let d = e .before in
     let s = start (tested (d .before)) in
-    filled-law (s .args .words .now) (s .args .counts .now) (s .args .used) (s .args .context) (s .args .with) (tested (d .before) .if1 .left) (holed d) (s .pre) (e .if3 .left) (c .reply-of .ensures) (record { came = f .fill .ensures })
+    filled-law (s .args .words .now) (s .args .counts .now) (s .args .used) (s .args .context) (s .args .with) (tested (d .before) .if1 .left) (holed d) (e .if3 .left) (c .reply-of .ensures) (record { came = f .fill-context .ensures })
 
 pub filled-spec : {M : Type 1} → statement M
 filled-spec =
@@ -88,10 +98,15 @@ filled-spec =
     returns
     has-hole-requires
     refused-requires-2
+    same-length
     returns-2
     refused-requires-3
+    same-length-2
     returns-3
-    fill-requires
+    fill-context-requires
     reply-of-requires
-    same-length
+    same-length-3
+    same-length-4
+    same-length-5
+    same-length-6
     returns-4)

@@ -14,16 +14,25 @@ use Rattle.probe.proofs.probe_pass.Tie as tie
 abbrev start : tie.After-passes → tie.Start
 start c = c .before .before .before .before .before .before .before .before
 
-passed : (c : tie.Else1) → isPassed (start (c .before) .args .words .now) (start (c .before) .args .counts .now) (start (c .before) .args .used) ≡ true
-passed c = sym (c .before .passes .ensures .0) ∙ not-false _ (c .if1 .left)
+passed : (c : tie.Else1) → isPassed (start (c .before .before .before .before) .args .words .now) (start (c .before .before .before .before) .args .counts .now) (start (c .before .before .before .before) .args .used) ≡ true
+passed c = sym (c .before .before .before .before .passes .ensures .0) ∙ not-false _ (c .if1 .left)
 
 ready : (c : tie.Else1) →
-    Ready (start (c .before) .args .words .now) (start (c .before) .args .counts .now) (start (c .before) .args .used) (c .before .passes .last .1 .1 .1 .0) (c .before .passes .last .1 .1 .1 .1 .0)
-    (c .before .passes .last .1 .1 .1 .1 .1 .0) (c .before .passes .last .1 .1 .1 .1 .1 .1 .0)
-ready c = c .before .passes .ensures .1 (not-false _ (c .if1 .left))
+    Ready (start (c .before .before .before .before) .args .words .now) (start (c .before .before .before .before) .args .counts .now) (start (c .before .before .before .before) .args .used) (c .before .before .before .before .passes .last .1 .1 .1 .0) (c .before .before .before .before .passes .last .1 .1 .1 .1 .0)
+    (c .before .before .before .before .passes .last .1 .1 .1 .1 .1 .0) (c .before .before .before .before .passes .last .1 .1 .1 .1 .1 .1 .0)
+ready c = c .before .before .before .before .passes .ensures .1 (not-false _ (c .if1 .left))
 
-failed : (c : tie.Then1) → isPassed (start (c .before) .args .words .now) (start (c .before) .args .counts .now) (start (c .before) .args .used) ≡ false
-failed c = sym (c .before .passes .ensures .0) ∙ not-true _ (c .if1 .taken)
+failed : (c : tie.Then1) → isPassed (start (c .before .before .before .before) .args .words .now) (start (c .before .before .before .before) .args .counts .now) (start (c .before .before .before .before) .args .used) ≡ false
+failed c = sym (c .before .before .before .before .passes .ensures .0) ∙ not-true _ (c .if1 .taken)
+
+slice-aggregate-passes : tie.Need-slice-aggregate-passes
+slice-aggregate-passes c = search needs
+
+slice-aggregate-passes-2 : tie.Need-slice-aggregate-passes-2
+slice-aggregate-passes-2 c = search needs
+
+slice-aggregate-passes-3 : tie.Need-slice-aggregate-passes-3
+slice-aggregate-passes-3 c = search needs
 
 passes-requires : tie.Need-passes-requires
 passes-requires c κs = search needs
@@ -34,11 +43,14 @@ returns c = (sym (failed c), λ f. absurd (true≢false (sym f)))
 returns-2 : tie.Need-returns-2
 returns-2 c = (sym (passed (c .before)), λ f l. absurd (omega (arith, c .if2 .taken, l)))
 
+slice-aggregate-show : tie.Need-slice-aggregate-show
+slice-aggregate-show c = search needs
+
 show-requires : tie.Need-show-requires
 show-requires c κs =
     let e = c .before .before in
     let r = ready (e .before) in
-    (r .holes-long, r .finding .few, e .if2 .left)
+    (omega (arith, r .holes-long, r .finding .room), e .if2 .left)
 
 same-length : tie.Need-same-length
 same-length c = search needs
@@ -51,4 +63,15 @@ returns-3 c =
 
 pub probe-pass-spec : {M : Type 1} → statement M
 probe-pass-spec =
-    tie.close (tie.spec passes-requires returns returns-2 show-requires same-length returns-3)
+    tie.close
+    (tie.spec
+    slice-aggregate-passes
+    slice-aggregate-passes-2
+    slice-aggregate-passes-3
+    passes-requires
+    returns
+    returns-2
+    slice-aggregate-show
+    show-requires
+    same-length
+    returns-3)

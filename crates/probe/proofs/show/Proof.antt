@@ -17,8 +17,8 @@ abbrev μ-loop : tie.MeasureT-loop
 loop-holds : tie.Need-loop-holds Inv-loop μ-loop
 loop-holds c = (omega arith, refl, shown-none (c .args .holes .now) (c .args .marks .now))
 
-element-copy-out-marks : tie.Need-element-copy-out-marks Inv-loop μ-loop
-element-copy-out-marks c = omega arith
+shared-slice-read-marks : tie.Need-shared-slice-read-marks Inv-loop μ-loop
+shared-slice-read-marks c = omega arith
 
 slice-write-marks : tie.Need-slice-write-marks Inv-loop μ-loop
 slice-write-marks c = omega arith
@@ -51,7 +51,7 @@ show-spec =
     Inv-loop
     μ-loop
     loop-holds
-    element-copy-out-marks
+    shared-slice-read-marks
     slice-write-marks
     add-i
     loop-less

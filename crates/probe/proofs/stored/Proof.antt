@@ -8,7 +8,7 @@ use Rattle.probe.proofs.stored.Statement.{statement}
 use Rattle.probe.proofs.stored.Tie as tie
 
 abbrev start : tie.After-record-fault → tie.Start
-start c = c .before .before .before .before
+start c = c .before .before .before .before .before .before .before
 
 -- past the test
 faultless : (c : tie.Else1) → recordFault (start (c .before) .args .counts .now) (start (c .before) .args .symbols .now) ≡ 0
@@ -39,9 +39,18 @@ reply-of-requires c κs = search needs
 same-length : tie.Need-same-length
 same-length c = search needs
 
+same-length-2 : tie.Need-same-length-2
+same-length-2 c = search needs
+
+same-length-3 : tie.Need-same-length-3
+same-length-3 c = search needs
+
+same-length-4 : tie.Need-same-length-4
+same-length-4 c = search needs
+
 returns-2 : tie.Need-returns-2
 returns-2 c =
-    let f = c .before .before .before in
+    let f = c .before .before .before .before .before .before .before .before .before in
     let d = f .before .before .before .before .before in
     let s = start (d .before) in
     stored-law (s .args .words .now) (s .args .counts .now) (s .args .used) (s .args .symbols .now) (faultless d) (c .reply-of .ensures) (record { came = f .store .ensures })
@@ -56,4 +65,7 @@ stored-spec =
     store-requires
     reply-of-requires
     same-length
+    same-length-2
+    same-length-3
+    same-length-4
     returns-2)

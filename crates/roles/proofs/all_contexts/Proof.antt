@@ -27,13 +27,13 @@ shared-slice-read-t10 : tie.Need-shared-slice-read-t10 Inv-loop μ-loop
 shared-slice-read-t10 c = search needs
 
 is-context-requires : tie.Need-is-context-requires Inv-loop μ-loop
-is-context-requires c κs = let s = c .before .before .before .before in (s .pre .0, s .pre .1)
+is-context-requires c κs = let s = c .before .before .before .before .before in s .pre .0
 
 returns : tie.Need-returns Inv-loop μ-loop
 returns c =
-    let s = c .before .before .before .before .before .before in
+    let s = c .before .before .before .before .before .before .before in
     let l = c .before .before .before .before .loop in
-    scan-fails (contextBy (s .args .holes .now) (s .args .used)) (s .args .xs .now) (s .args .n) (l .i) (s .pre .2) _ (l .inv .1) (omega arith)
+    scan-fails (contextBy (s .args .holes .now) (s .args .used)) (s .args .xs .now) (s .args .n) (l .i) (s .pre .1) _ (l .inv .1) (omega arith)
     (sym (c .before .is-context .ensures) ∙ not-true (c .before .is-context .result) (c .if1 .taken))
 
 add-i : tie.Need-add-i Inv-loop μ-loop
@@ -44,18 +44,18 @@ loop-less c = search needs
 
 loop-again : tie.Need-loop-again Inv-loop μ-loop
 loop-again c =
-    let s = c .before .before .before .before .before .before in
+    let s = c .before .before .before .before .before .before .before in
     let l = c .before .before .before .before .loop in (
       omega arith,
-      scan-passes (contextBy (s .args .holes .now) (s .args .used)) (s .args .xs .now) (s .args .n) (l .i) (s .pre .2) _ (l .inv .1) (omega arith)
+      scan-passes (contextBy (s .args .holes .now) (s .args .used)) (s .args .xs .now) (s .args .n) (l .i) (s .pre .1) _ (l .inv .1) (omega arith)
           (sym (c .before .is-context .ensures) ∙ not-false (c .before .is-context .result) (c .if1 .left)),
     )
 
 returns-2 : tie.Need-returns-2 Inv-loop μ-loop
 returns-2 c =
-    let s = c .before .before .before in
+    let s = c .before .before .before .before in
     let l = c .before .loop in
-    scan-ends (contextBy (s .args .holes .now) (s .args .used)) (s .args .xs .now) (s .args .n) (l .i) (s .pre .2) _ (l .inv .1) (omega arith)
+    scan-ends (contextBy (s .args .holes .now) (s .args .used)) (s .args .xs .now) (s .args .n) (l .i) (s .pre .1) _ (l .inv .1) (omega arith)
 
 pub all-contexts-spec : {M : Type 1} → statement M
 all-contexts-spec =

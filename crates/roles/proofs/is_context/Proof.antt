@@ -15,4 +15,9 @@ returns-2 : tie.Need-returns-2
 returns-2 c = c .has-hole .ensures ∙ within _ _ _ (c .before .if1 .left)
 
 pub is-context-spec : {M : Type 1} → statement M
-is-context-spec = tie.close (tie.spec returns has-hole-requires returns-2)
+is-context-spec =
+    tie.close
+    (tie.spec
+    returns
+    has-hole-requires
+    returns-2)

@@ -16,4 +16,9 @@ returns-2 : tie.Need-returns-2
 returns-2 c = ap not (c .has-hole .ensures) ∙ within _ _ _ (c .before .if1 .left)
 
 pub is-record-spec : {M : Type 1} → statement M
-is-record-spec = tie.close (tie.spec returns has-hole-requires returns-2)
+is-record-spec =
+    tie.close
+    (tie.spec
+    returns
+    has-hole-requires
+    returns-2)

@@ -5,7 +5,6 @@ use mathlib.Core.Option.{Option, none, some}
 use mathlib.Core.List.{List}
 use Prim.Native.Nat.{ℕ, zero, suc, _+_, _≤_, _<_}
 use native.Mathlib.Omega.{arith}
-use Rattle.model.specs.Limits.{mostRules}
 use Rattle.table.specs.Answers.{rowAt, Sized, unknownIn, gapBy, gapFrom}
 use Rattle.table.specs.declared.Gap.{Gap}
 use Rattle.table.specs.declared.Gap.the-variants.{Closed, At}
@@ -25,9 +24,6 @@ pub record Within (n m k j : ℕ) : Type 0 where
   pub context : j < m
 
 module _ (tb : List ℕ) (n m : ℕ) (z : Sized tb n m) (k j : ℕ) where
-  wide : Sized tb mostRules m
-  wide = record { long = z .long; few-t = omega arith; few-c = z .few-c }
-
   within-from : (i count : ℕ) → i + count ≤ n → gapFrom tb m i count ≡ Gap.At k j → Within n m k j
   unfolding gapFrom
   within-from i zero l e = absurd (let d : _≡_ {A = ℕ} 0 1 = cc in omega arith)
@@ -39,8 +35,7 @@ module _ (tb : List ℕ) (n m : ℕ) (z : Sized tb n m) (k j : ℕ) where
       go ih (some v) u p =
           let a : i ≡ k = ap ruleIn p in
           let b : v ≡ j = ap contextIn p in
-          let f = z .few-t in
-          let h = unknown-within tb m i wide (omega arith) v u in
+          let h = unknown-within tb n m i z (omega arith) v u in
           record { rule = omega arith; context = omega arith }
 
   pub gap-within : gapFrom tb m 0 n ≡ Gap.At k j → Within n m k j

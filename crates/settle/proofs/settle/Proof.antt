@@ -15,7 +15,7 @@ use Rattle.settle.proofs.settle.Tie as tie
 use Rattle.settle.proofs.settle.Reads as reads
 use Rattle.settle.proofs.settle.Lts as lts
 use Rattle.answers.proofs.observe_to_gap.Reads as observe-to-gap-reads
-use Rattle.settle.proofs.fill_context.Reads as fill-context-reads
+use Rattle.bank.proofs.context.fill_context.Reads as fill-context-reads
 use Rattle.settle.proofs.propose.Reads as propose-reads
 use Rattle.table.proofs.first_unknown.Reads as first-unknown-reads
 
@@ -46,7 +46,7 @@ abbrev Filled : Type 0
 Filled = lts.After-fill-context claims reads.Pre reads.Post
 
 abbrev start : Seen → Start
-start c = c .before .before .before .before .before .before .before .before .before .before
+start c = c .before .before .before .before .before .before .before .before .before .before .before .before .before .before .before .before
 
 abbrev looked : Open → Seen
 looked c = c .before .before
@@ -65,13 +65,13 @@ abbrev context : Open → ℕ
 context c = c .k .given .0 .1 .0
 
 abbrev table : Open → List ℕ
-table c = looked c .before .before .observe-to-gap .last .1 .1 .1 .1 .1 .1 .1 .1 .1 .1 .1 .0
+table c = looked c .before .before .before .before .observe-to-gap .last .1 .1 .1 .1 .1 .1 .1 .1 .1 .1 .1 .0
 
 gap : (c : Open) →
     Looked (begun c .args .words .now) (begun c .args .counts .now) (begun c .args .used) (begun c .args .s .now) (begun c .args .states) (begun c .args .t .now) (begun c .args .rules)
     (begun c .args .c .now) (begun c .args .contexts) (table c) (Gap.At (rule c) (context c))
 gap c =
-    record { settling = begun c .pre .1; rows = looked c .before .before .observe-to-gap .result; to-gap = looked c .before .before .observe-to-gap .ensures; gap = sym (looked c .first-unknown .ensures) ∙ c .k .given .1 }
+    record { settling = begun c .pre .1; rows = looked c .before .before .before .before .observe-to-gap .result; to-gap = looked c .before .before .before .before .observe-to-gap .ensures; gap = sym (looked c .first-unknown .ensures) ∙ c .k .given .1 }
 
 -- what filling came to
 came : (c : Filled) →
@@ -95,31 +95,31 @@ enum-told c = search needs
 propose-requires : tie.Need-propose-requires
 propose-requires c κs =
     let l : Seen = c .before .before .before .before .before in
-    let o = l .before .before .observe-to-gap .ensures in
+    let o = l .before .before .before .before .observe-to-gap .ensures in
     whole-table (start l .pre .1) o (sym (l .first-unknown .ensures) ∙ c .before .before .before .enum-told .given .1)
 
 enum-known-k : tie.Need-enum-known-k
 enum-known-k c = search needs
 
-cast-t35 : tie.Need-cast-t35
-cast-t35 c = search needs
+cast-t41 : tie.Need-cast-t41
+cast-t41 c = search needs
 
-mul-t36 : tie.Need-mul-t36
-mul-t36 c = search needs
+mul-t42 : tie.Need-mul-t42
+mul-t42 c = search needs
 
-element-copy-out-t39 : tie.Need-element-copy-out-t39
-element-copy-out-t39 c =
+element-copy-out-t45 : tie.Need-element-copy-out-t45
+element-copy-out-t45 c =
     let o : Open = c .before in
     context-within (gap o)
 
-cast-t35-2 : tie.Need-cast-t35-2
-cast-t35-2 c = search needs
+cast-t41-2 : tie.Need-cast-t41-2
+cast-t41-2 c = search needs
 
-mul-t36-2 : tie.Need-mul-t36-2
-mul-t36-2 c = search needs
+mul-t42-2 : tie.Need-mul-t42-2
+mul-t42-2 c = search needs
 
-element-copy-out-t39-2 : tie.Need-element-copy-out-t39-2
-element-copy-out-t39-2 c =
+element-copy-out-t45-2 : tie.Need-element-copy-out-t45-2
+element-copy-out-t45-2 c =
     let o : Open = c .before .before in
     rule-within (gap o)
 
@@ -141,24 +141,60 @@ enum-known-row c = search needs
 same-length : tie.Need-same-length
 same-length c = search needs
 
-returns : tie.Need-returns
-returns c = search needs
-
 same-length-2 : tie.Need-same-length-2
 same-length-2 c = search needs
-
-returns-2 : tie.Need-returns-2
-returns-2 c =
-    let f : Filled = c .before .before .before .before in
-    let o : Open = found f in
-    no-rows (gap o) (begun o .pre .0) (comes-as (c .enum-told2 .given .1) (came f)) .step
 
 same-length-3 : tie.Need-same-length-3
 same-length-3 c = search needs
 
+same-length-4 : tie.Need-same-length-4
+same-length-4 c = search needs
+
+same-length-5 : tie.Need-same-length-5
+same-length-5 c = search needs
+
+returns : tie.Need-returns
+returns c = search needs
+
+same-length-6 : tie.Need-same-length-6
+same-length-6 c = search needs
+
+same-length-7 : tie.Need-same-length-7
+same-length-7 c = search needs
+
+same-length-8 : tie.Need-same-length-8
+same-length-8 c = search needs
+
+same-length-9 : tie.Need-same-length-9
+same-length-9 c = search needs
+
+same-length-10 : tie.Need-same-length-10
+same-length-10 c = search needs
+
+returns-2 : tie.Need-returns-2
+returns-2 c =
+    let f : Filled = c .before .before .before .before .before .before .before .before .before .before in
+    let o : Open = found f in
+    no-rows (gap o) (begun o .pre .0) (comes-as (c .enum-told2 .given .1) (came f)) .step
+
+same-length-11 : tie.Need-same-length-11
+same-length-11 c = search needs
+
+same-length-12 : tie.Need-same-length-12
+same-length-12 c = search needs
+
+same-length-13 : tie.Need-same-length-13
+same-length-13 c = search needs
+
+same-length-14 : tie.Need-same-length-14
+same-length-14 c = search needs
+
+same-length-15 : tie.Need-same-length-15
+same-length-15 c = search needs
+
 returns-3 : tie.Need-returns-3
 returns-3 c =
-    let f : Filled = c .before .before .before .before .before in
+    let f : Filled = c .before .before .before .before .before .before .before .before .before .before .before in
     let o : Open = found f in
     asks-filled (gap o) (begun o .pre .0) (comes-as (c .before .row .given .1) (came f)) .step
 
@@ -171,18 +207,30 @@ settle-spec =
     enum-told
     propose-requires
     enum-known-k
-    cast-t35
-    mul-t36
-    element-copy-out-t39
-    cast-t35-2
-    mul-t36-2
-    element-copy-out-t39-2
+    cast-t41
+    mul-t42
+    element-copy-out-t45
+    cast-t41-2
+    mul-t42-2
+    element-copy-out-t45-2
     fill-context-requires
     enum-told-2
     enum-known-row
     same-length
-    returns
     same-length-2
-    returns-2
     same-length-3
+    same-length-4
+    same-length-5
+    returns
+    same-length-6
+    same-length-7
+    same-length-8
+    same-length-9
+    same-length-10
+    returns-2
+    same-length-11
+    same-length-12
+    same-length-13
+    same-length-14
+    same-length-15
     returns-3)

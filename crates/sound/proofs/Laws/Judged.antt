@@ -110,7 +110,7 @@ module _ {ws ns : List ℕ} {u : ℕ} {s : List ℕ} {q : ℕ} {t : List ℕ} {n
       reps-are = reps-tied (w .observed) s q places (w .placed) q-s q-places n-t (w .reps-by)
 
       pub ruled : Ruled (storeOf ws ns u) (take q s) (take n t) reps
-      ruled = ruled-tied covers reps-are small
+      ruled = ruled-tied covers reps-are small (omega (arith, w .reps-long))
 
       pub hypothesis-is : hypothesis ws ns u s q t n reps ≡ automatonOf (given ws ns u s q t n c m h o z)
       hypothesis-is = hypothesis-tied ws ns u s q t n (take m c) covers reps-are small h o z

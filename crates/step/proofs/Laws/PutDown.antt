@@ -8,7 +8,7 @@ use Prim.Native.Nat.{ℕ, suc, _+_, _-_, _*_, _≤_, _<_}
 use native.Mathlib.Omega.{arith}
 use lib.ListN.{length, take, drop, set, length-append}
 use lib.Seq.{length-take-le, set-split, append-snoc}
-use Rattle.model.specs.Limits.{rowWidth}
+use Rattle.model.specs.Limits.{rowWidth, mostContexts}
 use Rattle.model.specs.Base.{In, among, over}
 use Rattle.model.specs.Store.{Store, Frame, Built, full, built, used, fill}
 use Rattle.model.specs.Table.{Tables, tables}
@@ -164,10 +164,13 @@ module _ {ws : List ℕ} {l : Lists} {hs he ne mix : List ℕ} (p : Stepping ws 
   pub few-after : (left : Lists) → left ≡ withContext l j n → left .rules ≤ 256
   few-after left e = listsFit-facts left (stepping-after left e .fit) .rules
 
-  pub known-after : (left : Lists) → left ≡ withContext l j n → {tb : List ℕ} → Forgotten (left .rules) tb → KnownTable us left tb
-  known-after left e f =
+  pub long-after : (left : Lists) → left ≡ withContext l j n → (tb : List ℕ) → mostContexts * l .rules ≤ length tb → mostContexts * left .rules ≤ length tb
+  long-after left e tb h = omega (arith, ap (λ (k : Lists). k .rules) e)
+
+  pub known-after : (left : Lists) → left ≡ withContext l j n → {tb : List ℕ} → Forgotten (left .rules) tb → mostContexts * l .rules ≤ length tb → KnownTable us left tb
+  known-after left e {tb} f h =
       let x = tablesOf us left in
-      forgotten-known (x .store) (x .answers) (left .t) (left .rules) (left .c) (left .contexts) f (few-after left e) (listsFit-facts left (stepping-after left e .fit) .contexts)
+      forgotten-known (x .store) (x .answers) (left .t) (left .rules) (left .c) (left .contexts) f (long-after left e tb h) (few-after left e) (listsFit-facts left (stepping-after left e .fit) .contexts)
 
   -- ONWARD from the lists with the context
   onward-lists : (z : Tables) → Grows Y z → listsOf (listsOf l Y) z ≡ listsOf l z

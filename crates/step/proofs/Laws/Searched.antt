@@ -2,9 +2,9 @@
 -- The search ends at a record that the proposal gets wrong; the arrays made on the way hold the spot and the way down of every row.
 use mathlib.Core.Path.{_≡_, sym, ap, subst, _∙_}
 use mathlib.Core.List.{List}
-use Prim.Native.Nat.{ℕ, _<_}
+use Prim.Native.Nat.{ℕ, _≤_, _<_}
 use native.Mathlib.Omega.{arith}
-use lib.ListN.{getD}
+use lib.ListN.{length, getD}
 use Rattle.model.specs.Limits.{mostRows}
 use Rattle.model.specs.Base.{In}
 use Rattle.model.specs.Store.{Store, Spot, spotOf, fill}
@@ -23,6 +23,8 @@ use Rattle.bank.proofs.Laws.Words.{used-of}
 use Rattle.hand.specs.declared.Found.{Found}
 use Rattle.hand.specs.Spots.{Descended, searchBy}
 use Rattle.hand.proofs.Laws.Steps.{path-around, path-fits}
+use Rattle.hand.proofs.Laws.Reps.{reps-rows}
+use Rattle.hand.proofs.Laws.Descent.{down-rows, at-rows}
 use Rattle.step.specs.declared.finish.Stepped.{Stepped}
 use Rattle.step.specs.Stepping.{Stepping, InHand, countsIn}
 use Rattle.step.proofs.Laws.Advanced.{Ends, ends-by, handed}
@@ -54,7 +56,8 @@ pub record Ending (ws : List ℕ) (l : Lists) (hs head next mix reps ds at ex : 
 pub record Held (ws : List ℕ) (l : Lists) (ds at : List ℕ) (h : ℕ) : Type 0 where
   pub record-row : IsRecord (tablesOf ws l .store) h
   pub spot-row : IsRecord (tablesOf ws l .store) (getD at h 0)
-  pub small : h < mostRows
+  pub low : h < l .used
+  pub spot-low : getD at h 0 < l .used
   pub spot-small : getD at h 0 < mostRows
   pub spot-is : getD at h 0 ≡ spotOf (tablesOf ws l .s) (tablesOf ws l .store) h .row
   pub around : pathOf ds (tablesOf ws l .store) h ≡ spotOf (tablesOf ws l .s) (tablesOf ws l .store) h .around
@@ -83,12 +86,23 @@ module _ {ws : List ℕ} {l : Lists} {hs head next mix reps ds at ex : List ℕ}
       record {
         record-row = z .record-row;
         spot-row = spot;
-        small = row-small (z .record-row);
+        low = b;
+        spot-low = row-low spot;
         spot-small = row-small spot;
         spot-is = e;
         around = path-around g (q .descended) (omega (arith, n)) h b;
         fits = path-fits g (q .descended) (omega (arith, n)) h b (z .record-row);
       }
+
+  -- entries that the arrays have
+  pub in-at : {h : ℕ} → Held ws l ds at h → h < length at
+  in-at z = omega (arith, z .low, at-rows ws (countsIn l) (l .used) (q .descended))
+
+  pub in-reps : {h : ℕ} → Held ws l ds at h → getD at h 0 < length reps
+  in-reps z = omega (arith, z .spot-low, reps-rows ws (countsIn l) (l .used) (q .hand .handling))
+
+  pub down-used : l .used ≤ length ds
+  down-used = down-rows ws (countsIn l) (l .used) (q .descended)
 
   -- at a row that is no transition
   module _ {h : Row} (e : f ≡ Found.NewTransition h) where

@@ -9,7 +9,6 @@ use native.Mathlib.Numerals.{add-one}
 use native.Mathlib.Omega.{arith}
 use lib.Dec.{eqb}
 use lib.ListN.{length}
-use Rattle.model.specs.Limits.{mostRules}
 use Rattle.table.specs.declared.Gap.{Gap}
 use Rattle.table.specs.Answers.{rowAt, Sized, unknownIn, placeBy, gapBy, gapFrom}
 use Rattle.table.proofs.Laws.Rows.{row-length, row-fits}
@@ -34,10 +33,10 @@ place-none none m r h e l = refl
 place-none (some j) m r h e l = absurd (let b = h j refl in omega arith)
 
 -- of a row of the table
-pub unknown-within : (tb : List ℕ) (m k : ℕ) → Sized tb mostRules m → k < mostRules → (j : ℕ) → unknownIn (rowAt tb m k) 0 ≡ some j → j < m
-unknown-within tb m k z l j e =
+pub unknown-within : (tb : List ℕ) (n m k : ℕ) → Sized tb n m → k < n → (j : ℕ) → unknownIn (rowAt tb m k) 0 ≡ some j → j < m
+unknown-within tb n m k z l j e =
     let b = unknown-below (rowAt tb m k) 0 j e in
-    let h = row-length tb m k (row-fits tb mostRules m k z l) in
+    let h = row-length tb m k (row-fits tb n m k z l) in
     omega arith
 
 -- T from k on

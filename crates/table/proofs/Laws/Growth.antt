@@ -11,7 +11,7 @@ use borrow.Author.Tests.{lt-ltb, le-ltb, le-leb, lt-leb}
 use native.Mathlib.Decide.{ℕ-discrete}
 use lib.ListN.{length, getD, take, drop, set, drop-of-length-le, length-set}
 use lib.Seq.{drop-cons, getD-take, length-take-le, take-suc-set, getD-set-same, getD-set-other}
-use Rattle.model.specs.Limits.{mostStates, mostRules}
+use Rattle.model.specs.Limits.{mostStates}
 use Rattle.model.specs.Base.{same}
 use Rattle.model.specs.Table.{stateFrom}
 use Rattle.model.specs.Steps.{grow}
@@ -84,7 +84,7 @@ grown-some s g e f p n = rw (← e) (f, p, n)
 pub record Growing (r : ℕ → List ℕ) (rules : ℕ) (end : Option (List ℕ)) (n : ℕ) (ps : List ℕ) (k : ℕ) : Type 0 where
   pub few : n ≤ mostStates
   pub long : length ps ≡ mostStates
-  pub below : (i : ℕ) → i < n → getD ps i 0 < mostRules
+  pub below : (i : ℕ) → i < n → getD ps i 0 < rules
   pub left-decides : grow r (take n ps) (placesFrom k (rules - k)) ≡ end
 
 module _ {r : ℕ → List ℕ} {rules : ℕ} {end : Option (List ℕ)} {n : ℕ} {ps : List ℕ} {k : ℕ} (g : Growing r rules end n ps k) where
@@ -111,19 +111,19 @@ module _ {r : ℕ → List ℕ} {rules : ℕ} {end : Option (List ℕ)} {n : ℕ
           left-decides = sym (grow-seen r (take n ps) rules k l (omega arith)) ∙ g .left-decides;
         }
 
-    below-set : (n ≡ mostStates → ⊥) → k < mostRules → (i : ℕ) → i < n + 1 → getD (set ps n k) i 0 < mostRules
-    below-set f b i h = elim (ℕ-discrete i n) [ yes p ↦ at p | no p ↦ rw (getD-set-other ps n i k 0 p) (g .below i (let z : i < n = omega (arith, p) in z)) ]
+    below-set : (n ≡ mostStates → ⊥) → (i : ℕ) → i < n + 1 → getD (set ps n k) i 0 < rules
+    below-set f i h = elim (ℕ-discrete i n) [ yes p ↦ at p | no p ↦ rw (getD-set-other ps n i k 0 p) (g .below i (let z : i < n = omega (arith, p) in z)) ]
       where
-        at : i ≡ n → getD (set ps n k) i 0 < mostRules
-        at p = rw (p, getD-set-same ps n k 0 (omega arith)) b
+        at : i ≡ n → getD (set ps n k) i 0 < rules
+        at p = rw (p, getD-set-same ps n k 0 (omega arith)) l
 
-    pub growing-new : q ≡ n → (n ≡ mostStates → ⊥) → k < mostRules → Growing r rules end (n + 1) (set ps n k) (k + 1)
-    growing-new p f b =
+    pub growing-new : q ≡ n → (n ≡ mostStates → ⊥) → Growing r rules end (n + 1) (set ps n k) (k + 1)
+    growing-new p f =
         let h = many in
         record {
           few = omega arith;
           long = length-set ps n k ∙ g .long;
-          below = below-set f b;
+          below = below-set f;
           left-decides =
               ap (λ (s : List ℕ). grow r s (placesFrom (k + 1) (rules - (k + 1)))) (ap (λ (i : ℕ). take i (set ps n k)) (add-one n) ∙ take-suc-set ps n k (omega arith)) ∙
               sym (grow-new r (take n ps) rules k l (omega arith) (omega arith)) ∙ g .left-decides;

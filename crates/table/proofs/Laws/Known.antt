@@ -6,7 +6,7 @@ use mathlib.Core.List.{List}
 use Prim.Native.Nat.{ℕ, zero, suc, _+_, _*_, _≤_, _<_}
 use native.Mathlib.Omega.{arith}
 use native.Mathlib.Decide.{ℕ-discrete}
-use lib.ListN.{length, getD, set, take, length-set}
+use lib.ListN.{length, getD, set, take}
 use lib.Seq.{getD-set-same, getD-set-other}
 use Rattle.model.specs.Limits.{mostRules, mostContexts}
 use Rattle.model.specs.Base.{among}
@@ -15,41 +15,41 @@ use Rattle.model.specs.Table.{answerAt, answersOf}
 use Rattle.model.proofs.Laws.Turn.{answers-same}
 use Rattle.model.proofs.Laws.ReflectLists.{has-back}
 use Rattle.table.specs.Answers.{rowAt, Sized, Observed, KnownRows, Forgotten}
-use Rattle.table.proofs.Laws.Rows.{sized-whole}
+use Rattle.table.proofs.Laws.Rows.{sized-to}
 use Rattle.table.proofs.Laws.Left.{among-hit}
 
 -- FORGOTTEN: no row at first, a row more, and none of them is known then
-pub forgotten-none : (tb : List ℕ) → length tb ≡ 73984 → Forgotten 0 tb
-forgotten-none tb l = record { long = l; first = λ i a. absurd (omega arith) }
+pub forgotten-none : (tb : List ℕ) → Forgotten 0 tb
+forgotten-none tb = record { first = λ i a. absurd (omega arith) }
 
-pub forgotten-more : {k : ℕ} {tb : List ℕ} → Forgotten k tb → k < mostRules → Forgotten (k + 1) (set tb (mostContexts * k) 0)
+pub forgotten-more : {k : ℕ} {tb : List ℕ} → Forgotten k tb → mostContexts * k < length tb → Forgotten (k + 1) (set tb (mostContexts * k) 0)
 forgotten-more {k} {tb} f l =
-    record { long = length-set tb (mostContexts * k) 0 ∙ f .long; first = λ i a. at i a (ℕ-discrete i k) }
+    record { first = λ i a. at i a (ℕ-discrete i k) }
   where
     at : (i : ℕ) → i < k + 1 → Dec (i ≡ k) → getD (set tb (mostContexts * k) 0) (mostContexts * i) 0 ≡ 0
     at i a (yes e) =
-        ap (λ (j : ℕ). getD (set tb (mostContexts * k) 0) (mostContexts * j) 0) e ∙ getD-set-same tb (mostContexts * k) 0 0 (let b = f .long in omega arith)
+        ap (λ (j : ℕ). getD (set tb (mostContexts * k) 0) (mostContexts * j) 0) e ∙ getD-set-same tb (mostContexts * k) 0 0 l
     at i a (no d) =
         let o : i < k = omega arith in
         getD-set-other tb (mostContexts * k) (mostContexts * i) 0 0 (λ p. omega arith) ∙ f .first i o
 
-pub forgotten-known : (x : Store) (w t : List ℕ) (n : ℕ) (c : List ℕ) (m : ℕ) {tb : List ℕ} → Forgotten n tb → n ≤ mostRules → m ≤ mostContexts → KnownRows x w t n c m tb
-forgotten-known x w t n c m {tb} f a b = record { sized = sized m b; right = right m b }
+pub forgotten-known : (x : Store) (w t : List ℕ) (n : ℕ) (c : List ℕ) (m : ℕ) {tb : List ℕ} → Forgotten n tb → mostContexts * n ≤ length tb → n ≤ mostRules → m ≤ mostContexts → KnownRows x w t n c m tb
+forgotten-known x w t n c m {tb} f z a b = record { sized = sized m b; right = right m b }
   where
     sized : (j : ℕ) → j ≤ mostContexts → Sized tb n j
-    sized j h = record { long = f .long; few-t = a; few-c = h }
+    sized j h = record { long = z; few-t = a; few-c = h }
 
     right : (j : ℕ) → j ≤ mostContexts → (k : ℕ) → k < n → among 0 (rowAt tb j k) ≡ false → rowAt tb j k ≡ answersOf x w (take j c) (getD t k 0)
     right zero h k l e = refl
     right (suc j) h k l e =
-        let z : mostContexts * k + 0 ≡ mostContexts * k = omega arith in
-        absurd (true≢false (sym (among-hit (sized-whole (sized (suc j) h)) k (omega arith) 0 0 (omega arith) (ap (λ (i : ℕ). getD tb i 0) z ∙ f .first k l)) ∙ e))
+        let y : mostContexts * k + 0 ≡ mostContexts * k = omega arith in
+        absurd (true≢false (sym (among-hit k (sized-to (sized (suc j) h) k l) 0 0 (omega arith) (ap (λ (i : ℕ). getD tb i 0) y ∙ f .first k l)) ∙ e))
 
 -- A KNOWN ROW is one more of those that are right
 pub observed-known : {x : Store} {w t : List ℕ} {n : ℕ} {c : List ℕ} {m : ℕ} {tb : List ℕ} → KnownRows x w t n c m tb → (k : ℕ) → k < n → among 0 (rowAt tb m k) ≡ false →
     Observed x w t k c m tb → Observed x w t (k + 1) c m tb
 observed-known {x} {w} {t} {n} {c} {m} {tb} h k l e o =
-    record { sized = record { long = h .sized .long; few-t = let b = h .sized .few-t in omega arith; few-c = h .sized .few-c }; rows = λ i a. at i a (ℕ-discrete i k) }
+    record { sized = sized-to (h .sized) k l; rows = λ i a. at i a (ℕ-discrete i k) }
   where
     at : (i : ℕ) → i < k + 1 → Dec (i ≡ k) → rowAt tb m i ≡ answersOf x w (take m c) (getD t i 0)
     at i a (yes p) = ap (rowAt tb m) p ∙ h .right k l e ∙ ap (λ (j : ℕ). answersOf x w (take m c) (getD t j 0)) (sym p)

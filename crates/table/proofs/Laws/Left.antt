@@ -11,18 +11,18 @@ use borrow.Author.Tests.{eq-eqb, ne-eqb, lt-ltb}
 use lib.ListN.{getD, drop}
 use Rattle.model.specs.Base.{same, among}
 use Rattle.model.specs.Sound.{differKnown}
-use Rattle.model.specs.Limits.{mostRules, mostContexts}
+use Rattle.model.specs.Limits.{mostContexts}
 use Rattle.table.specs.Answers.{rowAt, Sized, unknownIn}
 use Rattle.table.proofs.Laws.Rows.{row-fits, row-more, row-end}
 
-module _ {tb : List ℕ} {m : ℕ} (z : Sized tb mostRules m) where
+module _ {tb : List ℕ} {m : ℕ} where
   -- ONE ROW: an answer that it has, and the first unknown one
-  module _ (a : ℕ) (p : a < mostRules) where
+  module _ (a : ℕ) (p : Sized tb (a + 1) m) where
     more : (j : ℕ) → j < m → drop j (rowAt tb m a) ≡ getD tb (mostContexts * a + j) 0 ∷ drop (j + 1) (rowAt tb m a)
-    more j l = row-more tb m a j (row-fits tb mostRules m a z p) l
+    more j l = row-more tb m a j (row-fits tb (a + 1) m a p (omega arith)) l
 
     done : (j : ℕ) → m ≤ j → drop j (rowAt tb m a) ≡ []
-    done j l = row-end tb m a j (row-fits tb mostRules m a z p) l
+    done j l = row-end tb m a j (row-fits tb (a + 1) m a p (omega arith)) l
 
     pub among-hit : (v j : ℕ) → j < m → getD tb (mostContexts * a + j) 0 ≡ v → among v (drop j (rowAt tb m a)) ≡ true
     unfolding among
@@ -49,7 +49,7 @@ module _ {tb : List ℕ} {m : ℕ} (z : Sized tb mostRules m) where
     unknown-end j l = rw (done j l)
 
   -- TWO ROWS: equal, or different where both answers are known
-  module _ (a b : ℕ) (p : a < mostRules) (q : b < mostRules) where
+  module _ (a b : ℕ) (p : Sized tb (a + 1) m) (q : Sized tb (b + 1) m) where
     pub same-hit : (j : ℕ) → j < m → (getD tb (mostContexts * a + j) 0 ≡ getD tb (mostContexts * b + j) 0 → ⊥) → same (drop j (rowAt tb m a)) (drop j (rowAt tb m b)) ≡ false
     unfolding same
     same-hit j l e = rw (more a p j l, more b q j l, ne-eqb _ _ e)

@@ -7,7 +7,7 @@ use native.Mathlib.Numerals.{add-one}
 use native.Mathlib.Omega.{arith}
 use lib.ListN.{length, getD, drop, length-drop, drop-of-length-le}
 use lib.Seq.{getD-take, getD-drop, length-take-le, drop-cons}
-use Rattle.model.specs.Limits.{mostRules, mostContexts}
+use Rattle.model.specs.Limits.{mostContexts}
 use Rattle.table.specs.Answers.{rowAt, Sized}
 
 pub row-at : (tb : List ℕ) (m k j : ℕ) → j < m → getD (rowAt tb m k) j 0 ≡ getD tb (mostContexts * k + j) 0
@@ -27,9 +27,9 @@ row-more tb m k j h l =
 pub row-end : (tb : List ℕ) (m k j : ℕ) → mostContexts * k + m ≤ length tb → m ≤ j → drop j (rowAt tb m k) ≡ []
 row-end tb m k j h l = drop-of-length-le (rowAt tb m k) {i = j} (let e = row-length tb m k h in omega arith)
 
--- each row stands within the table; what is within it holds at all its rows
-pub sized-whole : {tb : List ℕ} {n m : ℕ} → Sized tb n m → Sized tb mostRules m
-sized-whole z = record { long = z .long; few-t = omega arith; few-c = z .few-c }
+-- each row stands within the table; one that has room for n rows has room up to each of them
+pub sized-to : {tb : List ℕ} {n m : ℕ} → Sized tb n m → (k : ℕ) → k < n → Sized tb (k + 1) m
+sized-to z k l = record { long = omega arith; few-t = omega arith; few-c = z .few-c }
 
-pub row-fits : (tb : List ℕ) (n m k : ℕ) → Sized tb n m → k < mostRules → mostContexts * k + m ≤ length tb
+pub row-fits : (tb : List ℕ) (n m k : ℕ) → Sized tb n m → k < n → mostContexts * k + m ≤ length tb
 row-fits tb n m k z l = omega arith

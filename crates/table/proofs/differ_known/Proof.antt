@@ -27,8 +27,8 @@ mul-v c = search needs
 add-v : tie.Need-add-v Inv-loop μ-loop
 add-v c = search needs
 
-element-copy-out-v : tie.Need-element-copy-out-v Inv-loop μ-loop
-element-copy-out-v c = search needs
+shared-slice-read-v : tie.Need-shared-slice-read-v Inv-loop μ-loop
+shared-slice-read-v c = search needs
 
 mul-w : tie.Need-mul-w Inv-loop μ-loop
 mul-w c = search needs
@@ -36,15 +36,15 @@ mul-w c = search needs
 add-w : tie.Need-add-w Inv-loop μ-loop
 add-w c = search needs
 
-element-copy-out-w : tie.Need-element-copy-out-w Inv-loop μ-loop
-element-copy-out-w c = search needs
+shared-slice-read-w : tie.Need-shared-slice-read-w Inv-loop μ-loop
+shared-slice-read-w c = search needs
 
 returns : tie.Need-returns Inv-loop μ-loop
 returns c =
     let s = c .before .before .before .before .before .before .before in
     let l = c .before .before .before .before .before .before .loop in
     let i : l .j < s .args .contexts = c .before .before .before .before .before .loop-test .taken in
-    sym (L.differ-hit (s .pre .0) (s .args .a) (s .args .b) (s .pre .1) (s .pre .2) (l .j) i (c .before .before .if1 .taken) (c .before .if2 .taken) (c .if3 .taken)) ∙ l .inv .1
+    sym (L.differ-hit (s .args .a) (s .args .b) (s .pre .0) (s .pre .1) (l .j) i (c .before .before .if1 .taken) (c .before .if2 .taken) (c .if3 .taken)) ∙ l .inv .1
 
 add-j : tie.Need-add-j Inv-loop μ-loop
 add-j c = search needs
@@ -59,8 +59,8 @@ loop-again c =
     let i : l .j < s .args .contexts = c .before .before .before .loop-test .taken in (
       search needs,
       sym
-          (⊎-elim (λ w. L.differ-equal (s .pre .0) (s .args .a) (s .args .b) (s .pre .1) (s .pre .2) (l .j) i (w .0 .taken) (w .1 .taken) (w .2 .left))
-          (λ v. ⊎-elim (λ w. L.differ-right (s .pre .0) (s .args .a) (s .args .b) (s .pre .1) (s .pre .2) (l .j) i (w .0 .taken) (w .1 .left)) (λ w. L.differ-left (s .pre .0) (s .args .a) (s .args .b) (s .pre .1) (s .pre .2) (l .j) i (w .left)) v)
+          (⊎-elim (λ w. L.differ-equal (s .args .a) (s .args .b) (s .pre .0) (s .pre .1) (l .j) i (w .0 .taken) (w .1 .taken) (w .2 .left))
+          (λ v. ⊎-elim (λ w. L.differ-right (s .args .a) (s .args .b) (s .pre .0) (s .pre .1) (l .j) i (w .0 .taken) (w .1 .left)) (λ w. L.differ-left (s .args .a) (s .args .b) (s .pre .0) (s .pre .1) (l .j) i (w .left)) v)
           (c .if1 .came)) ∙ l .inv .1,
     )
 
@@ -68,7 +68,7 @@ returns-2 : tie.Need-returns-2 Inv-loop μ-loop
 returns-2 c =
     let s = c .before .before in
     let l = c .before .loop in
-    sym (L.differ-end (s .pre .0) (s .args .a) (s .args .b) (s .pre .1) (s .pre .2) (l .j) (c .loop-test .left)) ∙ l .inv .1
+    sym (L.differ-end (s .args .a) (s .args .b) (s .pre .0) (s .pre .1) (l .j) (c .loop-test .left)) ∙ l .inv .1
 
 pub differ-known-spec : {M : Type 1} → statement M
 differ-known-spec =
@@ -79,10 +79,10 @@ differ-known-spec =
     loop-holds
     mul-v
     add-v
-    element-copy-out-v
+    shared-slice-read-v
     mul-w
     add-w
-    element-copy-out-w
+    shared-slice-read-w
     returns
     add-j
     loop-less

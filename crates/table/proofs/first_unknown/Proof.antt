@@ -6,7 +6,7 @@ use native.Mathlib.Nat.{sub-zero}
 use native.Mathlib.Omega.{arith}
 use borrow.Author.Needs.{needs}
 use Rattle.table.specs.Answers.{rowAt, unknownIn, gapFrom}
-use Rattle.table.proofs.Laws.Rows.{sized-whole}
+use Rattle.table.proofs.Laws.Rows.{sized-to}
 use Rattle.table.proofs.Laws.Gap as G
 use Rattle.table.proofs.first_unknown.Statement.{statement}
 use Rattle.table.proofs.first_unknown.Tie as tie
@@ -18,10 +18,10 @@ abbrev μ-loop : tie.MeasureT-loop
 μ-loop table rules contexts k₀ k = rules - k
 
 loop-holds : tie.Need-loop-holds Inv-loop μ-loop
-loop-holds c = (search needs, ap (gapFrom (c .args .table .now) (c .args .contexts) 0) (sub-zero (c .args .rules)))
+loop-holds c = (search needs, ap (gapFrom (c .before .args .table .now) (c .before .args .contexts) 0) (sub-zero (c .before .args .rules)))
 
 first-in-requires : tie.Need-first-in-requires Inv-loop μ-loop
-first-in-requires c κs = (sized-whole (c .before .before .pre), omega arith)
+first-in-requires c κs = sized-to (c .before .before .before .pre) (c .before .loop .k) (c .loop-test .taken)
 
 cast-t7 : tie.Need-cast-t7 Inv-loop μ-loop
 cast-t7 c = search needs
@@ -31,7 +31,7 @@ cast-t8 c = search needs
 
 returns : tie.Need-returns Inv-loop μ-loop
 returns c =
-    let s = c .before .before .before .before in
+    let s = c .before .before .before .before .before in
     let l = c .before .before .before .loop in
     let f = c .before .first-in in
     let i : l .k < s .args .rules = c .before .before .loop-test .taken in
@@ -45,16 +45,16 @@ loop-less c = search needs
 
 loop-again : tie.Need-loop-again Inv-loop μ-loop
 loop-again c =
-    let s = c .before .before .before .before in
+    let s = c .before .before .before .before .before in
     let l = c .before .before .before .loop in
     let f = c .before .first-in in
     let i : l .k < s .args .rules = c .before .before .loop-test .taken in
-    let w = G.unknown-within (s .args .table .now) (s .args .contexts) (l .k) (sized-whole (s .pre)) (omega arith) in
+    let w = G.unknown-within (s .args .table .now) (s .args .rules) (s .args .contexts) (l .k) (s .pre) i in
     (search needs, sym (G.gap-pass (s .args .table .now) (s .args .contexts) (s .args .rules) (l .k) i (G.place-none (unknownIn (rowAt (s .args .table .now) (s .args .contexts) (l .k)) 0) (s .args .contexts) (f .result) w (f .ensures) (c .if1 .left))) ∙ l .inv .1)
 
 returns-2 : tie.Need-returns-2 Inv-loop μ-loop
 returns-2 c =
-    let s = c .before .before in
+    let s = c .before .before .before in
     let l = c .before .loop in
     sym (G.gap-end (s .args .table .now) (s .args .contexts) (s .args .rules) (l .k) (c .loop-test .left)) ∙ l .inv .1
 

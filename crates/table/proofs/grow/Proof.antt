@@ -10,7 +10,6 @@ use borrow.Author.Needs.{needs}
 use lib.ListN.{length, take}
 use Rattle.model.specs.Steps.{grow}
 use Rattle.table.specs.Answers.{rowAt, growAt, placesFrom}
-use Rattle.table.proofs.Laws.Rows.{sized-whole}
 use Rattle.table.proofs.Laws.Growth as G
 use Rattle.table.proofs.grow.Statement.{statement}
 use Rattle.table.proofs.grow.Tie as tie
@@ -31,20 +30,20 @@ Met = lts.After-state-of (state-of-reads.Asked, state-of-reads.Learnt) reads.Pre
 -- the state found is a place in S, or the one past it
 within : (m : Met) → m .state-of .result .0 ≤ m .before .before .before .loop .n
 within m =
-    let s = m .before .before .before .before in
+    let s = m .before .before .before .before .before in
     let l = m .before .before .before .loop in
     let w = G.state-within (rowAt (s .args .table .now) (s .args .contexts)) (rowAt (s .args .table .now) (s .args .contexts) (l .k)) (l .n) (l .ps) (omega (arith, l .inv .1 .few, l .inv .1 .long)) in
     omega (arith, w, m .state-of .ensures)
 
 loop-holds : tie.Need-loop-holds Inv-loop μ-loop
 loop-holds c =
-    let h : length (c .args .places) ≡ 32 = c .good .1 .1 .1 .0 .1 .0 .1 in (
+    let h : length (c .before .args .places) ≡ 32 = c .before .good .1 .1 .1 .0 .1 .0 .1 in (
       search needs,
       record {
-        few = c .pre .1;
+        few = c .before .pre .1;
         long = h;
-        below = c .pre .2;
-        left-decides = ap (λ (i : ℕ). grow (rowAt (c .args .table .now) (c .args .contexts)) (take (c .args .states) (c .args .places)) (placesFrom 0 i)) (sub-zero (c .args .rules));
+        below = c .before .pre .2;
+        left-decides = ap (λ (i : ℕ). grow (rowAt (c .before .args .table .now) (c .before .args .contexts)) (take (c .before .args .states) (c .before .args .places)) (placesFrom 0 i)) (sub-zero (c .before .args .rules));
       },
     )
 
@@ -54,7 +53,7 @@ cast-state-of c = search needs
 state-of-requires : tie.Need-state-of-requires Inv-loop μ-loop
 state-of-requires c κs =
     let g = c .before .before .loop .inv .1 in
-    (sized-whole (c .before .before .before .pre .0), omega (arith, c .before .before .before .pre .0), g .few, g .long, g .below)
+    (c .before .before .before .before .pre .0, c .before .loop-test .taken, g .few, g .long, g .below)
 
 cast-if1 : tie.Need-cast-if1 Inv-loop μ-loop
 cast-if1 c = let w = within (c .before) in omega arith
@@ -89,14 +88,13 @@ loop-less c = search needs
 
 loop-again : tie.Need-loop-again Inv-loop μ-loop
 loop-again c =
-    let s = c .before .before .before .before .before .before in
+    let s = c .before .before .before .before .before .before .before in
     let l = c .before .before .before .before .before .loop in
     let m : Met = c .before .before in
-    let i : l .k < s .args .rules = m .before .before .loop-test .taken in
-    let b : l .k < 256 = omega (arith, i, s .pre .0 .few-t) in (
+    let i : l .k < s .args .rules = m .before .before .loop-test .taken in (
       omega (arith, i),
       ⊎-elim
-          (λ w. rw (w .2, w .3) (G.growing-new (l .inv .1) (m .state-of .result .0) i (m .state-of .ensures) (w .0 .taken) (w .1 .left) b))
+          (λ w. rw (w .2, w .3) (G.growing-new (l .inv .1) (m .state-of .result .0) i (m .state-of .ensures) (w .0 .taken) (w .1 .left)))
           (λ w. rw (w .1, w .2) (G.growing-seen (l .inv .1) (m .state-of .result .0) i (m .state-of .ensures) (w .0 .left)))
           (c .if1 .came),
     )

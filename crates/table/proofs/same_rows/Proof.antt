@@ -26,8 +26,8 @@ mul-if1 c = search needs
 add-if1 : tie.Need-add-if1 Inv-loop μ-loop
 add-if1 c = search needs
 
-element-copy-out-if1 : tie.Need-element-copy-out-if1 Inv-loop μ-loop
-element-copy-out-if1 c = search needs
+shared-slice-read-if1 : tie.Need-shared-slice-read-if1 Inv-loop μ-loop
+shared-slice-read-if1 c = search needs
 
 mul-if1-2 : tie.Need-mul-if1-2 Inv-loop μ-loop
 mul-if1-2 c = search needs
@@ -35,15 +35,15 @@ mul-if1-2 c = search needs
 add-if1-2 : tie.Need-add-if1-2 Inv-loop μ-loop
 add-if1-2 c = search needs
 
-element-copy-out-if1-2 : tie.Need-element-copy-out-if1-2 Inv-loop μ-loop
-element-copy-out-if1-2 c = search needs
+shared-slice-read-if1-2 : tie.Need-shared-slice-read-if1-2 Inv-loop μ-loop
+shared-slice-read-if1-2 c = search needs
 
 returns : tie.Need-returns Inv-loop μ-loop
 returns c =
     let s = c .before .before .before .before .before in
     let l = c .before .before .before .before .loop in
     let i : l .j < s .args .contexts = c .before .before .before .loop-test .taken in
-    sym (L.same-hit (s .pre .0) (s .args .a) (s .args .b) (s .pre .1) (s .pre .2) (l .j) i (c .if1 .taken)) ∙ l .inv .1
+    sym (L.same-hit (s .args .a) (s .args .b) (s .pre .0) (s .pre .1) (l .j) i (c .if1 .taken)) ∙ l .inv .1
 
 add-j : tie.Need-add-j Inv-loop μ-loop
 add-j c = search needs
@@ -56,13 +56,13 @@ loop-again c =
     let s = c .before .before .before .before .before in
     let l = c .before .before .before .before .loop in
     let i : l .j < s .args .contexts = c .before .before .before .loop-test .taken in
-    (search needs, sym (L.same-pass (s .pre .0) (s .args .a) (s .args .b) (s .pre .1) (s .pre .2) (l .j) i (c .if1 .left)) ∙ l .inv .1)
+    (search needs, sym (L.same-pass (s .args .a) (s .args .b) (s .pre .0) (s .pre .1) (l .j) i (c .if1 .left)) ∙ l .inv .1)
 
 returns-2 : tie.Need-returns-2 Inv-loop μ-loop
 returns-2 c =
     let s = c .before .before in
     let l = c .before .loop in
-    sym (L.same-end (s .pre .0) (s .args .a) (s .args .b) (s .pre .1) (s .pre .2) (l .j) (c .loop-test .left)) ∙ l .inv .1
+    sym (L.same-end (s .args .a) (s .args .b) (s .pre .0) (s .pre .1) (l .j) (c .loop-test .left)) ∙ l .inv .1
 
 pub same-rows-spec : {M : Type 1} → statement M
 same-rows-spec =
@@ -73,10 +73,10 @@ same-rows-spec =
     loop-holds
     mul-if1
     add-if1
-    element-copy-out-if1
+    shared-slice-read-if1
     mul-if1-2
     add-if1-2
-    element-copy-out-if1-2
+    shared-slice-read-if1-2
     returns
     add-j
     loop-less

@@ -122,9 +122,9 @@ module _ (ws ns : List ℕ) (n i v : ℕ) (l : i < n) (h : rowWidth * n ≤ leng
         behind = ap (λ (k : ℕ). drop (rowWidth * k) (withAnswer ws i v)) u ∙ behind-answer ∙ ap (λ (k : ℕ). drop (rowWidth * k) ws) (sym u);
       }
 
-  same-bucket : (mix : List ℕ) (j : ℕ) → bucketAt mix (withAnswer ws i v) j ≡ bucketAt mix ws j
+  same-bucket : (mix : List ℕ) (z j : ℕ) → bucketAt mix z (withAnswer ws i v) j ≡ bucketAt mix z ws j
   unfolding bucketAt
-  same-bucket mix j = λ t. bucketOf mix (same-symbol j t) (same-kid j 0 (omega arith) t) (same-kid j 1 (omega arith) t) (same-kid j 2 (omega arith) t) (same-kid j 3 (omega arith) t)
+  same-bucket mix z j = λ t. bucketOf mix z (same-symbol j t) (same-kid j 0 (omega arith) t) (same-kid j 1 (omega arith) t) (same-kid j 2 (omega arith) t) (same-kid j 3 (omega arith) t)
 
   -- the index and the marks do not look at answers
   pub ready-answered : {hs head next mix : List ℕ} → Ready ws ns n hs head next mix → Ready (withAnswer ws i v) ns n hs head next mix
@@ -137,11 +137,12 @@ module _ (ws ns : List ℕ) (n i v : ℕ) (l : i < n) (h : rowWidth * n ≤ leng
           few = r .finding .few;
           room = omega (arith, long);
           mixing = r .finding .mixing;
-          head-long = r .finding .head-long;
-          next-long = r .finding .next-long;
-          indexed = indexed-same (withAnswer ws i v) (λ j b. same-bucket mix j) (r .finding .indexed);
+          some-heads = r .finding .some-heads;
+          few-heads = r .finding .few-heads;
+          next-long = omega (arith, long, r .finding .next-long);
+          indexed = indexed-same (withAnswer ws i v) (λ j b. same-bucket mix _ j) (r .finding .indexed);
           no-twins = λ a b z p q e f. r .finding .no-twins a b z p q (sym (same-symbol a) ∙ e ∙ same-symbol b) (sym (same-places a) ∙ f ∙ same-places b);
         };
-        holes-long = r .holes-long;
+        holes-long = omega (arith, long, r .holes-long);
         holed = subst (λ (x : Store). Holed x hs n) (sym answered-store) (r .holed);
       }

@@ -14,7 +14,7 @@ use Rattle.bank.proofs.add.above.Statement.{statement}
 use Rattle.bank.proofs.add.above.Tie as tie
 
 abbrev start : tie.Joined1 → tie.Start
-start c = c .before .before .before .before .before .before .before .before .before
+start c = c .before .before .before .before .before .before .before .before .before .before .before .before
 
 symbol : (c : tie.Joined1) → c .before .before .before .before .before .before .symbol-of .result ≡ symbolIn (start c .args .words .now) (start c .args .row .0)
 symbol c = c .before .before .before .before .before .before .symbol-of .ensures
@@ -57,6 +57,15 @@ find-requires c κs = search needs
 same-length : tie.Need-same-length
 same-length c = search needs
 
+same-length-2 : tie.Need-same-length-2
+same-length-2 c = search needs
+
+same-length-3 : tie.Need-same-length-3
+same-length-3 c = search needs
+
+same-length-4 : tie.Need-same-length-4
+same-length-4 c = search needs
+
 returns : tie.Need-returns
 returns c =
     let d : tie.Joined1 = c .before .before .before .before .before .before in
@@ -65,13 +74,22 @@ returns c =
 add-row-requires : tie.Need-add-row-requires
 add-row-requires c κs = search needs
 
-same-length-2 : tie.Need-same-length-2
-same-length-2 c = search needs
+same-length-5 : tie.Need-same-length-5
+same-length-5 c = search needs
+
+same-length-6 : tie.Need-same-length-6
+same-length-6 c = search needs
+
+same-length-7 : tie.Need-same-length-7
+same-length-7 c = search needs
+
+same-length-8 : tie.Need-same-length-8
+same-length-8 c = search needs
 
 returns-2 : tie.Need-returns-2
 returns-2 c =
-    let d : tie.Joined1 = c .before .before .before .before .before .before .before .before .before .before .before .before .before in
-    put-as (symbol d) (places d) (hole d) (c .before .before .add-row .ensures)
+    let d : tie.Joined1 = c .before .before .before .before .before .before .before .before .before .before .before .before .before .before .before .before .before .before .before in
+    put-as (symbol d) (places d) (hole d) (c .before .before .before .before .before .before .before .before .add-row .ensures)
 
 pub above-spec : {M : Type 1} → statement M
 above-spec =
@@ -87,7 +105,13 @@ above-spec =
     add-hole
     find-requires
     same-length
+    same-length-2
+    same-length-3
+    same-length-4
     returns
     add-row-requires
-    same-length-2
+    same-length-5
+    same-length-6
+    same-length-7
+    same-length-8
     returns-2)

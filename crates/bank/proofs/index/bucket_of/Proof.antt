@@ -30,7 +30,7 @@ bucket-requires c κs = search needs
 returns : tie.Need-returns
 returns c =
     let s = c .before .before .before .before .args in
-    (c .bucket .ensures .0 ∙ sym (bucket-is (s .mix .now) (s .words .now) _ _ (s .row .0) (sym (c .before .before .symbol-of .ensures)) (sym (c .before .places-of .ensures))), c .bucket .ensures .1)
+    (c .bucket .ensures .0 ∙ sym (bucket-is (s .mix .now) (s .size) (s .words .now) _ _ (s .row .0) (sym (c .before .before .symbol-of .ensures)) (sym (c .before .places-of .ensures))), c .bucket .ensures .1)
 
 pub bucket-of-spec : {M : Type 1} → statement M
 bucket-of-spec =

@@ -1,15 +1,11 @@
 -- `bank::index::enter` meets its contract: the row stands in front of its chain, and the head before it is next.
 -- By the law of one row more.
-use mathlib.Core.Path.{sym, _∙_}
-use native.Mathlib.Omega.{arith}
+use mathlib.Core.Path.{sym}
 use lib.ListN.{getD, length-set}
 use Rattle.bank.proofs.Laws.Chains.{indexed-more}
 use borrow.Author.Needs.{needs}
 use Rattle.bank.proofs.index.enter.Statement.{statement}
 use Rattle.bank.proofs.index.enter.Tie as tie
-
-bucket-of-requires : tie.Need-bucket-of-requires
-bucket-of-requires c κs = search needs
 
 cast-i : tie.Need-cast-i
 cast-i c = search needs
@@ -17,43 +13,46 @@ cast-i c = search needs
 mul-latest : tie.Need-mul-latest
 mul-latest c = search needs
 
-element-copy-out-latest : tie.Need-element-copy-out-latest
-element-copy-out-latest c = search needs
+slice-read-latest : tie.Need-slice-read-latest
+slice-read-latest c = search needs
 
 mul-next : tie.Need-mul-next
 mul-next c = search needs
 
-element-write-next : tie.Need-element-write-next
-element-write-next c = search needs
+slice-write-next : tie.Need-slice-write-next
+slice-write-next c = search needs
 
 mul-head : tie.Need-mul-head
 mul-head c = search needs
 
-element-write-head : tie.Need-element-write-head
-element-write-head c = search needs
+slice-write-head : tie.Need-slice-write-head
+slice-write-head c = search needs
+
+same-length : tie.Need-same-length
+same-length c = search needs
+
+same-length-2 : tie.Need-same-length-2
+same-length-2 c = search needs
 
 returns : tie.Need-returns
 returns c =
-    let s = c .before .before .before .before in
-    let b = c .before .before .bucket-of in
-    let f = length-set (s .args .head .now) (b .result) (s .args .row .0) ∙ s .pre .5 in
-    let n = length-set (s .args .next .now) (s .args .row .0) (getD (s .args .head .now) (b .result) 0) ∙ s .pre .6 in (
-      indexed-more (s .args .mix .now) (s .args .words .now) (s .args .head .now) (s .args .next .now) (s .args .row .0) (b .result) (s .pre .4) (sym (b .ensures .0)) (b .ensures .1) (s .pre .5)
-          (omega (arith, s .pre .3, s .pre .6)),
-      f,
-      n,
+    let s = c .before .before in (
+      indexed-more (s .args .mix .now) (s .args .words .now) (s .args .head .now) (s .args .next .now) (s .args .row .0) (s .args .h) (s .pre .4) (sym (s .pre .0)) (s .pre .1) (s .pre .3),
+      length-set (s .args .head .now) (s .args .h) (s .args .row .0),
+      length-set (s .args .next .now) (s .args .row .0) (getD (s .args .head .now) (s .args .h) 0),
     )
 
 pub enter-spec : {M : Type 1} → statement M
 enter-spec =
     tie.close
     (tie.spec
-    bucket-of-requires
     cast-i
     mul-latest
-    element-copy-out-latest
+    slice-read-latest
     mul-next
-    element-write-next
+    slice-write-next
     mul-head
-    element-write-head
+    slice-write-head
+    same-length
+    same-length-2
     returns)

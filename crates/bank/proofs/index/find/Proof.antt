@@ -3,6 +3,7 @@
 use mathlib.Core.Path.{sym, _∙_}
 use mathlib.Core.Bool.{true≢false}
 use Prim.Native.Nat.{ℕ, _<_}
+use lib.ListN.{length}
 use native.Mathlib.Omega.{arith}
 use borrow.Author.Needs.{needs}
 use Rattle.bank.proofs.Laws.Finding.{is-row, row-is}
@@ -15,7 +16,7 @@ use Rattle.bank.proofs.index.bucket.Reads as bucket-reads
 use Rattle.bank.proofs.index.row_is.Reads as row-is-reads
 
 abbrev Inv-loop : tie.InvT-loop
-Inv-loop words used head next mix symbol places h at₀ at = Walk mix words used symbol places at
+Inv-loop words used head next mix symbol places h at₀ at = Walk mix (length head) words used symbol places at
 
 abbrev μ-loop : tie.MeasureT-loop
 μ-loop words used head next mix symbol places h at₀ at = at
@@ -27,7 +28,7 @@ abbrev Met : Type 0
 Met = lts.After-row-is (bucket-reads.Asked, bucket-reads.Learnt, row-is-reads.Asked, row-is-reads.Learnt) reads.Pre reads.Post Inv-loop μ-loop
 
 abbrev start : Met → Start
-start c = c .before .before .before .before .before .before
+start c = c .before .before .before .before .before .before .before .before
 
 abbrev at : Met → ℕ
 at c = c .before .before .loop .at
@@ -53,12 +54,12 @@ bucket-requires c κs = search needs
 mul-at : tie.Need-mul-at Inv-loop μ-loop
 mul-at c = search needs
 
-element-copy-out-at : tie.Need-element-copy-out-at Inv-loop μ-loop
-element-copy-out-at c = search needs
+shared-slice-read-at : tie.Need-shared-slice-read-at Inv-loop μ-loop
+shared-slice-read-at c = search needs
 
 loop-holds : tie.Need-loop-holds Inv-loop μ-loop
 loop-holds c =
-    let s : Start = c .before .before .before in
+    let s : Start = c .before .before .before .before .before in
     begins (s .pre) (s .args .symbol) (s .args .t7) (c .before .bucket .result) (c .before .bucket .ensures .0) (c .before .bucket .ensures .1)
 
 row-is-requires : tie.Need-row-is-requires Inv-loop μ-loop
@@ -76,8 +77,8 @@ cast-at c = search needs
 mul-at-2 : tie.Need-mul-at-2 Inv-loop μ-loop
 mul-at-2 c = search needs
 
-element-copy-out-at-2 : tie.Need-element-copy-out-at-2 Inv-loop μ-loop
-element-copy-out-at-2 c = search needs
+shared-slice-read-at-2 : tie.Need-shared-slice-read-at-2 Inv-loop μ-loop
+shared-slice-read-at-2 c = search needs
 
 loop-less : tie.Need-loop-less Inv-loop μ-loop
 loop-less c =
@@ -93,7 +94,7 @@ loop-again c =
 
 returns-2 : tie.Need-returns-2 Inv-loop μ-loop
 returns-2 c =
-    let s : Start = c .before .before .before .before .before in
+    let s : Start = c .before .before .before .before .before .before .before in
     sym (ends (s .pre) (s .args .symbol) (s .args .t7) (c .before .loop .at) (c .loop-test .left) (c .before .loop .inv))
 
 pub find-spec : {M : Type 1} → statement M
@@ -108,13 +109,13 @@ find-spec =
     array-read-bucket-4
     bucket-requires
     mul-at
-    element-copy-out-at
+    shared-slice-read-at
     loop-holds
     row-is-requires
     returns
     cast-at
     mul-at-2
-    element-copy-out-at-2
+    shared-slice-read-at-2
     loop-less
     loop-again
     returns-2)

@@ -34,7 +34,7 @@ abbrev Turn : Type 0
 Turn = lts.In-loop (top-places-reads.Asked, top-places-reads.Learnt, find-reads.Asked, find-reads.Learnt) reads.Pre reads.Post Inv-loop μ-loop
 
 abbrev start : (t : Turn) → lts.Start (top-places-reads.Asked, top-places-reads.Learnt, find-reads.Asked, find-reads.Learnt) reads.Pre reads.Post Inv-loop μ-loop
-start t = t .before .before .before .before .before
+start t = t .before .before .before .before .before .before .before .before
 
 abbrev xs : Turn → List ℕ
 xs t = start t .args .symbols .now
@@ -64,23 +64,23 @@ sought c =
 loop-holds : tie.Need-loop-holds Inv-loop μ-loop
 unfolding backwards
 loop-holds c =
-    let s = c .before .before .before in
+    let s = c .before .before .before .before .before .before in
     (R.reading-start (storeOf (s .args .words .now) (s .args .counts .now) (s .args .used)) (s .args .symbols .now) _ (s .pre .0 .good) (s .pre .1) refl (s .pre .2), refl)
 
 shared-slice-read-symbol : tie.Need-shared-slice-read-symbol Inv-loop μ-loop
 shared-slice-read-symbol c = search needs
 
 cast-symbol : tie.Need-cast-symbol Inv-loop μ-loop
-cast-symbol c = omega (arith, c .shared-slice-known4 .given (c .before .before .loop .at))
+cast-symbol c = omega (arith, c .shared-slice-known7 .given (c .before .before .loop .at))
 
 cast-count : tie.Need-cast-count Inv-loop μ-loop
-cast-count c = omega (arith, c .shared-slice-known4 .given (c .before .before .loop .at))
+cast-count c = omega (arith, c .shared-slice-known7 .given (c .before .before .loop .at))
 
 shared-slice-read-count : tie.Need-shared-slice-read-count Inv-loop μ-loop
 shared-slice-read-count c = R.known (reading (c .before .before)) (c .before .before .loop-test .taken)
 
 cast-count-2 : tie.Need-cast-count-2 Inv-loop μ-loop
-cast-count-2 c = omega (arith, c .shared-slice-known5 .given (symbol (c .before .before)))
+cast-count-2 c = omega (arith, c .shared-slice-known8 .given (symbol (c .before .before)))
 
 top-places-requires : tie.Need-top-places-requires Inv-loop μ-loop
 top-places-requires c κs =

@@ -22,7 +22,7 @@ use Rattle.bank.proofs.listed.top_places.Reads as top-places-reads
 
 abbrev Inv-loop : tie.InvT-loop
 Inv-loop words₀ counts used holes₀ head₀ next₀ mix symbols stack₀ height₀ n₀ at₀ words holes head next stack height n at =
-    Storing words₀ counts used symbols words holes head next mix stack height n at × (length words ≡ length words₀)
+    Storing words₀ counts used symbols words holes head next mix stack height n at × (length words ≡ length words₀) × (length holes ≡ length holes₀) × (length head ≡ length head₀) × (length next ≡ length next₀)
 
 abbrev μ-loop : tie.MeasureT-loop
 μ-loop words₀ counts used holes₀ head₀ next₀ mix symbols stack₀ height₀ n₀ at₀ words holes head next stack height n at =
@@ -33,7 +33,7 @@ abbrev Turn : Type 0
 Turn = lts.In-loop (top-places-reads.Asked, top-places-reads.Learnt, row-for-reads.Asked, row-for-reads.Learnt) reads.Pre reads.Post Inv-loop μ-loop
 
 abbrev start : (t : Turn) → lts.Start (top-places-reads.Asked, top-places-reads.Learnt, row-for-reads.Asked, row-for-reads.Learnt) reads.Pre reads.Post Inv-loop μ-loop
-start t = t .before .before .before .before .before
+start t = t .before .before .before .before .before .before .before .before
 
 abbrev xs : Turn → List ℕ
 xs t = start t .args .symbols .now
@@ -63,8 +63,8 @@ called c = record { came = c .row-for .ensures }
 
 loop-holds : tie.Need-loop-holds Inv-loop μ-loop
 loop-holds c =
-    let s = c .before .before .before in
-    (S.storing-start (s .args .symbols .now) _ (s .pre .0) (s .pre .1) refl (s .pre .2), refl)
+    let s = c .before .before .before .before .before .before in
+    (S.storing-start (s .args .symbols .now) _ (s .pre .0) (s .pre .1) refl (s .pre .2), refl, refl, refl, refl)
 
 shared-slice-read-symbol : tie.Need-shared-slice-read-symbol Inv-loop μ-loop
 shared-slice-read-symbol c = search needs
@@ -96,11 +96,20 @@ enum-told : tie.Need-enum-told Inv-loop μ-loop
 enum-told c = search needs
 
 same-length : tie.Need-same-length Inv-loop μ-loop
-same-length c = c .before .before .before .before .row-for .kept .0 ∙ turn (c .before .before .before .before) .before .loop .inv .1
+same-length c = search needs
+
+same-length-2 : tie.Need-same-length-2 Inv-loop μ-loop
+same-length-2 c = search needs
+
+same-length-3 : tie.Need-same-length-3 Inv-loop μ-loop
+same-length-3 c = search needs
+
+same-length-4 : tie.Need-same-length-4 Inv-loop μ-loop
+same-length-4 c = search needs
 
 returns : tie.Need-returns Inv-loop μ-loop
 returns c =
-    let d : Called = c .before .before .before .before in
+    let d : Called = c .before .before .before .before .before .before .before .before .before .before in
     let t : Turn = turn d in
     S.ran-out (storing t) (t .loop-test .taken) (d .before .before .before .before .before .top-places .ensures) (comes-as (c .enum-told .given .1) (called d)) .came
 
@@ -109,46 +118,57 @@ enum-known-grown c = search needs
 
 sub-height : tie.Need-sub-height Inv-loop μ-loop
 sub-height c =
-    let t : Turn = turn (c .before .before .before .before .before) in
+    let t : Turn = turn (c .before .before .before .before .before .before .before .before .before .before .before) in
     R.enough (storing t .reading) (t .loop-test .taken)
 
 mul-stack : tie.Need-mul-stack Inv-loop μ-loop
 mul-stack c =
-    let t : Turn = turn (c .before .before .before .before .before) in
+    let t : Turn = turn (c .before .before .before .before .before .before .before .before .before .before .before) in
     omega (arith, R.lower (storing t .reading) (t .loop-test .taken), storing t .reading .long)
 
 array-write-stack : tie.Need-array-write-stack Inv-loop μ-loop
 array-write-stack c =
-    let t : Turn = turn (c .before .before .before .before .before) in
+    let t : Turn = turn (c .before .before .before .before .before .before .before .before .before .before .before) in
     omega (arith, R.lower (storing t .reading) (t .loop-test .taken), storing t .reading .long)
 
 add-height : tie.Need-add-height Inv-loop μ-loop
 add-height c =
-    let t : Turn = turn (c .before .before .before .before .before) in
+    let t : Turn = turn (c .before .before .before .before .before .before .before .before .before .before .before) in
     omega (arith, R.lower (storing t .reading) (t .loop-test .taken), storing t .reading .long)
 
 add-at : tie.Need-add-at Inv-loop μ-loop
 add-at c =
-    let t : Turn = turn (c .before .before .before .before .before) in
+    let t : Turn = turn (c .before .before .before .before .before .before .before .before .before .before .before) in
     omega (arith, t .loop-test .taken, storing t .reading .few)
 
 loop-less : tie.Need-loop-less Inv-loop μ-loop
 loop-less c =
-    let t : Turn = turn (c .before .before .before .before .before) in
+    let t : Turn = turn (c .before .before .before .before .before .before .before .before .before .before .before) in
     omega (arith, t .loop-test .taken)
 
 loop-again : tie.Need-loop-again Inv-loop μ-loop
 loop-again c =
-    let d : Called = c .before .before .before .before .before in
+    let d : Called = c .before .before .before .before .before .before .before .before .before .before .before in
     let t : Turn = turn d in
     let m = S.storing-more (storing t) (t .loop-test .taken) (d .before .before .before .before .before .top-places .ensures) (comes-as (c .before .grown .given .1) (called d)) in
-    (m, d .row-for .kept .0 ∙ t .before .loop .inv .1)
+    let k = d .row-for .kept in
+    let i = t .before .loop .inv in
+    (m, k .0 ∙ i .1, k .1 .1 .1 .0 ∙ i .2, k .1 .1 .1 .1 .0 ∙ i .3, k .1 .1 .1 .1 .1 .0 ∙ i .4)
 
-array-read-t35 : tie.Need-array-read-t35 Inv-loop μ-loop
-array-read-t35 c = omega arith
+array-read-t38 : tie.Need-array-read-t38 Inv-loop μ-loop
+array-read-t38 c = search needs
 
-same-length-2 : tie.Need-same-length-2 Inv-loop μ-loop
-same-length-2 c = c .before .loop .inv .1
+same-length-5 : tie.Need-same-length-5 Inv-loop μ-loop
+same-length-5 c = search needs
+
+same-length-6 : tie.Need-same-length-6 Inv-loop μ-loop
+same-length-6 c = search needs
+
+same-length-7 : tie.Need-same-length-7 Inv-loop μ-loop
+same-length-7 c = search needs
+
+same-length-8 : tie.Need-same-length-8 Inv-loop μ-loop
+same-length-8 c = search needs
 
 returns-2 : tie.Need-returns-2 Inv-loop μ-loop
 returns-2 c = S.stored (c .before .loop .inv .0) (c .loop-test .left) .came
@@ -169,6 +189,9 @@ store-spec =
     row-for-requires
     enum-told
     same-length
+    same-length-2
+    same-length-3
+    same-length-4
     returns
     enum-known-grown
     sub-height
@@ -178,6 +201,9 @@ store-spec =
     add-at
     loop-less
     loop-again
-    array-read-t35
-    same-length-2
+    array-read-t38
+    same-length-5
+    same-length-6
+    same-length-7
+    same-length-8
     returns-2)

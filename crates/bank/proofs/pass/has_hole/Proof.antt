@@ -11,11 +11,17 @@ returns c = simp (eq-eqb _ _ (c .if1 .taken))
 cast-result : tie.Need-cast-result
 cast-result c = search needs
 
-element-copy-out-result : tie.Need-element-copy-out-result
-element-copy-out-result c = search needs
+shared-slice-read-result : tie.Need-shared-slice-read-result
+shared-slice-read-result c = search needs
 
 returns-2 : tie.Need-returns-2
 returns-2 c = simp (ne-eqb _ _ (c .before .if1 .left))
 
 pub has-hole-spec : {M : Type 1} → statement M
-has-hole-spec = tie.close (tie.spec returns cast-result element-copy-out-result returns-2)
+has-hole-spec =
+    tie.close
+    (tie.spec
+    returns
+    cast-result
+    shared-slice-read-result
+    returns-2)

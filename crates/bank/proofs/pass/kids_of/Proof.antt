@@ -33,7 +33,7 @@ abbrev Known : Type 0
 Known = tie.After-has-hole Inv-loop μ-loop
 
 abbrev start : Read → tie.Start Inv-loop μ-loop
-start c = c .before .before .before .before .before .before
+start c = c .before .before .before .before .before .before .before
 
 abbrev words : Read → List ℕ
 words c = start c .args .words .now
@@ -67,12 +67,12 @@ unused-zero-requires c κs = search needs
 
 returns : tie.Need-returns Inv-loop μ-loop
 returns c =
-    let s = c .before .before .before .args in
+    let s = c .before .before .before .before .args in
     unused-breaks (s .words .now) (s .holes .now) (s .row .0) (s .count) (sym (c .before .unused-zero .ensures) ∙ not-true _ (c .if1 .taken))
 
 loop-holds : tie.Need-loop-holds Inv-loop μ-loop
 loop-holds c =
-    let s = c .before .before .before .args in
+    let s = c .before .before .before .before .args in
     (omega arith, unused-passes (s .words .now) (s .holes .now) (s .row .0) (s .count) (sym (c .before .unused-zero .ensures) ∙ not-false _ (c .if1 .left)))
 
 cast-kid-of : tie.Need-cast-kid-of Inv-loop μ-loop
@@ -123,7 +123,7 @@ loop-again c =
 
 returns-4 : tie.Need-returns-4 Inv-loop μ-loop
 returns-4 c =
-    let s = c .before .before .before .before .before in
+    let s = c .before .before .before .before .before .before in
     sym (said (holeBy (s .args .holes .now)) (s .args .words .now) (s .args .row .0) (s .args .count) (s .pre .2) (c .before .loop .k) (c .before .loop .hole) (c .loop-test .left)) ∙
     c .before .loop .inv .1
 

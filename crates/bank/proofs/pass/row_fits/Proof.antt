@@ -15,7 +15,7 @@ abbrev Children : Type 0
 Children = tie.After-kids-of
 
 abbrev start : Children → tie.Start
-start c = c .before .before .before .before .before .before .before .before
+start c = c .before .before .before .before .before .before .before .before .before
 
 known : (c : Children) → symbolIn (start c .args .words .now) (start c .args .row .0) < length (start c .args .counts .now)
 known c = omega (arith, c .before .before .before .before .before .symbol-of .ensures, c .before .before .before .before .if1 .left)
@@ -36,13 +36,13 @@ cast-if1 : tie.Need-cast-if1
 cast-if1 c = search needs
 
 returns : tie.Need-returns
-returns c = let s = c .before .before .before .before in says-unknown (s .pre .0) (s .pre .1) (omega (arith, c .before .symbol-of .ensures, c .if1 .taken))
+returns c = let s = c .before .before .before .before .before in says-unknown (s .pre .0) (s .pre .1) (omega (arith, c .before .symbol-of .ensures, c .if1 .taken))
 
 answer-of-requires : tie.Need-answer-of-requires
 answer-of-requires c κs = search needs
 
 returns-2 : tie.Need-returns-2
-returns-2 c = let s = c .before .before .before .before .before .before in says-answered (s .pre .0) (s .pre .1) (omega (arith, c .before .answer-of .ensures, c .if2 .taken))
+returns-2 c = let s = c .before .before .before .before .before .before .before in says-answered (s .pre .0) (s .pre .1) (omega (arith, c .before .answer-of .ensures, c .if2 .taken))
 
 cast-kids-of : tie.Need-cast-kids-of
 cast-kids-of c = search needs
@@ -52,10 +52,10 @@ shared-slice-read-kids-of c = search needs
 
 kids-of-requires : tie.Need-kids-of-requires
 kids-of-requires c κs =
-    let s = c .before .before .before .before .before .before .before in
+    let s = c .before .before .before .before .before .before .before .before in
     let r = s .pre .0 in
     let e = c .before .before .before .before .symbol-of .ensures in
-    (omega (arith, r .room), omega (arith, r .few), rw e (small r (s .pre .1)), r .holes-long)
+    (omega (arith, r .room), omega (arith, r .few), rw e (small r (s .pre .1)), omega (arith, r .holes-long, s .pre .1))
 
 enum-told : tie.Need-enum-told
 enum-told c = search needs

@@ -1,6 +1,6 @@
 -- `offer::take_offer` meets its contract: rows that run out are put back; else the step goes on from the tables with the record in hand,
 -- and where it runs short the answer is set back and the rows put back.
-use mathlib.Core.Path.{_≡_, refl, sym, ap}
+use mathlib.Core.Path.{_≡_, refl, sym, ap, _∙_}
 use mathlib.Core.List.{[]}
 use native.Mathlib.Omega.{arith}
 use borrow.Author.Needs.{needs, length-unmapped}
@@ -15,6 +15,7 @@ use Rattle.model.proofs.Laws.Trees.{recordFault-parses}
 use Rattle.model.proofs.Laws.Step.{offering}
 use Rattle.bank.proofs.Laws.Coming.{Comes, comes-as}
 use Rattle.step.specs.Stepping.{countsIn}
+use Rattle.model.specs.declared.Lists.{Lists}
 use Rattle.learner.proofs.Laws.Ends.{Ends}
 use Rattle.learner.proofs.Laws.Offered.{Given, StoredAt, full-size, full-held, full-called, offer-stored, row-within, offer-stepping, offer-in-hand, no-question, not-accepted, short-within, back-size, back-held, words-back, short-called, left-size, left-fit, left-called}
 use Rattle.learner.proofs.offer.take_offer.Statement.{statement}
@@ -105,7 +106,7 @@ given s =
     }
 
 abbrev begun : Stored → Start
-begun c = c .before .before .before .before .before .before .before .before .before .before .before .before .before .before .before .before
+begun c = c .before .before .before .before .before .before .before .before .before .before .before .before .before .before .before .before .before .before .before .before .before
 
 -- what storing came to
 came : (c : Stored) →
@@ -114,7 +115,7 @@ came : (c : Stored) →
 came c = record { came = c .store .ensures }
 
 abbrev storing : AtRow → Stored
-storing c = c .before .before .before .before
+storing c = c .before .before .before .before .before .before .before .before .before .before
 
 abbrev first : AtRow → Start
 first c = begun (storing c)
@@ -144,7 +145,7 @@ abbrev reading : Advanced → Reading
 reading c = c .before .before .before .before .before .before .before .before .before .before .before
 
 abbrev saving : Advanced → Saving
-saving c = c .before .before .before .before .before .before .before .before .before .before .before .before .before .before .before .before .before .before .before .before .before .before .before .before .before .before
+saving c = c .before .before .before .before .before .before .before .before .before .before .before .before .before .before .before .before .before .before .before .before .before .before .before .before .before .before .before .before .before .before .before .before
 
 ended : (c : Advanced) →
     Ends (marking c .set-answer .last .0) (taking c .taken-up .result) (advance (tablesOf (marking c .set-answer .last .0) (taking c .taken-up .result))) (c .advance .result) (c .advance .last .0)
@@ -152,7 +153,7 @@ ended c = record { ended = c .advance .ensures }
 
 -- the answer set back after a shortage
 abbrev short-of : Reset → Advanced
-short-of c = c .before .before .before .before .before
+short-of c = c .before .before .before .before .before .before .before .before .before .before .before .before .before
 
 shortage : (c : Reset) → short-of c .advance .result .number ≡ 0 → ⊥
 shortage c = c .before .before .if1 .taken
@@ -165,19 +166,19 @@ save-requires c κs = search needs
 
 array-share-prefix-counts : tie.Need-array-share-prefix-counts
 array-share-prefix-counts c =
-    let s = c .before .before .before .before .before .before .before .before .before .before .before in
+    let s = c .before .before .before .before .before .before .before .before .before .before .before .before .before .before .before .before in
     let e : length (s .args .lists .counts) ≡ 64 = search needs in
     omega (arith, listsFit-facts (s .args .lists) (s .pre .1) .letters)
 
 slice-aggregate-store : tie.Need-slice-aggregate-store
 slice-aggregate-store c =
-    let s = c .before .before .before .before .before .before .before .before .before .before .before .before in
+    let s = c .before .before .before .before .before .before .before .before .before .before .before .before .before .before .before .before .before in
     let e : length (s .args .lists .counts) ≡ 64 = search needs in
     sym (length-take-le (s .args .lists .letters) (s .args .lists .counts) (omega (arith, listsFit-facts (s .args .lists) (s .pre .1) .letters)))
 
 store-requires : tie.Need-store-requires
 store-requires c κs =
-    let s = c .before .before .before .before .before .before .before .before .before .before .before .before .before .before .before in
+    let s = c .before .before .before .before .before .before .before .before .before .before .before .before .before .before .before .before .before .before .before .before in
     let o = offering (tablesOf (s .args .words .now) (s .args .lists)) (s .args .symbols .now) (s .args .mark) (s .pre .3) in
     (s .pre .4 .ready, o .parsed, recordFault-parses (countsIn (s .args .lists)) (s .args .symbols .now) (o .fits) .2)
 
@@ -186,9 +187,9 @@ enum-told c = search needs
 
 restore-requires : tie.Need-restore-requires
 restore-requires c κs =
-    let f : Stored = c .before .before .before .before .before .before in
+    let f : Stored = c .before .before .before .before .before .before .before .before .before .before .before .before in
     let d = comes-as (c .before .before .enum-told .given .1) (came f) in
-    (full-held (given (begun f)) d, omega (arith, full-size (given (begun f)) d, c .before .before .before .before .before .before .before .before .before .before .before .before .before .before .save .ensures .long))
+    (full-held (given (begun f)) d, omega (arith, full-size (given (begun f)) d, c .before .before .before .before .before .before .before .before .before .before .before .before .before .before .before .before .before .before .before .before .save .ensures .long))
 
 refuse-requires : tie.Need-refuse-requires
 refuse-requires c κs = search needs
@@ -200,7 +201,7 @@ answer-of-requires : tie.Need-answer-of-requires
 answer-of-requires c κs = let a : AtRow = c .before .before in row-within (given (first a)) (stored a)
 
 add-set-answer : tie.Need-add-set-answer
-add-set-answer c = search needs
+add-set-answer c = omega (arith, c .before .before .before .before .before .before .before .before .before .before .before .before .before .before .before .before .before .before .before .before .before .before .before .before .before .before .before .before .before .before .before .before .before .before .before .fits .mark)
 
 set-answer-requires : tie.Need-set-answer-requires
 set-answer-requires c κs = let a : AtRow = c .before .before .before .before in row-within (given (first a)) (stored a)
@@ -214,11 +215,11 @@ advance-requires c κs =
     let g = given (first a) in
     let p = c .before .before .before .before .before .before .before .before .set-answer .ensures in
     let u = c .before .before .before .before .before .taken-up .ensures in
-    (offer-stepping g (stored a) p u, g .working .observed .sized .long, (λ n. offer-in-hand g (stored a) p u), (λ z. absurd (omega (arith, z, offer-in-hand g (stored a) p u .fits .record-row .some))), no-question g (stored a) p u, not-accepted g (stored a) p u)
+    (offer-stepping g (stored a) p u, omega (arith, ap (λ (o : Lists). o .rules) u, c .before .before .before .before .before .before .before .before .before .before .before .before .before .before .before .before .before .before .before .before .before .before .before .before .before .before .before .before .before .before .before .before .before .before .before .before .before .before .before .before .before .before .before .before .pre .6), (λ n. offer-in-hand g (stored a) p u), (λ z. absurd (omega (arith, z, offer-in-hand g (stored a) p u .fits .record-row .some))), no-question g (stored a) p u, not-accepted g (stored a) p u)
 
 set-answer-requires-2 : tie.Need-set-answer-requires-2
 set-answer-requires-2 c κs =
-    let d : Advanced = c .before .before .before .before in
+    let d : Advanced = c .before .before .before .before .before .before .before .before .before .before .before .before in
     let a = at-row d in
     short-within (given (first a)) (stored a) (marking d .set-answer .ensures) (taking d .taken-up .ensures) (ended d) (c .before .if1 .taken)
 
@@ -238,16 +239,22 @@ refuse-requires-2 : tie.Need-refuse-requires-2
 refuse-requires-2 c κs = search needs
 
 same-length : tie.Need-same-length
-same-length c =
-    let e : Reset = c .before .before .before .before .before .before .before .before in
-    let d = short-of e in
-    let a = at-row d in
-    ap length
-    (words-back (given (first a)) (stored a) (marking d .set-answer .ensures) (taking d .taken-up .ensures) (ended d) (shortage e) (reading d .answer-of .ensures) (e .set-answer2 .ensures) (saving d .save .ensures)
-    (c .before .before .before .restore2 .ensures))
+same-length c = c .before .before .before .restore2 .kept .0 ∙ c .before .before .before .before .before .before .before .before .set-answer2 .kept .0 ∙ c .before .before .before .before .before .before .before .before .before .before .before .before .before .before .before .before .before .before .before .before .before .advance .kept .0 ∙ c .before .before .before .before .before .before .before .before .before .before .before .before .before .before .before .before .before .before .before .before .before .before .before .before .before .before .before .before .before .before .set-answer .kept .0 ∙ c .before .before .before .before .before .before .before .before .before .before .before .before .before .before .before .before .before .before .before .before .before .before .before .before .before .before .before .before .before .before .before .before .before .before .before .before .before .before .before .before .before .before .before .before .before .store .kept .0
 
 same-length-2 : tie.Need-same-length-2
-same-length-2 c = c .before .before .before .before .before .before .before .before .before .before .before .before .before .before .before .before .before .before .before .before .before .before .before .before .before .before .before .before .before .before .before .before .before .before .before .before .before .before .before .save .kept .1 .1 .0
+same-length-2 c = c .before .before .before .before .before .before .before .before .before .before .before .before .before .before .before .before .before .before .before .before .before .before .before .before .before .before .before .before .before .before .before .before .before .before .before .before .before .before .before .before .before .before .before .before .before .before .before .before .before .before .before .before .before .save .kept .1 .1 .0
+
+same-length-3 : tie.Need-same-length-3
+same-length-3 c = c .before .before .before .before .before .before .before .before .before .before .before .before .before .before .before .before .before .before .before .before .before .advance .kept .1 .1 .0 ∙ c .before .before .before .before .before .before .before .before .before .before .before .before .before .before .before .before .before .before .before .before .before .before .before .before .before .before .before .before .before .before .before .before .before .before .before .before .before .before .before .before .before .before .before .before .before .store .kept .1 .1 .1 .0
+
+same-length-4 : tie.Need-same-length-4
+same-length-4 c = c .before .before .before .before .before .before .before .before .before .before .before .before .before .before .before .before .before .before .before .before .before .advance .kept .1 .1 .1 .0 ∙ c .before .before .before .before .before .before .before .before .before .before .before .before .before .before .before .before .before .before .before .before .before .before .before .before .before .before .before .before .before .before .before .before .before .before .before .before .before .before .before .before .before .before .before .before .before .store .kept .1 .1 .1 .1 .0
+
+same-length-5 : tie.Need-same-length-5
+same-length-5 c = c .before .before .before .before .before .before .before .before .before .before .before .before .before .before .before .before .before .before .before .before .before .advance .kept .1 .1 .1 .1 .0 ∙ c .before .before .before .before .before .before .before .before .before .before .before .before .before .before .before .before .before .before .before .before .before .before .before .before .before .before .before .before .before .before .before .before .before .before .before .before .before .before .before .before .before .before .before .before .before .store .kept .1 .1 .1 .1 .1 .0
+
+same-length-6 : tie.Need-same-length-6
+same-length-6 c = search needs
 
 returns : tie.Need-returns
 returns c =
@@ -259,33 +266,51 @@ returns c =
 
 told-requires : tie.Need-told-requires
 told-requires c κs =
-    let d : Advanced = c .before .before .before .before .before in
+    let d : Advanced = c .before .before .before .before .before .before .before .before .before .before .before .before .before in
     let a = at-row d in
     left-fit (given (first a)) (stored a) (marking d .set-answer .ensures) (taking d .taken-up .ensures) (ended d) (c .before .before .if1 .left)
 
-same-length-3 : tie.Need-same-length-3
-same-length-3 c = search needs
+same-length-7 : tie.Need-same-length-7
+same-length-7 c = search needs
 
-same-length-4 : tie.Need-same-length-4
-same-length-4 c = c .before .before .before .before .before .before .before .before .before .before .before .before .before .before .before .before .before .before .save .kept .1 .1 .0
+same-length-8 : tie.Need-same-length-8
+same-length-8 c = c .before .before .before .before .before .before .before .before .before .before .before .before .before .before .before .before .before .before .before .before .before .before .before .before .save .kept .1 .1 .0
+
+same-length-9 : tie.Need-same-length-9
+same-length-9 c = search needs
+
+same-length-10 : tie.Need-same-length-10
+same-length-10 c = search needs
+
+same-length-11 : tie.Need-same-length-11
+same-length-11 c = search needs
 
 returns-2 : tie.Need-returns-2
 returns-2 c =
-    let f : Stored = c .before .before .before .before .before .before .before .before .before .before in
-    full-called (given (begun f)) (comes-as (c .before .before .before .before .before .before .enum-told .given .1) (came f)) (c .before .before .before .before .before .before .before .before .before .before .before .before .before .before .before .before .before .before .save .ensures) (c .before .before .before .restore .ensures) (c .refuse .ensures .0) (c .refuse .ensures .1)
+    let f : Stored = c .before .before .before .before .before .before .before .before .before .before .before .before .before .before .before .before in
+    full-called (given (begun f)) (comes-as (c .before .before .before .before .before .before .enum-told .given .1) (came f)) (c .before .before .before .before .before .before .before .before .before .before .before .before .before .before .before .before .before .before .before .before .before .before .before .before .save .ensures) (c .before .before .before .restore .ensures) (c .refuse .ensures .0) (c .refuse .ensures .1)
 
-same-length-5 : tie.Need-same-length-5
-same-length-5 c =
-    let d : Advanced = c .before .before .before .before .before .before in
-    let a = at-row d in
-    left-size (given (first a)) (stored a) (marking d .set-answer .ensures) (taking d .taken-up .ensures) (ended d) (c .before .before .before .if1 .left)
+same-length-12 : tie.Need-same-length-12
+same-length-12 c = c .before .before .before .before .before .before .before .before .before .before .before .before .before .before .advance .kept .0 ∙ c .before .before .before .before .before .before .before .before .before .before .before .before .before .before .before .before .before .before .before .before .before .before .before .set-answer .kept .0 ∙ c .before .before .before .before .before .before .before .before .before .before .before .before .before .before .before .before .before .before .before .before .before .before .before .before .before .before .before .before .before .before .before .before .before .before .before .before .before .before .store .kept .0
 
-same-length-6 : tie.Need-same-length-6
-same-length-6 c = c .before .before .before .before .before .before .before .before .before .before .before .before .before .before .before .before .before .before .before .before .before .before .before .before .before .before .before .before .before .before .before .before .save .kept .1 .1 .0
+same-length-13 : tie.Need-same-length-13
+same-length-13 c = c .before .before .before .before .before .before .before .before .before .before .before .before .before .before .before .before .before .before .before .before .before .before .before .before .before .before .before .before .before .before .before .before .before .before .before .before .before .before .before .before .before .before .before .before .before .before .save .kept .1 .1 .0
+
+same-length-14 : tie.Need-same-length-14
+same-length-14 c = c .before .before .before .before .before .before .before .before .before .before .before .before .before .before .advance .kept .1 .1 .0 ∙ c .before .before .before .before .before .before .before .before .before .before .before .before .before .before .before .before .before .before .before .before .before .before .before .before .before .before .before .before .before .before .before .before .before .before .before .before .before .before .store .kept .1 .1 .1 .0
+
+same-length-15 : tie.Need-same-length-15
+same-length-15 c = c .before .before .before .before .before .before .before .before .before .before .before .before .before .before .advance .kept .1 .1 .1 .0 ∙ c .before .before .before .before .before .before .before .before .before .before .before .before .before .before .before .before .before .before .before .before .before .before .before .before .before .before .before .before .before .before .before .before .before .before .before .before .before .before .store .kept .1 .1 .1 .1 .0
+
+same-length-16 : tie.Need-same-length-16
+same-length-16 c = c .before .before .before .before .before .before .before .before .before .before .before .before .before .before .advance .kept .1 .1 .1 .1 .0 ∙ c .before .before .before .before .before .before .before .before .before .before .before .before .before .before .before .before .before .before .before .before .before .before .before .before .before .before .before .before .before .before .before .before .before .before .before .before .before .before .store .kept .1 .1 .1 .1 .1 .0
+
+same-length-17 : tie.Need-same-length-17
+same-length-17 c = search needs
 
 returns-3 : tie.Need-returns-3
 returns-3 c =
-    let d : Advanced = c .before .before .before .before .before .before in
+    let d : Advanced = c .before .before .before .before .before .before .before .before .before .before .before .before .before .before in
     let a = at-row d in
     left-called (given (first a)) (stored a) (marking d .set-answer .ensures) (taking d .taken-up .ensures) (ended d) (c .before .before .before .if1 .left) (c .told .ensures) refl
 
@@ -312,11 +337,22 @@ take-offer-spec =
     refuse-requires-2
     same-length
     same-length-2
-    returns
-    told-requires
     same-length-3
     same-length-4
-    returns-2
     same-length-5
     same-length-6
+    returns
+    told-requires
+    same-length-7
+    same-length-8
+    same-length-9
+    same-length-10
+    same-length-11
+    returns-2
+    same-length-12
+    same-length-13
+    same-length-14
+    same-length-15
+    same-length-16
+    same-length-17
     returns-3)

@@ -22,4 +22,10 @@ returns-2 c = ap isOpen (sym (c .enum-told2 .given .1) ∙ c .before .before .fi
 
 pub is-missing-spec : {M : Type 1} → statement M
 is-missing-spec =
-    tie.close (tie.spec first-unknown-requires enum-told enum-told-2 returns returns-2)
+    tie.close
+    (tie.spec
+    first-unknown-requires
+    enum-told
+    enum-told-2
+    returns
+    returns-2)

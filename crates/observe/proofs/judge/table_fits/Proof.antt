@@ -30,7 +30,7 @@ few-fit-requires c κs = search needs
 
 returns : tie.Need-returns
 returns c =
-    let s = c .before .before .args in
+    let s = c .before .before .before .args in
     many-contexts (fewFit (s .states) (s .rules) (s .contexts) (s .missing)) (differ (s .table .now) (s .places .now) (s .states) (s .contexts)) (yes (s .table .now) (s .rules) (s .contexts)) (s .missing) (once (s .table .now) (s .places .now) (s .states) (s .rules) (s .contexts)) (sym (c .before .few-fit .ensures) ∙ not-true (c .before .few-fit .result) (c .if1 .taken))
 
 all-differ-requires : tie.Need-all-differ-requires
@@ -38,7 +38,7 @@ all-differ-requires c κs = search needs
 
 returns-2 : tie.Need-returns-2
 returns-2 c =
-    let s = c .before .before .before .before .args in
+    let s = c .before .before .before .before .before .args in
     two-alike (fewFit (s .states) (s .rules) (s .contexts) (s .missing)) (differ (s .table .now) (s .places .now) (s .states) (s .contexts)) (yes (s .table .now) (s .rules) (s .contexts)) (s .missing) (once (s .table .now) (s .places .now) (s .states) (s .rules) (s .contexts)) (sym (c .before .before .before .few-fit .ensures) ∙ not-false (c .before .before .before .few-fit .result) (c .before .before .if1 .left)) (sym (c .before .all-differ .ensures) ∙ not-true (c .before .all-differ .result) (c .if2 .taken))
 
 all-yes-requires : tie.Need-all-yes-requires
@@ -46,12 +46,12 @@ all-yes-requires c κs = search needs
 
 returns-3 : tie.Need-returns-3
 returns-3 c =
-    let s = c .before .before .before .before .before .before .args in
+    let s = c .before .before .before .before .before .before .before .args in
     none-yes (fewFit (s .states) (s .rules) (s .contexts) (s .missing)) (differ (s .table .now) (s .places .now) (s .states) (s .contexts)) (yes (s .table .now) (s .rules) (s .contexts)) (s .missing) (once (s .table .now) (s .places .now) (s .states) (s .rules) (s .contexts)) (sym (c .before .before .before .before .before .few-fit .ensures) ∙ not-false (c .before .before .before .before .before .few-fit .result) (c .before .before .before .before .if1 .left)) (sym (c .before .before .before .all-differ .ensures) ∙ not-false (c .before .before .before .all-differ .result) (c .before .before .if2 .left)) (sym (c .before .all-yes .ensures) ∙ not-true (c .before .all-yes .result) (c .if3 .taken))
 
 returns-4 : tie.Need-returns-4
 returns-4 c =
-    let s = c .before .before .before .before .before .before .before .args in
+    let s = c .before .before .before .before .before .before .before .before .args in
     missing-passes (fewFit (s .states) (s .rules) (s .contexts) (s .missing)) (differ (s .table .now) (s .places .now) (s .states) (s .contexts)) (yes (s .table .now) (s .rules) (s .contexts)) (s .missing) (once (s .table .now) (s .places .now) (s .states) (s .rules) (s .contexts)) (sym (c .before .before .before .before .before .before .few-fit .ensures) ∙ not-false (c .before .before .before .before .before .before .few-fit .result) (c .before .before .before .before .before .if1 .left)) (sym (c .before .before .before .before .all-differ .ensures) ∙ not-false (c .before .before .before .before .all-differ .result) (c .before .before .before .if2 .left)) (sym (c .before .before .all-yes .ensures) ∙ not-false (c .before .before .all-yes .result) (c .before .if3 .left)) (c .if4 .taken)
 
 all-once-requires : tie.Need-all-once-requires
@@ -59,7 +59,7 @@ all-once-requires c κs = search needs
 
 returns-5 : tie.Need-returns-5
 returns-5 c =
-    let s = c .before .before .before .before .before .before .before .before .args in
+    let s = c .before .before .before .before .before .before .before .before .before .args in
     c .all-once .ensures ∙ once-decides (fewFit (s .states) (s .rules) (s .contexts) (s .missing)) (differ (s .table .now) (s .places .now) (s .states) (s .contexts)) (yes (s .table .now) (s .rules) (s .contexts)) (s .missing) (once (s .table .now) (s .places .now) (s .states) (s .rules) (s .contexts)) (sym (c .before .before .before .before .before .before .before .few-fit .ensures) ∙ not-false (c .before .before .before .before .before .before .before .few-fit .result) (c .before .before .before .before .before .before .if1 .left)) (sym (c .before .before .before .before .before .all-differ .ensures) ∙ not-false (c .before .before .before .before .before .all-differ .result) (c .before .before .before .before .if2 .left)) (sym (c .before .before .before .all-yes .ensures) ∙ not-false (c .before .before .before .all-yes .result) (c .before .before .if3 .left)) (c .before .if4 .left)
 
 pub table-fits-spec : {M : Type 1} → statement M

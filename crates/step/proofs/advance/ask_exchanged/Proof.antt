@@ -28,7 +28,7 @@ abbrev Filled : Type 0
 Filled = lts.After-fill (fill-reads.Asked, fill-reads.Learnt, short-reads.Asked, short-reads.Learnt, asking-reads.Asked, asking-reads.Learnt) reads.Pre reads.Post
 
 abbrev begun : Filled → Start
-begun c = c .before .before .before .before .before .before .before .before .before
+begun c = c .before .before .before .before .before .before .before .before .before .before .before .before .before
 
 long : (s : Start) → Long (s .args .lists)
 long s =
@@ -50,17 +50,17 @@ cast-letters c = search needs
 
 array-share-prefix-counts : tie.Need-array-share-prefix-counts
 array-share-prefix-counts c =
-    let s : Start = c .before .before .before .before in
+    let s : Start = c .before .before .before .before .before .before .before .before in
     omega (arith, long s .counts, listsFit-facts (s .args .lists) (s .pre .0 .fit) .letters)
 
 slice-aggregate-fill : tie.Need-slice-aggregate-fill
 slice-aggregate-fill c =
-    let s : Start = c .before .before .before .before .before in
+    let s : Start = c .before .before .before .before .before .before .before .before .before in
     sym (length-take-le (s .args .lists .letters) (s .args .lists .counts) (omega (arith, long s .counts, listsFit-facts (s .args .lists) (s .pre .0 .fit) .letters)))
 
 fill-requires : tie.Need-fill-requires
 fill-requires c κs =
-    let s : Start = c .before .before .before .before .before .before .before .before in
+    let s : Start = c .before .before .before .before .before .before .before .before .before .before .before .before in
     let l = s .args .lists in
     (s .pre .0 .ready, s .pre .1, omega (arith, s .pre .2 .within, used-of (s .args .words .now) (countsIn l) (l .used)), s .pre .3, s .pre .4)
 
@@ -79,18 +79,36 @@ asking-requires c κs = search needs
 same-length : tie.Need-same-length
 same-length c = search needs
 
-returns : tie.Need-returns
-returns c =
-    let f : Filled = c .before .before .before .before .before in
-    let s : Start = begun f in
-    no-rows (s .pre .0) (long s) _ (s .pre .4) (s .args .hand .0) (s .args .rep .0) (s .pre .3) (c .short .result) (comes-as (c .before .enum-told .given .1) (came f)) (c .short .ensures .0) .ended
-
 same-length-2 : tie.Need-same-length-2
 same-length-2 c = search needs
 
+same-length-3 : tie.Need-same-length-3
+same-length-3 c = search needs
+
+same-length-4 : tie.Need-same-length-4
+same-length-4 c = search needs
+
+returns : tie.Need-returns
+returns c =
+    let f : Filled = c .before .before .before .before .before .before .before .before .before .before .before in
+    let s : Start = begun f in
+    no-rows (s .pre .0) (long s) _ (s .pre .4) (s .args .hand .0) (s .args .rep .0) (s .pre .3) (c .short .result) (comes-as (c .before .enum-told .given .1) (came f)) (c .short .ensures .0) .ended
+
+same-length-5 : tie.Need-same-length-5
+same-length-5 c = search needs
+
+same-length-6 : tie.Need-same-length-6
+same-length-6 c = search needs
+
+same-length-7 : tie.Need-same-length-7
+same-length-7 c = search needs
+
+same-length-8 : tie.Need-same-length-8
+same-length-8 c = search needs
+
 returns-2 : tie.Need-returns-2
 returns-2 c =
-    let f : Filled = c .before .before .before .before .before .before in
+    let f : Filled = c .before .before .before .before .before .before .before .before .before .before .before .before in
     let s : Start = begun f in
     asks-filled (s .pre .0) (long s) _ (s .pre .4) (s .args .hand .0) (s .args .rep .0) (s .pre .3) (record { number = 0; lists = c .asking .result }) (comes-as (c .before .before .row .given .1) (came f)) refl (c .asking .ensures) .ended
 
@@ -107,6 +125,12 @@ ask-exchanged-spec =
     enum-known-row
     asking-requires
     same-length
-    returns
     same-length-2
+    same-length-3
+    same-length-4
+    returns
+    same-length-5
+    same-length-6
+    same-length-7
+    same-length-8
     returns-2)

@@ -28,10 +28,10 @@ cast-letters : tie.Need-cast-letters
 cast-letters c = search needs
 
 array-share-prefix-counts : tie.Need-array-share-prefix-counts
-array-share-prefix-counts c = letters (c .before .before .before .before .before .before)
+array-share-prefix-counts c = letters (c .before .before .before .before .before .before .before .before .before .before .before .before .before)
 
 slice-aggregate-descend : tie.Need-slice-aggregate-descend
-slice-aggregate-descend c = letters-long (c .before .before .before .before .before .before .before)
+slice-aggregate-descend c = letters-long (c .before .before .before .before .before .before .before .before .before .before .before .before .before .before)
 
 cast-descend : tie.Need-cast-descend
 cast-descend c = search needs
@@ -43,13 +43,15 @@ cast-descend-3 : tie.Need-cast-descend-3
 cast-descend-3 c = search needs
 
 descend-requires : tie.Need-descend-requires
-descend-requires c κs = search needs
+descend-requires c κs =
+    let s : Start = c .before .before .before .before .before .before .before .before .before .before .before .before .before .before .before .before .before .before .before .before .before .before .before in
+    (s .pre .0 .ready, s .pre .1 .handling, s .pre .2, s .pre .3, s .pre .4)
 
 array-share-prefix-counts-2 : tie.Need-array-share-prefix-counts-2
-array-share-prefix-counts-2 c = letters (c .before .before .before .before .before .before .before .before .before .before .before .before .before .before .before .before .before)
+array-share-prefix-counts-2 c = letters (c .before .before .before .before .before .before .before .before .before .before .before .before .before .before .before .before .before .before .before .before .before .before .before .before .before .before .before .before .before .before)
 
 slice-aggregate-search : tie.Need-slice-aggregate-search
-slice-aggregate-search c = letters-long (c .before .before .before .before .before .before .before .before .before .before .before .before .before .before .before .before .before .before)
+slice-aggregate-search c = letters-long (c .before .before .before .before .before .before .before .before .before .before .before .before .before .before .before .before .before .before .before .before .before .before .before .before .before .before .before .before .before .before .before)
 
 cast-search : tie.Need-cast-search
 cast-search c = search needs
@@ -62,11 +64,20 @@ cast-search-3 c = search needs
 
 search-requires : tie.Need-search-requires
 search-requires c κs =
-    let s : Start = c .before .before .before .before .before .before .before .before .before .before .before .before .before .before .before .before .before .before .before .before .before .before .before .before .before .before .before in
-    (s .pre .0 .ready, s .pre .1 .handling, c .before .before .before .before .before .before .before .before .before .before .descend .ensures, s .pre .1 .fits)
+    let s : Start = c .before .before .before .before .before .before .before .before .before .before .before .before .before .before .before .before .before .before .before .before .before .before .before .before .before .before .before .before .before .before .before .before .before .before .before .before .before .before .before .before in
+    (s .pre .0 .ready, s .pre .1 .handling, c .before .before .before .before .before .before .before .before .before .before .before .before .before .before .before .before .descend .ensures, s .pre .1 .fits)
+
+same-length : tie.Need-same-length
+same-length c = search needs
+
+same-length-2 : tie.Need-same-length-2
+same-length-2 c = search needs
+
+same-length-3 : tie.Need-same-length-3
+same-length-3 c = search needs
 
 returns : tie.Need-returns
-returns c = search needs
+returns c = (c .before .before .before .before .before .before .before .before .before .before .before .before .before .before .before .before .before .descend .ensures, c .search .ensures)
 
 pub find-spec : {M : Type 1} → statement M
 find-spec =
@@ -85,4 +96,7 @@ find-spec =
     cast-search-2
     cast-search-3
     search-requires
+    same-length
+    same-length-2
+    same-length-3
     returns)

@@ -41,7 +41,7 @@ abbrev Settled : Type 0
 Settled = lts.After-settle claims reads.Pre reads.Post
 
 abbrev start : Settled → Start
-start c = c .before .before .before .before .before .before .before .before .before .before .before .before .before .before .before .before .before .before .before
+start c = c .before .before .before .before .before .before .before .before .before .before .before .before .before .before .before .before .before .before .before .before .before .before .before
 
 -- S as settling left it
 abbrev states : Settled → List ℕ
@@ -70,11 +70,11 @@ cast-letters : tie.Need-cast-letters
 cast-letters c = search needs
 
 array-share-prefix-counts : tie.Need-array-share-prefix-counts
-array-share-prefix-counts c = letters (c .before .before .before .before .before .before .before)
+array-share-prefix-counts c = letters (c .before .before .before .before .before .before .before .before .before .before .before)
 
 slice-aggregate-settle : tie.Need-slice-aggregate-settle
 slice-aggregate-settle c =
-    let s : Start = c .before .before .before .before .before .before .before .before in
+    let s : Start = c .before .before .before .before .before .before .before .before .before .before .before .before in
     sym (length-take-le (s .args .lists .letters) (s .args .lists .counts) (letters s))
 
 cast-settle : tie.Need-cast-settle
@@ -88,7 +88,7 @@ cast-settle-3 c = search needs
 
 settle-requires : tie.Need-settle-requires
 settle-requires c κs =
-    let s : Start = c .before .before .before .before .before .before .before .before .before .before .before .before .before .before .before .before .before .before in
+    let s : Start = c .before .before .before .before .before .before .before .before .before .before .before .before .before .before .before .before .before .before .before .before .before .before in
     (s .pre .0 .ready, settling (s .pre .0) (arrays s), s .pre .1)
 
 enum-told : tie.Need-enum-told
@@ -124,36 +124,96 @@ proposing-requires c κs = search needs
 same-length : tie.Need-same-length
 same-length c = search needs
 
-returns : tie.Need-returns
-returns c = ends (c .before .before .before .before .before) Step.NoRows (c .short .result) (c .before .enum-told .given .1) (c .short .ensures .0) .ended
-
 same-length-2 : tie.Need-same-length-2
 same-length-2 c = search needs
-
-returns-2 : tie.Need-returns-2
-returns-2 c = ends (c .before .before .before .before .before) Step.NoStates (c .short2 .result) (c .before .enum-told2 .given .1) (c .short2 .ensures .0) .ended
 
 same-length-3 : tie.Need-same-length-3
 same-length-3 c = search needs
 
-returns-3 : tie.Need-returns-3
-returns-3 c = ends (c .before .before .before .before .before) Step.NoRules (c .short3 .result) (c .before .enum-told3 .given .1) (c .short3 .ensures .0) .ended
-
 same-length-4 : tie.Need-same-length-4
 same-length-4 c = search needs
-
-returns-4 : tie.Need-returns-4
-returns-4 c =
-    let w : Settled = c .before .before .before .before .before .before in
-    let g = c .before .before .row .given in
-    ends w (Step.Asks (g .0 .0) (g .0 .1 .0)) (record { number = 0; lists = c .asking .result }) (g .1) (refl, c .asking .ensures) .ended
 
 same-length-5 : tie.Need-same-length-5
 same-length-5 c = search needs
 
+returns : tie.Need-returns
+returns c = ends (c .before .before .before .before .before .before .before .before .before .before .before .before .before) Step.NoRows (c .short .result) (c .before .enum-told .given .1) (c .short .ensures .0) .ended
+
+same-length-6 : tie.Need-same-length-6
+same-length-6 c = search needs
+
+same-length-7 : tie.Need-same-length-7
+same-length-7 c = search needs
+
+same-length-8 : tie.Need-same-length-8
+same-length-8 c = search needs
+
+same-length-9 : tie.Need-same-length-9
+same-length-9 c = search needs
+
+same-length-10 : tie.Need-same-length-10
+same-length-10 c = search needs
+
+returns-2 : tie.Need-returns-2
+returns-2 c = ends (c .before .before .before .before .before .before .before .before .before .before .before .before .before) Step.NoStates (c .short2 .result) (c .before .enum-told2 .given .1) (c .short2 .ensures .0) .ended
+
+same-length-11 : tie.Need-same-length-11
+same-length-11 c = search needs
+
+same-length-12 : tie.Need-same-length-12
+same-length-12 c = search needs
+
+same-length-13 : tie.Need-same-length-13
+same-length-13 c = search needs
+
+same-length-14 : tie.Need-same-length-14
+same-length-14 c = search needs
+
+same-length-15 : tie.Need-same-length-15
+same-length-15 c = search needs
+
+returns-3 : tie.Need-returns-3
+returns-3 c = ends (c .before .before .before .before .before .before .before .before .before .before .before .before .before) Step.NoRules (c .short3 .result) (c .before .enum-told3 .given .1) (c .short3 .ensures .0) .ended
+
+same-length-16 : tie.Need-same-length-16
+same-length-16 c = search needs
+
+same-length-17 : tie.Need-same-length-17
+same-length-17 c = search needs
+
+same-length-18 : tie.Need-same-length-18
+same-length-18 c = search needs
+
+same-length-19 : tie.Need-same-length-19
+same-length-19 c = search needs
+
+same-length-20 : tie.Need-same-length-20
+same-length-20 c = search needs
+
+returns-4 : tie.Need-returns-4
+returns-4 c =
+    let w : Settled = c .before .before .before .before .before .before .before .before .before .before .before .before .before .before in
+    let g = c .before .before .row .given in
+    ends w (Step.Asks (g .0 .0) (g .0 .1 .0)) (record { number = 0; lists = c .asking .result }) (g .1) (refl, c .asking .ensures) .ended
+
+same-length-21 : tie.Need-same-length-21
+same-length-21 c = search needs
+
+same-length-22 : tie.Need-same-length-22
+same-length-22 c = search needs
+
+same-length-23 : tie.Need-same-length-23
+same-length-23 c = search needs
+
+same-length-24 : tie.Need-same-length-24
+same-length-24 c = search needs
+
+same-length-25 : tie.Need-same-length-25
+same-length-25 c = search needs
+
 returns-5 : tie.Need-returns-5
 returns-5 c =
-    let w : Settled = c .before .before .before .before .before .before in
+    let w : Settled = c .before .before .before .before .before .before .before .before .before .before .before .before .before .before in
     let g = c .before .before .q .given in
     ends w (Step.Proposes (g .0 .0)) (record { number = 0; lists = c .proposing .result }) (g .1) (refl, c .proposing .ensures) .ended
 
@@ -179,12 +239,32 @@ finish-spec =
     enum-known-q
     proposing-requires
     same-length
-    returns
     same-length-2
-    returns-2
     same-length-3
-    returns-3
     same-length-4
-    returns-4
     same-length-5
+    returns
+    same-length-6
+    same-length-7
+    same-length-8
+    same-length-9
+    same-length-10
+    returns-2
+    same-length-11
+    same-length-12
+    same-length-13
+    same-length-14
+    same-length-15
+    returns-3
+    same-length-16
+    same-length-17
+    same-length-18
+    same-length-19
+    same-length-20
+    returns-4
+    same-length-21
+    same-length-22
+    same-length-23
+    same-length-24
+    same-length-25
     returns-5)

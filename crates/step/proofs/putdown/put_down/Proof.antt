@@ -1,6 +1,6 @@
 -- `putdown::put_down` meets its contract: where rows run out the first rows are kept, and else the step goes on from the lists with the context.
 -- Those lists mean the tables with the context, over the words that hold its rows; of the table of answers no row is known.
-use mathlib.Core.Path.{sym, ap}
+use mathlib.Core.Path.{sym, ap, _∙_}
 use mathlib.Core.List.{List}
 use Prim.Native.Nat.{ℕ, _≤_, _<_}
 use native.Mathlib.Omega.{arith}
@@ -16,7 +16,7 @@ use Rattle.bank.proofs.Laws.Coming.{Comes, comes-as}
 use Rattle.bank.proofs.Laws.Filling.{Reached, reached}
 use Rattle.step.specs.Stepping.{countsIn}
 use Rattle.step.proofs.Laws.Finished.{Arrays, few-letters}
-use Rattle.step.proofs.Laws.PutDown.{put-none, stepping-after, few-after, known-after, put-ends}
+use Rattle.step.proofs.Laws.PutDown.{put-none, stepping-after, few-after, long-after, known-after, put-ends}
 use Rattle.step.proofs.putdown.put_down.Statement.{statement}
 use Rattle.step.proofs.putdown.put_down.Tie as tie
 use Rattle.step.proofs.putdown.put_down.Reads as reads
@@ -53,10 +53,10 @@ abbrev Entered : Type 0
 Entered = lts.After-with-context claims reads.Pre reads.Post
 
 abbrev start : Filled → Start
-start c = c .before .before .before .before .before .before .before .before .before
+start c = c .before .before .before .before .before .before .before .before .before .before .before .before .before .before
 
 abbrev filled : Entered → Filled
-filled c = c .before .before .before .before .before .before
+filled c = c .before .before .before .before .before .before .before .before .before .before .before .before
 
 abbrev begun : Entered → Start
 begun c = start (filled c)
@@ -102,16 +102,16 @@ cast-letters : tie.Need-cast-letters
 cast-letters c = search needs
 
 array-share-prefix-counts : tie.Need-array-share-prefix-counts
-array-share-prefix-counts c = letters (c .before .before .before .before)
+array-share-prefix-counts c = letters (c .before .before .before .before .before .before .before .before .before)
 
 slice-aggregate-fill : tie.Need-slice-aggregate-fill
 slice-aggregate-fill c =
-    let s : Start = c .before .before .before .before .before in
+    let s : Start = c .before .before .before .before .before .before .before .before .before .before in
     sym (length-take-le (s .args .lists .letters) (s .args .lists .counts) (letters s))
 
 fill-requires : tie.Need-fill-requires
 fill-requires c κs =
-    let s : Start = c .before .before .before .before .before .before .before .before in
+    let s : Start = c .before .before .before .before .before .before .before .before .before .before .before .before .before in
     let h : s .args .hand .0 < s .args .lists .used = omega (arith, s .pre .4 .within, used-of (s .args .words .now) (countsIn (s .args .lists)) (s .args .lists .used)) in
     (s .pre .0 .ready, s .pre .2, h, s .pre .0 .ready .finding .some, s .pre .5)
 
@@ -134,15 +134,16 @@ forget-requires : tie.Need-forget-requires
 forget-requires c κs =
     let e : Entered = c .before .before in
     let s : Start = begun e in
-    (s .pre .1, few-after (s .pre .0) (arrays s) (s .pre .3) (down e) (e .with-context .result) (e .with-context .ensures))
+    (long-after (s .pre .0) (arrays s) (s .pre .3) (down e) (e .with-context .result) (e .with-context .ensures) (s .args .table .now) (s .pre .1), few-after (s .pre .0) (arrays s) (s .pre .3) (down e) (e .with-context .result) (e .with-context .ensures))
 
 finish-requires : tie.Need-finish-requires
 finish-requires c κs =
-    let e : Entered = c .before .before .before .before .before .before .before .before in
+    let e : Entered = c .before .before .before .before .before .before .before .before .before .before in
     let s : Start = begun e in
+    let f = c .before .before .before .before .before .before .before .forget in
     let w = e .with-context .ensures in (
       stepping-after (s .pre .0) (arrays s) (s .pre .3) (down e) (e .with-context .result) w,
-      known-after (s .pre .0) (arrays s) (s .pre .3) (down e) (e .with-context .result) w (c .before .before .before .before .before .forget .ensures),
+      known-after (s .pre .0) (arrays s) (s .pre .3) (down e) (e .with-context .result) w (f .ensures) (omega (arith, s .pre .1, f .kept .0)),
       ap (λ (l : Lists). l .hand) w,
       ap (λ (l : Lists). l .asked) w,
       ap (λ (l : Lists). l .accepted) w,
@@ -151,20 +152,41 @@ finish-requires c κs =
 same-length : tie.Need-same-length
 same-length c = search needs
 
-returns : tie.Need-returns
-returns c =
-    let f : Filled = c .before .before .before .before .before in
-    put-none (start f .args .words .now) (start f .args .lists) (way (start f)) (c .short .result) (comes-as (c .before .enum-told .given .1) (came f)) (c .short .ensures .0) .ended
-
 same-length-2 : tie.Need-same-length-2
 same-length-2 c = search needs
 
+same-length-3 : tie.Need-same-length-3
+same-length-3 c = search needs
+
+same-length-4 : tie.Need-same-length-4
+same-length-4 c = search needs
+
+returns : tie.Need-returns
+returns c =
+    let f : Filled = c .before .before .before .before .before .before .before .before .before .before .before in
+    put-none (start f .args .words .now) (start f .args .lists) (way (start f)) (c .short .result) (comes-as (c .before .enum-told .given .1) (came f)) (c .short .ensures .0) .ended
+
+same-length-5 : tie.Need-same-length-5
+same-length-5 c = c .before .before .before .before .before .before .before .before .before .before .finish .kept .0 ∙ c .before .before .before .before .before .before .before .before .before .before .before .before .before .before .before .before .before .before .before .before .before .before .before .before .before .before .before .before .before .before .before .before .before .fill .kept .0
+
+same-length-6 : tie.Need-same-length-6
+same-length-6 c = c .before .before .before .before .before .before .before .before .before .before .finish .kept .1 .1 .0 ∙ c .before .before .before .before .before .before .before .before .before .before .before .before .before .before .before .before .before .before .before .before .before .before .before .before .before .before .before .before .before .before .before .before .before .fill .kept .1 .1 .1 .0
+
+same-length-7 : tie.Need-same-length-7
+same-length-7 c = c .before .before .before .before .before .before .before .before .before .before .finish .kept .1 .1 .1 .0 ∙ c .before .before .before .before .before .before .before .before .before .before .before .before .before .before .before .before .before .before .before .before .before .before .before .before .before .before .before .before .before .before .before .before .before .fill .kept .1 .1 .1 .1 .0
+
+same-length-8 : tie.Need-same-length-8
+same-length-8 c = c .before .before .before .before .before .before .before .before .before .before .finish .kept .1 .1 .1 .1 .0 ∙ c .before .before .before .before .before .before .before .before .before .before .before .before .before .before .before .before .before .before .before .before .before .before .before .before .before .before .before .before .before .before .before .before .before .fill .kept .1 .1 .1 .1 .1 .0
+
+same-length-9 : tie.Need-same-length-9
+same-length-9 c = search needs
+
 returns-2 : tie.Need-returns-2
 returns-2 c =
-    let e : Entered = c .before .before .before .before .before .before .before .before .before .before .before in
+    let e : Entered = c .before .before .before .before .before .before .before .before .before .before .before .before .before .before .before .before .before .before .before .before .before in
     let s : Start = begun e in
-    put-ends (s .pre .0) (arrays s) (s .pre .3) (down e) (e .with-context .result) (e .with-context .ensures) (c .before .before .finish .result) (c .before .before .finish .last .0)
-    (record { ended = c .before .before .finish .ensures }) .ended
+    put-ends (s .pre .0) (arrays s) (s .pre .3) (down e) (e .with-context .result) (e .with-context .ensures) (c .before .before .before .before .before .before .before .before .before .before .finish .result) (c .before .before .before .before .before .before .before .before .before .before .finish .last .0)
+    (record { ended = c .before .before .before .before .before .before .before .before .before .before .finish .ensures }) .ended
 
 pub put-down-spec : {M : Type 1} → statement M
 put-down-spec =
@@ -182,6 +204,13 @@ put-down-spec =
     forget-requires
     finish-requires
     same-length
-    returns
     same-length-2
+    same-length-3
+    same-length-4
+    returns
+    same-length-5
+    same-length-6
+    same-length-7
+    same-length-8
+    same-length-9
     returns-2)

@@ -14,11 +14,11 @@ use Rattle.table.proofs.judge.all_differ.Statement.{statement}
 use Rattle.table.proofs.judge.all_differ.Tie as tie
 
 abbrev Inv-loop : tie.InvT-loop
-Inv-loop table contexts places states q₀ q =
+Inv-loop table rules contexts places states q₀ q =
     (q ≤ states) × (allDiffer (map (rowAt table contexts) (drop q (take states places))) ≡ allDiffer (map (rowAt table contexts) (take states places)))
 
 abbrev μ-loop : tie.MeasureT-loop
-μ-loop table contexts places states q₀ q = states - q
+μ-loop table rules contexts places states q₀ q = states - q
 
 loop-holds : tie.Need-loop-holds Inv-loop μ-loop
 loop-holds c = (search needs, refl)
@@ -33,16 +33,16 @@ element-copy-out-differs : tie.Need-element-copy-out-differs Inv-loop μ-loop
 element-copy-out-differs c = search needs
 
 cast-differs : tie.Need-cast-differs Inv-loop μ-loop
-cast-differs c = omega (arith, c .before .before .before .pre .1 .within (c .before .before .loop .q) (omega arith))
+cast-differs c = omega (arith, c .before .before .before .before .pre .1 .within (c .before .before .loop .q) (omega arith))
 
 differs-requires : tie.Need-differs-requires Inv-loop μ-loop
 differs-requires c κs =
-    let s = c .before .before .before in
+    let s = c .before .before .before .before in
     (s .pre .0, s .pre .1 .within (c .before .before .loop .q) (omega arith), omega arith, s .pre .1)
 
 returns : tie.Need-returns Inv-loop μ-loop
 returns c =
-    let s = c .before .before .before .before .before in
+    let s = c .before .before .before .before .before .before in
     let l = c .before .before .before .before .loop in
     two-alike (rowAt (s .args .table .now) (s .args .contexts)) (s .args .states) (s .args .places .now) (omega (arith, s .pre .1 .long, s .pre .1 .few)) (l .q) _ (l .inv .1) (omega arith) (sym (c .before .differs .ensures) ∙ not-true (c .before .differs .result) (c .if1 .taken))
 
@@ -54,13 +54,13 @@ loop-less c = search needs
 
 loop-again : tie.Need-loop-again Inv-loop μ-loop
 loop-again c =
-    let s = c .before .before .before .before .before in
+    let s = c .before .before .before .before .before .before in
     let l = c .before .before .before .before .loop in
     (omega arith, differs-later (rowAt (s .args .table .now) (s .args .contexts)) (s .args .states) (s .args .places .now) (omega (arith, s .pre .1 .long, s .pre .1 .few)) (l .q) _ (l .inv .1) (omega arith) (sym (c .before .differs .ensures) ∙ not-false (c .before .differs .result) (c .if1 .left)))
 
 returns-2 : tie.Need-returns-2 Inv-loop μ-loop
 returns-2 c =
-    let s = c .before .before in
+    let s = c .before .before .before in
     let l = c .before .loop in
     differ-all (rowAt (s .args .table .now) (s .args .contexts)) (s .args .states) (s .args .places .now) (omega (arith, s .pre .1 .long, s .pre .1 .few)) (l .q) _ (l .inv .1) (omega arith)
 

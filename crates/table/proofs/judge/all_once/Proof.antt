@@ -13,7 +13,6 @@ use native.Mathlib.Nat.{sub-zero}
 use Rattle.model.specs.Base.{all}
 use Rattle.model.specs.Sound.{countSame}
 use Rattle.table.specs.Answers.{rowAt, placesFrom}
-use Rattle.table.proofs.Laws.Rows.{sized-whole}
 use Rattle.table.proofs.Laws.Judge.{one-fails, one-passes, all-passed}
 use Rattle.table.proofs.judge.all_once.Statement.{statement}
 use Rattle.table.proofs.judge.all_once.Tie as tie
@@ -32,14 +31,14 @@ abbrev μ-loop : tie.MeasureT-loop
 loop-holds : tie.Need-loop-holds Inv-loop μ-loop
 loop-holds c =
     let s = c in
-    (search needs, ap (λ (n : ℕ). all (once (s .args .table .now) (s .args .contexts) (s .args .places .now) (s .args .states)) (placesFrom 0 n)) (sub-zero (s .args .rules)))
+    (search needs, ap (λ (n : ℕ). all (once (s .before .args .table .now) (s .before .args .contexts) (s .before .args .places .now) (s .before .args .states)) (placesFrom 0 n)) (sub-zero (s .before .args .rules)))
 
 count-same-requires : tie.Need-count-same-requires Inv-loop μ-loop
-count-same-requires c κs = (sized-whole (c .before .before .pre .0), omega (arith, c .before .before .pre .0 .few-t), c .before .before .pre .1)
+count-same-requires c κs = (c .before .before .before .pre .0, c .loop-test .taken, c .before .before .before .pre .1)
 
 returns : tie.Need-returns Inv-loop μ-loop
 returns c =
-    let s = c .before .before .before .before in
+    let s = c .before .before .before .before .before in
     let l = c .before .before .before .loop in
     one-fails (once (s .args .table .now) (s .args .contexts) (s .args .places .now) (s .args .states)) (s .args .rules) (l .k) _ (l .inv .1) (omega arith) (ap (λ (n : ℕ). eqb n 1) (sym (c .before .count-same .ensures)) ∙ ne-eqb (c .before .count-same .result) 1 (c .if1 .taken))
 
@@ -51,13 +50,13 @@ loop-less c = search needs
 
 loop-again : tie.Need-loop-again Inv-loop μ-loop
 loop-again c =
-    let s = c .before .before .before .before in
+    let s = c .before .before .before .before .before in
     let l = c .before .before .before .loop in
     (omega arith, one-passes (once (s .args .table .now) (s .args .contexts) (s .args .places .now) (s .args .states)) (s .args .rules) (l .k) _ (l .inv .1) (omega arith) (ap (λ (n : ℕ). eqb n 1) (sym (c .before .count-same .ensures)) ∙ eq-eqb (c .before .count-same .result) 1 (c .if1 .left)))
 
 returns-2 : tie.Need-returns-2 Inv-loop μ-loop
 returns-2 c =
-    let s = c .before .before in
+    let s = c .before .before .before in
     let l = c .before .loop in
     all-passed (once (s .args .table .now) (s .args .contexts) (s .args .places .now) (s .args .states)) (s .args .rules) (l .k) _ (l .inv .1) (omega arith)
 

@@ -6,19 +6,20 @@ use mathlib.Core.List.{map}
 use Prim.Native.Nat.{_+_, _-_, _≤_, _<_}
 use native.Mathlib.Omega.{arith}
 use borrow.Author.Needs.{needs}
-use lib.ListN.{take, drop}
+use lib.ListN.{getD, take, drop}
 use Rattle.model.specs.Sound.{countSame}
 use Rattle.table.specs.Answers.{rowAt}
+use Rattle.table.proofs.Laws.Rows.{sized-to}
 use Rattle.table.proofs.Laws.Judge.{counts-one, counts-none, counts-end}
 use Rattle.table.proofs.judge.count_same.Statement.{statement}
 use Rattle.table.proofs.judge.count_same.Tie as tie
 
 abbrev Inv-loop : tie.InvT-loop
-Inv-loop table contexts places states a n₀ q₀ n q =
+Inv-loop table rules contexts places states a n₀ q₀ n q =
     (q ≤ states) × (n ≤ q) × (n + countSame (rowAt table contexts a) (map (rowAt table contexts) (drop q (take states places))) ≡ countSame (rowAt table contexts a) (map (rowAt table contexts) (take states places)))
 
 abbrev μ-loop : tie.MeasureT-loop
-μ-loop table contexts places states a n₀ q₀ n q = states - q
+μ-loop table rules contexts places states a n₀ q₀ n q = states - q
 
 loop-holds : tie.Need-loop-holds Inv-loop μ-loop
 loop-holds c = (search needs, search needs, omega arith)
@@ -30,12 +31,12 @@ element-copy-out-same-rows : tie.Need-element-copy-out-same-rows Inv-loop μ-loo
 element-copy-out-same-rows c = search needs
 
 cast-same-rows : tie.Need-cast-same-rows Inv-loop μ-loop
-cast-same-rows c = omega (arith, c .before .before .before .pre .2 .within (c .before .before .loop .q) (omega arith))
+cast-same-rows c = omega (arith, c .before .before .before .before .pre .2 .within (c .before .before .loop .q) (omega arith))
 
 same-rows-requires : tie.Need-same-rows-requires Inv-loop μ-loop
 same-rows-requires c κs =
-    let s = c .before .before .before in
-    (s .pre .0, s .pre .1, s .pre .2 .within (c .before .before .loop .q) (omega arith))
+    let s = c .before .before .before .before in
+    (sized-to (s .pre .0) (s .args .a) (s .pre .1), sized-to (s .pre .0) (getD (s .args .places .now) (c .before .before .loop .q) 0) (s .pre .2 .within (c .before .before .loop .q) (omega arith)))
 
 add-n : tie.Need-add-n Inv-loop μ-loop
 add-n c = search needs
@@ -48,7 +49,7 @@ loop-less c = search needs
 
 loop-again : tie.Need-loop-again Inv-loop μ-loop
 loop-again c =
-    let s = c .before .before .before .before .before in
+    let s = c .before .before .before .before .before .before in
     let l = c .before .before .before .before .loop in
     let d = c .before .same-rows in
     let i : l .q < s .args .states = omega arith in
@@ -59,7 +60,7 @@ loop-again c =
 
 returns : tie.Need-returns Inv-loop μ-loop
 returns c =
-    let s = c .before .before in
+    let s = c .before .before .before in
     let l = c .before .loop in
     let e = counts-end (rowAt (s .args .table .now) (s .args .contexts)) (s .args .states) (s .args .places .now) (omega (arith, s .pre .2 .long, s .pre .2 .few)) (l .q) (rowAt (s .args .table .now) (s .args .contexts) (s .args .a)) (omega arith) in
     omega arith

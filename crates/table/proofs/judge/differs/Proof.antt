@@ -6,20 +6,21 @@ use Prim.Native.Nat.{_-_, _≤_}
 use native.Mathlib.Omega.{arith}
 use borrow.Author.Needs.{needs}
 use borrow.Author.Tests.{not-true, not-false}
-use lib.ListN.{take, drop}
+use lib.ListN.{getD, take, drop}
 use Rattle.model.specs.Base.{all}
 use Rattle.model.specs.Sound.{differKnown}
 use Rattle.table.specs.Answers.{rowAt}
+use Rattle.table.proofs.Laws.Rows.{sized-to}
 use Rattle.table.proofs.Laws.Judge.{alike, differs-here, differs-from-all}
 use Rattle.table.proofs.judge.differs.Statement.{statement}
 use Rattle.table.proofs.judge.differs.Tie as tie
 
 abbrev Inv-loop : tie.InvT-loop
-Inv-loop table contexts places states from a q₀ q =
+Inv-loop table rules contexts places states from a q₀ q =
     (q ≤ states) × (all (differKnown (rowAt table contexts a)) (map (rowAt table contexts) (drop q (take states places))) ≡ all (differKnown (rowAt table contexts a)) (map (rowAt table contexts) (drop from (take states places))))
 
 abbrev μ-loop : tie.MeasureT-loop
-μ-loop table contexts places states from a q₀ q = states - q
+μ-loop table rules contexts places states from a q₀ q = states - q
 
 loop-holds : tie.Need-loop-holds Inv-loop μ-loop
 loop-holds c = (search needs, refl)
@@ -31,16 +32,16 @@ element-copy-out-differ-known : tie.Need-element-copy-out-differ-known Inv-loop 
 element-copy-out-differ-known c = search needs
 
 cast-differ-known : tie.Need-cast-differ-known Inv-loop μ-loop
-cast-differ-known c = omega (arith, c .before .before .before .pre .3 .within (c .before .before .loop .q) (omega arith))
+cast-differ-known c = omega (arith, c .before .before .before .before .pre .3 .within (c .before .before .loop .q) (omega arith))
 
 differ-known-requires : tie.Need-differ-known-requires Inv-loop μ-loop
 differ-known-requires c κs =
-    let s = c .before .before .before in
-    (s .pre .0, s .pre .1, s .pre .3 .within (c .before .before .loop .q) (omega arith))
+    let s = c .before .before .before .before in
+    (sized-to (s .pre .0) (s .args .a) (s .pre .1), sized-to (s .pre .0) (getD (s .args .places .now) (c .before .before .loop .q) 0) (s .pre .3 .within (c .before .before .loop .q) (omega arith)))
 
 returns : tie.Need-returns Inv-loop μ-loop
 returns c =
-    let s = c .before .before .before .before .before in
+    let s = c .before .before .before .before .before .before in
     let l = c .before .before .before .before .loop in
     alike (rowAt (s .args .table .now) (s .args .contexts)) (s .args .states) (s .args .places .now) (omega (arith, s .pre .3 .long, s .pre .3 .few)) (l .q) (rowAt (s .args .table .now) (s .args .contexts) (s .args .a)) _ (l .inv .1) (omega arith)
     (sym (c .before .differ-known .ensures) ∙ not-true (c .before .differ-known .result) (c .if1 .taken))
@@ -53,7 +54,7 @@ loop-less c = search needs
 
 loop-again : tie.Need-loop-again Inv-loop μ-loop
 loop-again c =
-    let s = c .before .before .before .before .before in
+    let s = c .before .before .before .before .before .before in
     let l = c .before .before .before .before .loop in (
       omega arith,
       differs-here (rowAt (s .args .table .now) (s .args .contexts)) (s .args .states) (s .args .places .now) (omega (arith, s .pre .3 .long, s .pre .3 .few)) (l .q) (rowAt (s .args .table .now) (s .args .contexts) (s .args .a)) _ (l .inv .1) (omega arith)
@@ -62,7 +63,7 @@ loop-again c =
 
 returns-2 : tie.Need-returns-2 Inv-loop μ-loop
 returns-2 c =
-    let s = c .before .before in
+    let s = c .before .before .before in
     let l = c .before .loop in
     differs-from-all (rowAt (s .args .table .now) (s .args .contexts)) (s .args .states) (s .args .places .now) (omega (arith, s .pre .3 .long, s .pre .3 .few)) (l .q) (rowAt (s .args .table .now) (s .args .contexts) (s .args .a)) _ (l .inv .1) (omega arith)
 

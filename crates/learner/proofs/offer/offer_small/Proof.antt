@@ -1,0 +1,50 @@
+-- `offer::offer_small` meets its contract: each array of its room is as long as it must be.
+use mathlib.Core.Path.{refl}
+use native.Mathlib.Omega.{arith}
+use borrow.Author.Needs.{needs}
+use Rattle.sound.proofs.Laws.Rooms.{room-for}
+use Rattle.learner.proofs.offer.offer_small.Statement.{statement}
+use Rattle.learner.proofs.offer.offer_small.Tie as tie
+
+slice-aggregate-offer-in : tie.Need-slice-aggregate-offer-in
+slice-aggregate-offer-in c = search needs
+
+slice-aggregate-offer-in-2 : tie.Need-slice-aggregate-offer-in-2
+slice-aggregate-offer-in-2 c = search needs
+
+slice-aggregate-offer-in-3 : tie.Need-slice-aggregate-offer-in-3
+slice-aggregate-offer-in-3 c = search needs
+
+slice-aggregate-offer-in-4 : tie.Need-slice-aggregate-offer-in-4
+slice-aggregate-offer-in-4 c = search needs
+
+slice-aggregate-offer-in-5 : tie.Need-slice-aggregate-offer-in-5
+slice-aggregate-offer-in-5 c = search needs
+
+offer-in-requires : tie.Need-offer-in-requires
+offer-in-requires c κs =
+    let s = c .before .before .before .before .before .before .before .before .before .before .before .before in
+    (s .pre .0, s .pre .1, s .pre .2, room-for 1024 (s .pre .3) refl (omega arith) (omega arith) refl refl (omega (arith, s .pre .4)) refl refl, omega (arith, s .pre .4))
+
+same-length : tie.Need-same-length
+same-length c = search needs
+
+same-length-2 : tie.Need-same-length-2
+same-length-2 c = search needs
+
+returns : tie.Need-returns
+returns c = search needs
+
+pub offer-small-spec : {M : Type 1} → statement M
+offer-small-spec =
+    tie.close
+    (tie.spec
+    slice-aggregate-offer-in
+    slice-aggregate-offer-in-2
+    slice-aggregate-offer-in-3
+    slice-aggregate-offer-in-4
+    slice-aggregate-offer-in-5
+    offer-in-requires
+    same-length
+    same-length-2
+    returns)

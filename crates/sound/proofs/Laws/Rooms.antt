@@ -1,0 +1,28 @@
+-- Room to work in: arrays that are long enough for the rows lent and for n transitions.
+use mathlib.Core.Path.{_≡_}
+use mathlib.Core.Bool.{true}
+use mathlib.Core.List.{List}
+use Prim.Native.Nat.{ℕ, _*_, _≤_, _<_}
+use native.Mathlib.Omega.{arith}
+use lib.ListN.{length}
+use Rattle.model.specs.Limits.{rowWidth, mostRows, mostContexts}
+use Rattle.model.specs.Entry.{sizeFits}
+use Rattle.bank.specs.Index.{mostBuckets}
+use Rattle.model.proofs.Laws.Lent.{sizeFits-facts}
+use Rattle.sound.specs.Working.{Room}
+
+-- at most so many words are lent
+pub words-few : (ws : List ℕ) → sizeFits ws ≡ true → length ws ≤ rowWidth * mostRows
+words-few ws e = let w = sizeFits-facts ws e in omega (arith, w .whole, w .most)
+
+-- arrays for k rows
+pub room-for : {ws : List ℕ} {n : ℕ} {holes head next mix table places reps : List ℕ} (k : ℕ) → length ws ≤ rowWidth * k → length holes ≡ k → 0 < length head → length head ≤ mostBuckets →
+    length next ≡ k → length mix ≡ 5 → mostContexts * n ≤ length table → length places ≡ 32 → length reps ≡ k → Room ws n holes head next mix table places reps
+room-for k l a b c d e f g h =
+    record {
+      rows = record { holes-long = omega arith; some-heads = b; few-heads = c; next-long = omega arith };
+      mix-long = e;
+      table-long = f;
+      places-long = g;
+      reps-long = omega arith;
+    }
