@@ -18,6 +18,9 @@ use step::advance;
 // The rows past the used ones that an answer is first tried with: enough, but for deep records.
 const FEW: usize = 128;
 
+// Where more rows are used, contexts may be deep and one answer may add thousands: all rows are lent at once.
+pub const DEEP: u16 = 4096;
+
 // What a call returns, and the lists that it leaves.
 pub struct Done {
     pub seen: Seen,
@@ -278,6 +281,9 @@ fn answer_lent(words: &mut [u32], lists: Lists, mark: u8) -> Done
     requires { ⌜ (sizeFits (now words) ≡ true) × (listsFit lists ≡ true) ⌝ }
     ensures { λ r. ⌜ CallAs (now (words .entry)) lists (answers mark) r (now (words .exit)) ⌝ }
 {
+    if DEEP < lists.used {
+        return answer_all(words, lists, mark);
+    }
     let done = answer_first(words, lists, mark);
     let seen = done.seen;
     if seen.number != 34 {

@@ -413,6 +413,9 @@ fn offer_tried(
     requires { ⌜ (sizeFits (now words) ≡ true) × (listsFit lists ≡ true) × (1 ≤ few) × (few ≤ 1152) × (6 * few ≤ length (now saved)) ⌝ }
     ensures { λ r. ⌜ CallAs (now (words .entry)) lists (offers (now (symbols .entry)) mark) r (now (words .exit)) ⌝ }
 {
+    if calls::DEEP < lists.used {
+        return offer_all(words, lists, symbols, mark);
+    }
     let done = offer_first(words, lists, symbols, mark, few, saved);
     let seen = done.seen;
     if seen.number != 34 {
