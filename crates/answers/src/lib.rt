@@ -1,270 +1,25 @@
-// The answers of every transition at every context (§1.5), by columns: for one record, one loop over the rows with a hole gives the row
-// that each of them fills to, from the one that its hole child fills to. Proved equal to model's answersOf.
+// The answers of every transition at every context (§1.5), or up to the first gap, by columns. Proved equal to model's answersOf.
+// An array set to 0 costs time, so each comes in three sizes, and the smallest with an entry for each used row is taken.
 ghost use mathlib.Core.Path.{_≡_};
-ghost use mathlib.Core.Bool.{true};
-ghost use Prim.Native.Nat.{_+_, _*_, _-_, _<_, _≤_};
-ghost use lib.ListN.{length, getD, take};
-ghost use lib.Seq.{sets};
+ghost use Prim.Native.Nat.{_*_, _≤_};
+ghost use lib.ListN.{length};
 ghost use Rattle.model.specs.Limits.{mostContexts};
-ghost use Rattle.model.specs.Base.{among};
-ghost use Rattle.model.specs.Store.{isContext, nextRow};
-ghost use Rattle.model.specs.Table.{answerIn, answersOf};
 ghost use Rattle.model.specs.Entry.{storeOf, answersIn};
-ghost use Rattle.bank.specs.Ready.{Ready, frameAt};
-ghost use Rattle.table.specs.Answers.{rowAt, Observed, KnownRows, ToGap};
-ghost use Rattle.answers.specs.Columns.{HoledRows, holeKid, Column, Answered, Contexts, Used};
-use bank::context;
-use bank::index;
-use bank::rows;
-use model::Row;
+ghost use Rattle.bank.specs.Ready.{Ready};
+ghost use Rattle.table.specs.Answers.{Observed, KnownRows, ToGap};
+ghost use Rattle.answers.specs.Columns.{Answered, Contexts, Used};
 
-// The rows beyond row 0 with a hole, in order, and how many they are.
-pub fn holed_rows(used: u16, holes: &[u8], list: &mut [u16]) -> u16
-    requires { ⌜ (used ≤ length (now holes)) × (used ≤ length (now list)) × (0 < used) × (used ≤ 16384) ⌝ }
-    ensures { λ r. ⌜ HoledRows (now (holes .entry)) used (now (list .exit)) r ⌝ }
-{
-    let mut n: u16 = 0;
-    let mut i: u16 = 1;
-    while i < used {
-        if holes[i as usize] != 0 {
-            list[n as usize] = i;
-            n += 1;
-        }
-        i += 1;
-    }
-    n
-}
+pub mod columns; // columns.rt: one column, and a record's answers from it
+pub mod whole; // whole.rt: the whole table, by sizes
+pub mod gap; // gap.rt: the table up to its first gap, by sizes
 
-// The child of a row that has the hole.
-fn hole_kid(
-    words: &[u32],
-    counts: &[u8],
-    used: u16,
-    holes: &[u8],
-    head: &[u16],
-    next: &[u16],
-    mix: &[u32; 5],
-    row: Row,
-) -> Row
-    requires { ⌜ Ready (now words) (now counts) used (now holes) (now head) (now next) (now mix) × (row .0 < used) × (getD (now holes) (row .0) 0 ≡ 0 → ⊥) ⌝ }
-    ensures { λ r. ⌜ (r .0 ≡ holeKid (storeOf (now (words .entry)) (now (counts .entry)) used) (now (holes .entry)) (row .0)) × (r .0 < row .0) ⌝ }
-{
-    let i = row.0 as usize;
-    let place = holes[i] as usize - 1;
-    let kid = rows::kid_of(words, row, place);
-    Row(kid as u16)
-}
+// Used rows for which the smallest arrays do.
+const FEW: u16 = 256;
 
-// What a row with a hole fills to, where its hole child fills to `with`; row 0 where that is not stored.
-fn refill(
-    words: &[u32],
-    counts: &[u8],
-    used: u16,
-    holes: &[u8],
-    head: &[u16],
-    next: &[u16],
-    mix: &[u32; 5],
-    row: Row,
-    with: Row,
-) -> Row
-    requires { ⌜ Ready (now words) (now counts) used (now holes) (now head) (now next) (now mix) × (row .0 < used) × (getD (now holes) (row .0) 0 ≡ 0 → ⊥) × (with .0 < used) ⌝ }
-    ensures { λ r. ⌜ (r .0 ≡ nextRow (storeOf (now (words .entry)) (now (counts .entry)) used) (frameAt (storeOf (now (words .entry)) (now (counts .entry)) used) (row .0) (getD (now (holes .entry)) (row .0) 0 - 1)) (with .0)) × (r .0 < used) ⌝ }
-{
-    if with.0 == 0 {
-        return Row(0);
-    }
-    let i = row.0 as usize;
-    let place = holes[i] as usize - 1;
-    let symbol = rows::symbol_of(words, row);
-    let mut places = rows::places_of(words, row);
-    places[place] = with.0 as u32;
-    index::find(words, used, head, next, mix, symbol, places)
-}
-
-// The column of a record: one loop over the rows with a hole, each from its hole child.
-fn fill_column(
-    words: &[u32],
-    counts: &[u8],
-    used: u16,
-    holes: &[u8],
-    head: &[u16],
-    next: &[u16],
-    mix: &[u32; 5],
-    list: &[u16],
-    n: u16,
-    with: Row,
-    filled: &mut [u16],
-)
-    requires { ⌜ Ready (now words) (now counts) used (now holes) (now head) (now next) (now mix) × HoledRows (now holes) used (now list) n × (with .0 < used) × (used ≤ length (now filled)) ⌝ }
-    ensures { λ _. ⌜ Column (storeOf (now (words .entry)) (now (counts .entry)) used) (with .0) (now (filled .exit)) ⌝ }
-{
-    filled[0] = with.0;
-    let mut p: u16 = 0;
-    while p < n {
-        let row = Row(list[p as usize]);
-        let kid = hole_kid(words, counts, used, holes, head, next, mix, row);
-        let inner = Row(filled[kid.0 as usize]);
-        let outer = refill(words, counts, used, holes, head, next, mix, row, inner);
-        filled[row.0 as usize] = outer.0;
-        p += 1;
-    }
-}
-
-// The answer of a record at a context, from the record's column.
-fn answer_at(words: &[u32], counts: &[u8], used: u16, with: Row, filled: &[u16], context: Row) -> u8
-    requires { ⌜ (6 * used ≤ length (now words)) × (used ≤ 16384) × Answered (now words) used × Column (storeOf (now words) (now counts) used) (with .0) (now filled) × (isContext (storeOf (now words) (now counts) used) (context .0) ≡ true) ⌝ }
-    ensures { λ r. ⌜ r ≡ answerIn (storeOf (now (words .entry)) (now (counts .entry)) used) (answersIn used (now (words .entry))) (context .0) (with .0) ⌝ }
-{
-    let row = Row(filled[context.0 as usize]);
-    rows::answer_of(words, row) as u8
-}
-
-// The answers of a record at the first contexts, from its column, into row k of the table.
-fn read_column(
-    words: &[u32],
-    counts: &[u8],
-    used: u16,
-    with: Row,
-    filled: &[u16],
-    c: &[u16; 289],
-    contexts: usize,
-    k: usize,
-    table: &mut [u8],
-)
-    requires { ⌜ (6 * used ≤ length (now words)) × (used ≤ 16384) × Answered (now words) used × Column (storeOf (now words) (now counts) used) (with .0) (now filled) × Contexts (storeOf (now words) (now counts) used) (now c) contexts × (length (now c) ≡ 289) × (contexts ≤ 289) × (mostContexts * k + mostContexts ≤ length (now table)) ⌝ }
-    ensures { λ _. ⌜ now (table .exit) ≡ sets (now (table .entry)) (mostContexts * k) (answersOf (storeOf (now (words .entry)) (now (counts .entry)) used) (answersIn used (now (words .entry))) (take contexts (now (c .entry))) (with .0)) ⌝ }
-{
-    let mut j = 0;
-    while j < contexts {
-        let answer = answer_at(words, counts, used, with, filled, Row(c[j]));
-        table[289 * k + j] = answer;
-        j += 1;
-    }
-}
-
-// The answers of the k-th transition at the first contexts, into the table behind those of the transitions before it.
-fn observe_row(
-    words: &[u32],
-    counts: &[u8],
-    used: u16,
-    holes: &[u8],
-    head: &[u16],
-    next: &[u16],
-    mix: &[u32; 5],
-    list: &[u16],
-    n: u16,
-    t: &[u16; 256],
-    k: usize,
-    c: &[u16; 289],
-    contexts: usize,
-    filled: &mut [u16],
-    table: &mut [u8],
-)
-    requires { ⌜ Ready (now words) (now counts) used (now holes) (now head) (now next) (now mix) × Answered (now words) used × HoledRows (now holes) used (now list) n × (length (now t) ≡ 256) × (k < 256) × (getD (now t) k 0 < used) × Contexts (storeOf (now words) (now counts) used) (now c) contexts × (length (now c) ≡ 289) × (contexts ≤ 289) × (used ≤ length (now filled)) × (mostContexts * k + mostContexts ≤ length (now table)) × Observed (storeOf (now words) (now counts) used) (answersIn used (now words)) (now t) k (now c) contexts (now table) ⌝ }
-    ensures { λ _. ⌜ Observed (storeOf (now (words .entry)) (now (counts .entry)) used) (answersIn used (now (words .entry))) (now (t .entry)) (k + 1) (now (c .entry)) contexts (now (table .exit)) ⌝ }
-    ensures filled { λ _. ⌜ length (now (filled .exit)) ≡ length (now (filled .entry)) ⌝ }
-    ensures row { λ _. ⌜ now (table .exit) ≡ sets (now (table .entry)) (mostContexts * k) (answersOf (storeOf (now (words .entry)) (now (counts .entry)) used) (answersIn used (now (words .entry))) (take contexts (now (c .entry))) (getD (now (t .entry)) k 0)) ⌝ }
-{
-    let with = Row(t[k]);
-    fill_column(
-        words,
-        counts,
-        used,
-        holes,
-        head,
-        next,
-        mix,
-        list,
-        n,
-        with,
-        filled,
-    );
-    read_column(words, counts, used, with, filled, c, contexts, k, table);
-}
+// Used rows for which the arrays of the middle size do.
+const SOME: u16 = 2048;
 
 // The answers of the first transitions at the first contexts, into the table.
-fn observe_with(
-    words: &[u32],
-    counts: &[u8],
-    used: u16,
-    holes: &[u8],
-    head: &[u16],
-    next: &[u16],
-    mix: &[u32; 5],
-    t: &[u16; 256],
-    rules: usize,
-    c: &[u16; 289],
-    contexts: usize,
-    table: &mut [u8],
-    list: &mut [u16],
-    filled: &mut [u16],
-)
-    requires { ⌜ Ready (now words) (now counts) used (now holes) (now head) (now next) (now mix) × Answered (now words) used × Used used (now t) rules × (length (now t) ≡ 256) × (rules ≤ 256) × Contexts (storeOf (now words) (now counts) used) (now c) contexts × (length (now c) ≡ 289) × (contexts ≤ 289) × (mostContexts * rules ≤ length (now table)) × (used ≤ length (now list)) × (used ≤ length (now filled)) ⌝ }
-    ensures { λ _. ⌜ Observed (storeOf (now (words .entry)) (now (counts .entry)) used) (answersIn used (now (words .entry))) (now (t .entry)) rules (now (c .entry)) contexts (now (table .exit)) ⌝ }
-{
-    let n = holed_rows(used, holes, list);
-    let mut k = 0;
-    while k < rules {
-        observe_row(
-            words,
-            counts,
-            used,
-            holes,
-            head,
-            next,
-            mix,
-            list,
-            n,
-            t,
-            k,
-            c,
-            contexts,
-            filled,
-            table,
-        );
-        k += 1;
-    }
-}
-
-// The same where few rows are used.
-fn observe_few(
-    words: &[u32],
-    counts: &[u8],
-    used: u16,
-    holes: &[u8],
-    head: &[u16],
-    next: &[u16],
-    mix: &[u32; 5],
-    t: &[u16; 256],
-    rules: usize,
-    c: &[u16; 289],
-    contexts: usize,
-    table: &mut [u8],
-)
-    requires { ⌜ Ready (now words) (now counts) used (now holes) (now head) (now next) (now mix) × Answered (now words) used × Used used (now t) rules × (length (now t) ≡ 256) × (rules ≤ 256) × Contexts (storeOf (now words) (now counts) used) (now c) contexts × (length (now c) ≡ 289) × (contexts ≤ 289) × (mostContexts * rules ≤ length (now table)) × (used ≤ 1024) ⌝ }
-    ensures { λ _. ⌜ Observed (storeOf (now (words .entry)) (now (counts .entry)) used) (answersIn used (now (words .entry))) (now (t .entry)) rules (now (c .entry)) contexts (now (table .exit)) ⌝ }
-{
-    let mut list = [0u16; 1024];
-    let mut filled = [0u16; 1024];
-    observe_with(
-        words,
-        counts,
-        used,
-        holes,
-        head,
-        next,
-        mix,
-        t,
-        rules,
-        c,
-        contexts,
-        table,
-        &mut list,
-        &mut filled,
-    )
-}
-
-// The same, whatever is used.
 pub fn observe(
     words: &[u32],
     counts: &[u8],
@@ -282,8 +37,8 @@ pub fn observe(
     requires { ⌜ Ready (now words) (now counts) used (now holes) (now head) (now next) (now mix) × Answered (now words) used × Used used (now t) rules × (length (now t) ≡ 256) × (rules ≤ 256) × Contexts (storeOf (now words) (now counts) used) (now c) contexts × (length (now c) ≡ 289) × (contexts ≤ 289) × (mostContexts * rules ≤ length (now table)) ⌝ }
     ensures { λ _. ⌜ Observed (storeOf (now (words .entry)) (now (counts .entry)) used) (answersIn used (now (words .entry))) (now (t .entry)) rules (now (c .entry)) contexts (now (table .exit)) ⌝ }
 {
-    if used <= context::FEW {
-        return observe_few(
+    if used <= SOME {
+        return whole::observe_some(
             words,
             counts,
             used,
@@ -300,7 +55,7 @@ pub fn observe(
     }
     let mut list = [0u16; 16384];
     let mut filled = [0u16; 16384];
-    observe_with(
+    whole::observe_with(
         words,
         counts,
         used,
@@ -316,141 +71,10 @@ pub fn observe(
         &mut list,
         &mut filled,
     )
-}
-
-// The k-th row of the table, worked out again if it has an unknown answer, and else as it is: whether it has one then.
-fn update_row(
-    words: &[u32],
-    counts: &[u8],
-    used: u16,
-    holes: &[u8],
-    head: &[u16],
-    next: &[u16],
-    mix: &[u32; 5],
-    list: &[u16],
-    n: u16,
-    t: &[u16; 256],
-    rules: usize,
-    k: usize,
-    c: &[u16; 289],
-    contexts: usize,
-    filled: &mut [u16],
-    table: &mut [u8],
-) -> bool
-    requires { ⌜ Ready (now words) (now counts) used (now holes) (now head) (now next) (now mix) × Answered (now words) used × HoledRows (now holes) used (now list) n × (length (now t) ≡ 256) × (k < rules) × (getD (now t) k 0 < used) × Contexts (storeOf (now words) (now counts) used) (now c) contexts × (length (now c) ≡ 289) × (used ≤ length (now filled)) × Observed (storeOf (now words) (now counts) used) (answersIn used (now words)) (now t) k (now c) contexts (now table) × KnownRows (storeOf (now words) (now counts) used) (answersIn used (now words)) (now t) rules (now c) contexts (now table) ⌝ }
-    ensures { λ r. ⌜ Observed (storeOf (now (words .entry)) (now (counts .entry)) used) (answersIn used (now (words .entry))) (now (t .entry)) (k + 1) (now (c .entry)) contexts (now (table .exit)) × KnownRows (storeOf (now (words .entry)) (now (counts .entry)) used) (answersIn used (now (words .entry))) (now (t .entry)) rules (now (c .entry)) contexts (now (table .exit)) × (length (now (filled .exit)) ≡ length (now (filled .entry))) × (r ≡ among 0 (rowAt (now (table .exit)) contexts k)) ⌝ }
-{
-    if !table::has_answer(table, contexts, k, 0) {
-        return false;
-    }
-    observe_row(
-        words,
-        counts,
-        used,
-        holes,
-        head,
-        next,
-        mix,
-        list,
-        n,
-        t,
-        k,
-        c,
-        contexts,
-        filled,
-        table,
-    );
-    table::has_answer(table, contexts, k, 0)
 }
 
 // The same up to the first transition with an unknown answer, if there is one: how many transitions have their answers.
 // In the table lent a row without an unknown answer is right, and stays as it is.
-fn gap_with(
-    words: &[u32],
-    counts: &[u8],
-    used: u16,
-    holes: &[u8],
-    head: &[u16],
-    next: &[u16],
-    mix: &[u32; 5],
-    t: &[u16; 256],
-    rules: usize,
-    c: &[u16; 289],
-    contexts: usize,
-    table: &mut [u8],
-    list: &mut [u16],
-    filled: &mut [u16],
-) -> usize
-    requires { ⌜ Ready (now words) (now counts) used (now holes) (now head) (now next) (now mix) × Answered (now words) used × Used used (now t) rules × (length (now t) ≡ 256) × (rules ≤ 256) × Contexts (storeOf (now words) (now counts) used) (now c) contexts × (length (now c) ≡ 289) × (contexts ≤ 289) × KnownRows (storeOf (now words) (now counts) used) (answersIn used (now words)) (now t) rules (now c) contexts (now table) × (used ≤ length (now list)) × (used ≤ length (now filled)) ⌝ }
-    ensures { λ r. ⌜ ToGap (storeOf (now (words .entry)) (now (counts .entry)) used) (answersIn used (now (words .entry))) (now (t .entry)) rules (now (c .entry)) contexts (now (table .exit)) r ⌝ }
-{
-    let n = holed_rows(used, holes, list);
-    let mut k = 0;
-    while k < rules {
-        if update_row(
-            words,
-            counts,
-            used,
-            holes,
-            head,
-            next,
-            mix,
-            list,
-            n,
-            t,
-            rules,
-            k,
-            c,
-            contexts,
-            filled,
-            table,
-        ) {
-            return k + 1;
-        }
-        k += 1;
-    }
-    rules
-}
-
-// The same where few rows are used.
-fn gap_few(
-    words: &[u32],
-    counts: &[u8],
-    used: u16,
-    holes: &[u8],
-    head: &[u16],
-    next: &[u16],
-    mix: &[u32; 5],
-    t: &[u16; 256],
-    rules: usize,
-    c: &[u16; 289],
-    contexts: usize,
-    table: &mut [u8],
-) -> usize
-    requires { ⌜ Ready (now words) (now counts) used (now holes) (now head) (now next) (now mix) × Answered (now words) used × Used used (now t) rules × (length (now t) ≡ 256) × (rules ≤ 256) × Contexts (storeOf (now words) (now counts) used) (now c) contexts × (length (now c) ≡ 289) × (contexts ≤ 289) × KnownRows (storeOf (now words) (now counts) used) (answersIn used (now words)) (now t) rules (now c) contexts (now table) × (used ≤ 1024) ⌝ }
-    ensures { λ r. ⌜ ToGap (storeOf (now (words .entry)) (now (counts .entry)) used) (answersIn used (now (words .entry))) (now (t .entry)) rules (now (c .entry)) contexts (now (table .exit)) r ⌝ }
-{
-    let mut list = [0u16; 1024];
-    let mut filled = [0u16; 1024];
-    gap_with(
-        words,
-        counts,
-        used,
-        holes,
-        head,
-        next,
-        mix,
-        t,
-        rules,
-        c,
-        contexts,
-        table,
-        &mut list,
-        &mut filled,
-    )
-}
-
-// The same, whatever is used.
 pub fn observe_to_gap(
     words: &[u32],
     counts: &[u8],
@@ -468,8 +92,8 @@ pub fn observe_to_gap(
     requires { ⌜ Ready (now words) (now counts) used (now holes) (now head) (now next) (now mix) × Answered (now words) used × Used used (now t) rules × (length (now t) ≡ 256) × (rules ≤ 256) × Contexts (storeOf (now words) (now counts) used) (now c) contexts × (length (now c) ≡ 289) × (contexts ≤ 289) × KnownRows (storeOf (now words) (now counts) used) (answersIn used (now words)) (now t) rules (now c) contexts (now table) ⌝ }
     ensures { λ r. ⌜ ToGap (storeOf (now (words .entry)) (now (counts .entry)) used) (answersIn used (now (words .entry))) (now (t .entry)) rules (now (c .entry)) contexts (now (table .exit)) r ⌝ }
 {
-    if used <= context::FEW {
-        return gap_few(
+    if used <= SOME {
+        return gap::gap_some(
             words,
             counts,
             used,
@@ -486,7 +110,7 @@ pub fn observe_to_gap(
     }
     let mut list = [0u16; 16384];
     let mut filled = [0u16; 16384];
-    gap_with(
+    gap::gap_with(
         words,
         counts,
         used,

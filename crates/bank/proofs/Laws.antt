@@ -6,12 +6,3 @@ pub mod Kids
 pub mod Row
 pub mod Pass
 pub mod T1
-pub mod Coming
-pub mod Adding
-pub mod Above
-pub mod Paths
-pub mod Filling
-pub mod ArrayStack
-pub mod Reading
-pub mod Storing
-pub mod Ways

@@ -2,5 +2,3 @@ pub mod Rows
 pub mod Index
 pub mod Ready
 pub mod Pass
-pub mod Adding
-pub mod Listed

@@ -1,17 +1,15 @@
--- What helpers rely on: a good store over the lent words, the place of each row's hole, a right index; and what adding rows comes to.
--- Assumes nothing: these are definitions.
+-- What helpers rely on: a good store over the lent words, the place of each row's hole, a right index; the frames along
+-- an array of places; and rows written behind the used ones. Assumes nothing: these are definitions.
 use mathlib.Core.Path.{_≡_}
-use mathlib.Core.Bool.{Bool, true, false, cond}
+use mathlib.Core.Bool.{Bool, cond}
 use mathlib.Core.List.{List, [], _∷_, _++_}
-use Prim.Native.Nat.{ℕ, zero, suc, _+_, _*_, _≤_, _<_}
+use Prim.Native.Nat.{ℕ, zero, suc, _*_, _≤_, _<_}
 use lib.ListN.{length, getD, take, drop}
 use Rattle.model.specs.Limits.{rowWidth, mostRows}
-use Rattle.model.specs.Store.{Node, Store, padded, used, symbolAt, kidsAt, hasHole, Frame, frame, Built, full, built}
-use Rattle.model.specs.Facts.{Good, RowAsked}
+use Rattle.model.specs.Store.{Store, used, symbolAt, kidsAt, hasHole, Frame, frame}
+use Rattle.model.specs.Facts.{Good}
 use Rattle.model.specs.Entry.{storeOf, rowsLent, rowWords}
-use Rattle.model.specs.declared.Row.{Row}
 use Rattle.bank.specs.Index.{Finding}
-use Rattle.bank.specs.declared.add.Grown.{Grown}
 
 -- the place, plus one, of the first child with a property; 0 for none
 abbrev pub oneFurther : (code : ℕ) → ℕ
@@ -56,22 +54,3 @@ withRows ws n y = take (rowWidth * n) ws ++ rowWords (drop n (y .nodes)) [] ++ d
 pub record Kept (words : List ℕ) (n : ℕ) (after : List ℕ) : Type 0 where
   pub same-size : length after ≡ length words
   pub same-rows : take (rowWidth * n) after ≡ take (rowWidth * n) words
-
--- WHAT ADDING ROWS CAME TO: rows ran out, with the first n rows as they were; or the store that was built, ready again
-abbrev pub grownRow : (row used : ℕ) → Grown
-grownRow j n = Grown.At (record { 0 = j }) n
-
-abbrev pub Came : (words counts : List ℕ) → (n : ℕ) → Built → Grown → (words' holes' head' next' mix : List ℕ) → Type 0
-Came ws ns n full r ws' hs' he' ne' m = (r ≡ Grown.Full) × Kept ws n ws'
-Came ws ns n (built j y) r ws' hs' he' ne' m = (r ≡ grownRow j (used y)) × (ws' ≡ withRows ws n y) × Ready ws' ns (used y) hs' he' ne' m
-
--- the children among four places
-abbrev pub kidsOf : (counts : List ℕ) → (symbol : ℕ) → (places : List ℕ) → List ℕ
-kidsOf ns a ps = take (getD ns a 0) ps
-
--- A ROW ASKED FOR by its four places: what model's RowAsked wants of its children, the unused places 0, and the place of its hole
-pub record PlacesAsked (x : Store) (symbol : ℕ) (places : List ℕ) (hole : ℕ) : Type 0 where
-  pub four : length places ≡ 4
-  pub asked : RowAsked x symbol (kidsOf (x .counts) symbol places)
-  pub unused : places ≡ padded (kidsOf (x .counts) symbol places)
-  pub hole-place : hole ≡ placeCode (hasHole x) (kidsOf (x .counts) symbol places)

@@ -230,7 +230,7 @@ fn descend_row(
 }
 
 // All rows from the bottom: the place down, the row at the spot, the exchanged row.
-pub fn descend(
+fn descend(
     words: &[u32],
     counts: &[u8],
     used: u16,
@@ -289,7 +289,7 @@ pub enum Found {
 }
 
 // Turn after turn: the exchanged record is taken in hand while its answer is that of the one before.
-pub fn search(
+fn search(
     words: &[u32],
     counts: &[u8],
     used: u16,
@@ -328,4 +328,70 @@ pub fn search(
         }
         h = row;
     }
+}
+
+// The way down of every row, and where the search in hand ends.
+pub fn find(
+    words: &[u32],
+    counts: &[u8],
+    used: u16,
+    holes: &[u8],
+    head: &[u16],
+    next: &[u16],
+    mix: &[u32; 5],
+    s: &[u16; 32],
+    states: usize,
+    t: &[u16; 256],
+    rules: usize,
+    c: &[u16; 289],
+    contexts: usize,
+    reps: &[u16],
+    down: &mut [u8],
+    at: &mut [u16],
+    exchanged: &mut [u16],
+    hand: Row,
+) -> Found
+    requires { ⌜ Ready (now words) (now counts) used (now holes) (now head) (now next) (now mix) × Handling (storeOf (now words) (now counts) used) (answersIn used (now words)) (take states (now s)) (take rules (now t)) (take contexts (now c)) (now reps) × HandFits (storeOf (now words) (now counts) used) (answersIn used (now words)) (take states (now s)) (take rules (now t)) (take contexts (now c)) (hand .0) × (used ≤ length (now down)) × (used ≤ length (now at)) × (used ≤ length (now exchanged)) ⌝ }
+    ensures { λ r. ⌜ Descended (take states (now (s .entry))) (now (reps .entry)) (storeOf (now (words .entry)) (now (counts .entry)) used) (now (down .exit)) (now (at .exit)) (now (exchanged .exit)) used ⌝ }
+    ensures ended { λ r. ⌜ searchBy (take states (now (s .entry))) (now (reps .entry)) (storeOf (now (words .entry)) (now (counts .entry)) used) r ≡ searchOf (storeOf (now (words .entry)) (now (counts .entry)) used) (answersIn used (now (words .entry))) (take states (now (s .entry))) (take rules (now (t .entry))) (take contexts (now (c .entry))) (hand .0) ⌝ }
+{
+    descend(
+        words,
+        counts,
+        used,
+        holes,
+        head,
+        next,
+        mix,
+        s,
+        states,
+        t,
+        rules,
+        c,
+        contexts,
+        reps,
+        down,
+        at,
+        exchanged,
+    );
+    search(
+        words,
+        counts,
+        used,
+        holes,
+        head,
+        next,
+        mix,
+        s,
+        states,
+        t,
+        rules,
+        c,
+        contexts,
+        reps,
+        down,
+        at,
+        exchanged,
+        hand,
+    )
 }

@@ -15,10 +15,10 @@ ghost use Rattle.bank.specs.Rows.{answerIn, Within};
 ghost use Rattle.bank.specs.Ready.{Ready};
 ghost use Rattle.table.specs.Answers.{Sized};
 ghost use Rattle.hypothesis.specs.Rules.{RepsBy, rulesBy, hypothesis, Ruled, repOf, ledBy};
-use bank::context;
 use bank::index;
-use bank::listed;
 use bank::rows;
+use growth::context;
+use growth::listed;
 use model::Row;
 
 // All entries 0.

@@ -3,10 +3,16 @@ use mathlib.Core.Path.{_≡_}
 use mathlib.Core.List.{List}
 use Prim.Native.Nat.{ℕ, _≤_}
 use lib.ListN.{length}
-use Rattle.model.specs.Calls.{Call}
+use Rattle.model.specs.Calls.{Call, answers, offers}
 use Rattle.model.specs.Entry.{callSeen, callLists, callWords, startSeen, startLists, startWords}
 use Rattle.model.specs.declared.Lists.{Lists}
 use Rattle.learner.specs.declared.calls.Done.{Done}
+use Rattle.learner.specs.declared.tried.Said.{Said}
+
+-- the call that the archive's word makes, with the symbols given beside it
+abbrev pub callOf : Said → (symbols : List ℕ) → Call
+callOf (Said.Answer m) xs = answers m
+callOf (Said.Offer m) xs = offers xs m
 
 pub record CallAs (ws : List ℕ) (l : Lists) (k : Call) (r : Done) (after : List ℕ) : Type 0 where
   pub seen : r .seen ≡ callSeen ws l k

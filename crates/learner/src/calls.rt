@@ -1,25 +1,21 @@
 // Answers (§3.5) and acceptance (§3.6), by value: 18, 30, 31, the input, then the step; a refusal leaves words and lists as they were.
 ghost use mathlib.Core.Path.{_≡_};
 ghost use mathlib.Core.Bool.{true};
-ghost use Prim.Native.Nat.{_<_, _+_, _*_, _≤_};
+ghost use Prim.Native.Nat.{_+_, _*_, _≤_};
 ghost use lib.ListN.{length};
 ghost use Rattle.model.specs.Calls.{answers, accept as acceptCall};
 ghost use Rattle.model.specs.Sound.{isSound};
 ghost use Rattle.model.specs.Entry.{sizeFits, listsFit, tablesOf, refused};
 ghost use Rattle.sound.specs.Working.{Room, Working};
 ghost use Rattle.step.specs.Stepping.{countsIn, closed as closedOf, accepting as acceptingOf};
-ghost use Rattle.learner.specs.Calls.{CallAs, FirstAs};
+ghost use Rattle.learner.specs.Calls.{CallAs};
+use crate::tried;
+use crate::tried::Said;
 use bank::rows;
 use model::Lists;
 use model::Row;
 use model::Seen;
 use step::advance;
-
-// The rows past the used ones that an answer is first tried with: enough, but for deep records.
-const FEW: usize = 128;
-
-// Where more rows are used, contexts may be deep and one answer may add thousands: all rows are lent at once.
-pub const DEEP: u16 = 4096;
 
 // What a call returns, and the lists that it leaves.
 pub struct Done {
@@ -83,7 +79,7 @@ fn take_answer(
 }
 
 // An answer to tables of a size that fits, in lists that fit, with room to work in and to save the rows in.
-fn answer_in(
+pub fn answer_in(
     words: &mut [u32],
     lists: Lists,
     mark: u8,
@@ -123,189 +119,12 @@ fn answer_in(
     )
 }
 
-// The same with room for at most 384 rows and fewer than 40 transitions.
-fn answer_tiny(words: &mut [u32], lists: Lists, mark: u8, saved: &mut [u32]) -> Done
-    requires { ⌜ (sizeFits (now words) ≡ true) × (listsFit lists ≡ true) × (length (now words) ≤ 6 * lists .used + length (now saved)) × (length (now words) ≤ 2304) × (lists .rules < 40) ⌝ }
-    ensures { λ r. ⌜ CallAs (now (words .entry)) lists (answers mark) r (now (words .exit)) ⌝ }
-{
-    let mut holes = [0u8; 384];
-    let mut head = [0u16; 512];
-    let mut next = [0u16; 384];
-    let mut mix = [0u32; 5];
-    let mut table = [0u8; 11560];
-    let mut places = [0u16; 32];
-    let mut reps = [0u16; 384];
-    answer_in(
-        words,
-        lists,
-        mark,
-        saved,
-        &mut holes,
-        &mut head,
-        &mut next,
-        &mut mix,
-        &mut table,
-        &mut places,
-        &mut reps,
-    )
-}
-
-// The same with room for at most 1,024 rows and fewer than 64 transitions.
-fn answer_small(words: &mut [u32], lists: Lists, mark: u8, saved: &mut [u32]) -> Done
-    requires { ⌜ (sizeFits (now words) ≡ true) × (listsFit lists ≡ true) × (length (now words) ≤ 6 * lists .used + length (now saved)) × (length (now words) ≤ 6144) × (lists .rules < 64) ⌝ }
-    ensures { λ r. ⌜ CallAs (now (words .entry)) lists (answers mark) r (now (words .exit)) ⌝ }
-{
-    let mut holes = [0u8; 1024];
-    let mut head = [0u16; 1024];
-    let mut next = [0u16; 1024];
-    let mut mix = [0u32; 5];
-    let mut table = [0u8; 18496];
-    let mut places = [0u16; 32];
-    let mut reps = [0u16; 1024];
-    answer_in(
-        words,
-        lists,
-        mark,
-        saved,
-        &mut holes,
-        &mut head,
-        &mut next,
-        &mut mix,
-        &mut table,
-        &mut places,
-        &mut reps,
-    )
-}
-
-// The same with room for at most 2,048 rows and fewer than 128 transitions.
-fn answer_mid(words: &mut [u32], lists: Lists, mark: u8, saved: &mut [u32]) -> Done
-    requires { ⌜ (sizeFits (now words) ≡ true) × (listsFit lists ≡ true) × (length (now words) ≤ 6 * lists .used + length (now saved)) × (length (now words) ≤ 12288) × (lists .rules < 128) ⌝ }
-    ensures { λ r. ⌜ CallAs (now (words .entry)) lists (answers mark) r (now (words .exit)) ⌝ }
-{
-    let mut holes = [0u8; 2048];
-    let mut head = [0u16; 4096];
-    let mut next = [0u16; 2048];
-    let mut mix = [0u32; 5];
-    let mut table = [0u8; 36992];
-    let mut places = [0u16; 32];
-    let mut reps = [0u16; 2048];
-    answer_in(
-        words,
-        lists,
-        mark,
-        saved,
-        &mut holes,
-        &mut head,
-        &mut next,
-        &mut mix,
-        &mut table,
-        &mut places,
-        &mut reps,
-    )
-}
-
-// The same with room for all that may be lent.
-fn answer_wide(words: &mut [u32], lists: Lists, mark: u8, saved: &mut [u32]) -> Done
-    requires { ⌜ (sizeFits (now words) ≡ true) × (listsFit lists ≡ true) × (length (now words) ≤ 6 * lists .used + length (now saved)) ⌝ }
-    ensures { λ r. ⌜ CallAs (now (words .entry)) lists (answers mark) r (now (words .exit)) ⌝ }
-{
-    let mut holes = [0u8; 16384];
-    let mut head = [0u16; 16384];
-    let mut next = [0u16; 16384];
-    let mut mix = [0u32; 5];
-    let mut table = [0u8; 74273];
-    let mut places = [0u16; 32];
-    let mut reps = [0u16; 16384];
-    answer_in(
-        words,
-        lists,
-        mark,
-        saved,
-        &mut holes,
-        &mut head,
-        &mut next,
-        &mut mix,
-        &mut table,
-        &mut places,
-        &mut reps,
-    )
-}
-
-// The same with as much room as it takes.
-fn answer_within(words: &mut [u32], lists: Lists, mark: u8, saved: &mut [u32]) -> Done
-    requires { ⌜ (sizeFits (now words) ≡ true) × (listsFit lists ≡ true) × (length (now words) ≤ 6 * lists .used + length (now saved)) ⌝ }
-    ensures { λ r. ⌜ CallAs (now (words .entry)) lists (answers mark) r (now (words .exit)) ⌝ }
-{
-    if words.len() <= 2304 {
-        if lists.rules < 40 {
-            return answer_tiny(words, lists, mark, saved);
-        }
-    }
-    if words.len() <= 6144 {
-        if lists.rules < 64 {
-            return answer_small(words, lists, mark, saved);
-        }
-    }
-    if words.len() <= 12288 {
-        if lists.rules < 128 {
-            return answer_mid(words, lists, mark, saved);
-        }
-    }
-    answer_wide(words, lists, mark, saved)
-}
-
-// The same with few rows past the used ones, and only these are saved: 34 where they are not enough.
-fn answer_first(words: &mut [u32], lists: Lists, mark: u8) -> Done
-    requires { ⌜ (sizeFits (now words) ≡ true) × (listsFit lists ≡ true) ⌝ }
-    ensures { λ r. ⌜ FirstAs (now (words .entry)) (6 * (lists .used + 128)) lists (answers mark) r (now (words .exit)) ⌝ }
-{
-    let mut saved = [0u32; rows::WIDTH * FEW];
-    let most = rows::WIDTH * (lists.used as usize + FEW);
-    if words.len() <= most {
-        return answer_within(words, lists, mark, &mut saved);
-    }
-    answer_within(&mut words[..most], lists, mark, &mut saved)
-}
-
-// The same on all rows.
-fn answer_all(words: &mut [u32], lists: Lists, mark: u8) -> Done
-    requires { ⌜ (sizeFits (now words) ≡ true) × (listsFit lists ≡ true) ⌝ }
-    ensures { λ r. ⌜ CallAs (now (words .entry)) lists (answers mark) r (now (words .exit)) ⌝ }
-{
-    let mut saved = [0u32; 98304];
-    answer_within(words, lists, mark, &mut saved)
-}
-
-// The same: tried with few rows, and where they are not enough and more are lent, on all.
-fn answer_lent(words: &mut [u32], lists: Lists, mark: u8) -> Done
-    requires { ⌜ (sizeFits (now words) ≡ true) × (listsFit lists ≡ true) ⌝ }
-    ensures { λ r. ⌜ CallAs (now (words .entry)) lists (answers mark) r (now (words .exit)) ⌝ }
-{
-    if DEEP < lists.used {
-        return answer_all(words, lists, mark);
-    }
-    let done = answer_first(words, lists, mark);
-    let seen = done.seen;
-    if seen.number != 34 {
-        return done;
-    }
-    if words.len() <= rows::WIDTH * (lists.used as usize + FEW) {
-        return done;
-    }
-    answer_all(words, lists, mark)
-}
-
 // An answer: 18, 30, 31, 16, then the step.
 pub fn answer(words: &mut [u32], lists: Lists, mark: u8) -> Done
     ensures { λ r. ⌜ CallAs (now (words .entry)) lists (answers mark) r (now (words .exit)) ⌝ }
 {
-    if !observe::size_fits(words) {
-        return refuse(18, lists);
-    }
-    if !observe::lists_fit(lists) {
-        return refuse(30, lists);
-    }
-    answer_lent(words, lists, mark)
+    let none = [0u8; 1];
+    tried::made(words, lists, &none[..0], Said::Answer(mark))
 }
 
 // The lists with the run accepted.

@@ -3,3 +3,4 @@
 pub mod calls; // calls.rt: answers and acceptance
 pub mod offer; // offer.rt: offers
 pub mod start; // start.rt: start
+pub mod tried; // tried.rt: the room that a call is made in

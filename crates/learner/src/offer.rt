@@ -1,30 +1,25 @@
 // Offers (§3.4), by value: 18, 30, 31, 11 to 16, 32, 33, then the step; a refusal leaves words and lists as they were.
 ghost use mathlib.Core.Path.{_≡_};
 ghost use mathlib.Core.Bool.{true};
-ghost use Prim.Native.Nat.{_<_, _+_, _*_, _≤_};
+ghost use Prim.Native.Nat.{_+_, _*_, _≤_};
 ghost use lib.ListN.{length};
-ghost use Rattle.model.specs.Calls.{offers, offerFault};
+ghost use Rattle.model.specs.Calls.{offers, offerFault, verdictIs};
 ghost use Rattle.model.specs.Sound.{isSound};
 ghost use Rattle.model.specs.Entry.{sizeFits, listsFit, tablesOf};
 ghost use Rattle.sound.specs.Working.{Room, Working};
 ghost use Rattle.step.specs.Stepping.{countsIn, takenUp};
-ghost use Rattle.learner.specs.Calls.{CallAs, FirstAs};
-ghost use Rattle.learner.specs.Lines.{InputFault};
+ghost use Rattle.learner.specs.Calls.{CallAs};
+ghost use Rattle.learner.specs.Lines.{InputFault, Tested};
 use crate::calls;
 use crate::calls::Done;
-use bank::add::Grown;
-use bank::listed;
+use crate::tried;
+use crate::tried::Said;
 use bank::rows;
+use growth::add::Grown;
+use growth::listed;
 use model::Lists;
 use model::Row;
 use step::advance;
-
-// Rows past the used ones in the first try of an offer, of a record of at most so many symbols and of a longer one.
-const SHORT: usize = 64;
-
-const FEW: usize = 128;
-
-const MANY: usize = 1152;
 
 // The lists with a record in hand.
 fn taken_up(lists: Lists, row: Row, used: u16) -> Lists
@@ -61,6 +56,45 @@ fn input_fault(lists: Lists, symbols: &[u8], mark: u8) -> u8
     0
 }
 
+// Whether the mark is the verdict of the hypothesis, on an offer that no line before 32 refuses.
+fn verdict_is(
+    words: &[u32],
+    lists: Lists,
+    symbols: &[u8],
+    mark: u8,
+    holes: &[u8],
+    head: &[u16],
+    next: &[u16],
+    mix: &[u32; 5],
+    table: &[u8],
+    places: &[u16; 32],
+    reps: &[u16],
+) -> bool
+    requires { ⌜ (listsFit lists ≡ true) × (isSound (tablesOf (now words) lists) ≡ true) × Working (now words) (countsIn lists) (lists .used) (lists .s) (lists .states) (lists .t) (lists .rules) (lists .c) (lists .contexts) (now holes) (now head) (now next) (now mix) (now table) (now places) (now reps) × Tested lists (now symbols) mark ⌝ }
+    ensures { λ r. ⌜ r ≡ verdictIs (tablesOf (now (words .entry)) lists) (now (symbols .entry)) mark ⌝ }
+{
+    let letters = lists.letters as usize;
+    let counts = lists.counts;
+    let s = lists.s;
+    let t = lists.t;
+    let yes = hypothesis::accepts_list(
+        words,
+        &counts[..letters],
+        lists.used,
+        holes,
+        head,
+        next,
+        mix,
+        &s,
+        lists.states as usize,
+        &t,
+        lists.rules as usize,
+        reps,
+        symbols,
+    );
+    yes == (mark == 1)
+}
+
 // The number of the first line that refuses an offer to sound tables; 0 for none.
 fn fault_of(
     words: &[u32],
@@ -82,28 +116,23 @@ fn fault_of(
     if fault != 0 {
         return fault;
     }
-    let letters = lists.letters as usize;
-    let counts = lists.counts;
-    let s = lists.s;
-    let t = lists.t;
-    let yes = hypothesis::accepts_list(
+    if verdict_is(
         words,
-        &counts[..letters],
-        lists.used,
+        lists,
+        symbols,
+        mark,
         holes,
         head,
         next,
         mix,
-        &s,
-        lists.states as usize,
-        &t,
-        lists.rules as usize,
+        table,
+        places,
         reps,
-        symbols,
-    );
-    if yes == (mark == 1) {
+    ) {
         return 32;
     }
+    let letters = lists.letters as usize;
+    let counts = lists.counts;
     let row = listed::known_row(
         words,
         &counts[..letters],
@@ -180,7 +209,7 @@ fn take_offer(
 }
 
 // An offer to tables of a size that fits, in lists that fit, with room to work in and to save the rows in.
-fn offer_in(
+pub fn offer_in(
     words: &mut [u32],
     lists: Lists,
     symbols: &[u8],
@@ -232,231 +261,9 @@ fn offer_in(
     )
 }
 
-// The same with room for at most 384 rows and fewer than 40 transitions.
-fn offer_tiny(words: &mut [u32], lists: Lists, symbols: &[u8], mark: u8, saved: &mut [u32]) -> Done
-    requires { ⌜ (sizeFits (now words) ≡ true) × (listsFit lists ≡ true) × (length (now words) ≤ 6 * lists .used + length (now saved)) × (length (now words) ≤ 2304) × (lists .rules < 40) ⌝ }
-    ensures { λ r. ⌜ CallAs (now (words .entry)) lists (offers (now (symbols .entry)) mark) r (now (words .exit)) ⌝ }
-{
-    let mut holes = [0u8; 384];
-    let mut head = [0u16; 512];
-    let mut next = [0u16; 384];
-    let mut mix = [0u32; 5];
-    let mut table = [0u8; 11560];
-    let mut places = [0u16; 32];
-    let mut reps = [0u16; 384];
-    offer_in(
-        words,
-        lists,
-        symbols,
-        mark,
-        saved,
-        &mut holes,
-        &mut head,
-        &mut next,
-        &mut mix,
-        &mut table,
-        &mut places,
-        &mut reps,
-    )
-}
-
-// The same with room for at most 1,024 rows and fewer than 64 transitions.
-fn offer_small(words: &mut [u32], lists: Lists, symbols: &[u8], mark: u8, saved: &mut [u32]) -> Done
-    requires { ⌜ (sizeFits (now words) ≡ true) × (listsFit lists ≡ true) × (length (now words) ≤ 6 * lists .used + length (now saved)) × (length (now words) ≤ 6144) × (lists .rules < 64) ⌝ }
-    ensures { λ r. ⌜ CallAs (now (words .entry)) lists (offers (now (symbols .entry)) mark) r (now (words .exit)) ⌝ }
-{
-    let mut holes = [0u8; 1024];
-    let mut head = [0u16; 1024];
-    let mut next = [0u16; 1024];
-    let mut mix = [0u32; 5];
-    let mut table = [0u8; 18496];
-    let mut places = [0u16; 32];
-    let mut reps = [0u16; 1024];
-    offer_in(
-        words,
-        lists,
-        symbols,
-        mark,
-        saved,
-        &mut holes,
-        &mut head,
-        &mut next,
-        &mut mix,
-        &mut table,
-        &mut places,
-        &mut reps,
-    )
-}
-
-// The same with room for at most 2,048 rows and fewer than 128 transitions.
-fn offer_mid(words: &mut [u32], lists: Lists, symbols: &[u8], mark: u8, saved: &mut [u32]) -> Done
-    requires { ⌜ (sizeFits (now words) ≡ true) × (listsFit lists ≡ true) × (length (now words) ≤ 6 * lists .used + length (now saved)) × (length (now words) ≤ 12288) × (lists .rules < 128) ⌝ }
-    ensures { λ r. ⌜ CallAs (now (words .entry)) lists (offers (now (symbols .entry)) mark) r (now (words .exit)) ⌝ }
-{
-    let mut holes = [0u8; 2048];
-    let mut head = [0u16; 4096];
-    let mut next = [0u16; 2048];
-    let mut mix = [0u32; 5];
-    let mut table = [0u8; 36992];
-    let mut places = [0u16; 32];
-    let mut reps = [0u16; 2048];
-    offer_in(
-        words,
-        lists,
-        symbols,
-        mark,
-        saved,
-        &mut holes,
-        &mut head,
-        &mut next,
-        &mut mix,
-        &mut table,
-        &mut places,
-        &mut reps,
-    )
-}
-
-// The same with room for all that may be lent.
-fn offer_wide(words: &mut [u32], lists: Lists, symbols: &[u8], mark: u8, saved: &mut [u32]) -> Done
-    requires { ⌜ (sizeFits (now words) ≡ true) × (listsFit lists ≡ true) × (length (now words) ≤ 6 * lists .used + length (now saved)) ⌝ }
-    ensures { λ r. ⌜ CallAs (now (words .entry)) lists (offers (now (symbols .entry)) mark) r (now (words .exit)) ⌝ }
-{
-    let mut holes = [0u8; 16384];
-    let mut head = [0u16; 16384];
-    let mut next = [0u16; 16384];
-    let mut mix = [0u32; 5];
-    let mut table = [0u8; 74273];
-    let mut places = [0u16; 32];
-    let mut reps = [0u16; 16384];
-    offer_in(
-        words,
-        lists,
-        symbols,
-        mark,
-        saved,
-        &mut holes,
-        &mut head,
-        &mut next,
-        &mut mix,
-        &mut table,
-        &mut places,
-        &mut reps,
-    )
-}
-
-// The same with as much room as it takes.
-fn offer_within(
-    words: &mut [u32],
-    lists: Lists,
-    symbols: &[u8],
-    mark: u8,
-    saved: &mut [u32],
-) -> Done
-    requires { ⌜ (sizeFits (now words) ≡ true) × (listsFit lists ≡ true) × (length (now words) ≤ 6 * lists .used + length (now saved)) ⌝ }
-    ensures { λ r. ⌜ CallAs (now (words .entry)) lists (offers (now (symbols .entry)) mark) r (now (words .exit)) ⌝ }
-{
-    if words.len() <= 2304 {
-        if lists.rules < 40 {
-            return offer_tiny(words, lists, symbols, mark, saved);
-        }
-    }
-    if words.len() <= 6144 {
-        if lists.rules < 64 {
-            return offer_small(words, lists, symbols, mark, saved);
-        }
-    }
-    if words.len() <= 12288 {
-        if lists.rules < 128 {
-            return offer_mid(words, lists, symbols, mark, saved);
-        }
-    }
-    offer_wide(words, lists, symbols, mark, saved)
-}
-
-// The same with so many rows past the used ones, and only these are saved: 34 where they are not enough.
-fn offer_first(
-    words: &mut [u32],
-    lists: Lists,
-    symbols: &[u8],
-    mark: u8,
-    few: usize,
-    saved: &mut [u32],
-) -> Done
-    requires { ⌜ (sizeFits (now words) ≡ true) × (listsFit lists ≡ true) × (1 ≤ few) × (few ≤ 1152) × (6 * few ≤ length (now saved)) ⌝ }
-    ensures { λ r. ⌜ FirstAs (now (words .entry)) (6 * (lists .used + few)) lists (offers (now (symbols .entry)) mark) r (now (words .exit)) ⌝ }
-{
-    let most = rows::WIDTH * (lists.used as usize + few);
-    if words.len() <= most {
-        return offer_within(words, lists, symbols, mark, saved);
-    }
-    offer_within(&mut words[..most], lists, symbols, mark, saved)
-}
-
-// The same on all rows.
-fn offer_all(words: &mut [u32], lists: Lists, symbols: &[u8], mark: u8) -> Done
-    requires { ⌜ (sizeFits (now words) ≡ true) × (listsFit lists ≡ true) ⌝ }
-    ensures { λ r. ⌜ CallAs (now (words .entry)) lists (offers (now (symbols .entry)) mark) r (now (words .exit)) ⌝ }
-{
-    let mut saved = [0u32; 98304];
-    offer_within(words, lists, symbols, mark, &mut saved)
-}
-
-// The same: tried with so many rows, and where they are not enough and more are lent, on all.
-fn offer_tried(
-    words: &mut [u32],
-    lists: Lists,
-    symbols: &[u8],
-    mark: u8,
-    few: usize,
-    saved: &mut [u32],
-) -> Done
-    requires { ⌜ (sizeFits (now words) ≡ true) × (listsFit lists ≡ true) × (1 ≤ few) × (few ≤ 1152) × (6 * few ≤ length (now saved)) ⌝ }
-    ensures { λ r. ⌜ CallAs (now (words .entry)) lists (offers (now (symbols .entry)) mark) r (now (words .exit)) ⌝ }
-{
-    if calls::DEEP < lists.used {
-        return offer_all(words, lists, symbols, mark);
-    }
-    let done = offer_first(words, lists, symbols, mark, few, saved);
-    let seen = done.seen;
-    if seen.number != 34 {
-        return done;
-    }
-    if words.len() <= rows::WIDTH * (lists.used as usize + few) {
-        return done;
-    }
-    offer_all(words, lists, symbols, mark)
-}
-
-// The same of a short record.
-fn offer_short(words: &mut [u32], lists: Lists, symbols: &[u8], mark: u8) -> Done
-    requires { ⌜ (sizeFits (now words) ≡ true) × (listsFit lists ≡ true) ⌝ }
-    ensures { λ r. ⌜ CallAs (now (words .entry)) lists (offers (now (symbols .entry)) mark) r (now (words .exit)) ⌝ }
-{
-    let mut saved = [0u32; rows::WIDTH * FEW];
-    offer_tried(words, lists, symbols, mark, FEW, &mut saved)
-}
-
-// The same of any record: the longer it is, the more rows it may add.
-fn offer_lent(words: &mut [u32], lists: Lists, symbols: &[u8], mark: u8) -> Done
-    requires { ⌜ (sizeFits (now words) ≡ true) × (listsFit lists ≡ true) ⌝ }
-    ensures { λ r. ⌜ CallAs (now (words .entry)) lists (offers (now (symbols .entry)) mark) r (now (words .exit)) ⌝ }
-{
-    if symbols.len() <= SHORT {
-        return offer_short(words, lists, symbols, mark);
-    }
-    let mut saved = [0u32; rows::WIDTH * MANY];
-    offer_tried(words, lists, symbols, mark, MANY, &mut saved)
-}
-
 // An offer: 18, 30, its own lines, then the step.
 pub fn offer(words: &mut [u32], lists: Lists, symbols: &[u8], mark: u8) -> Done
     ensures { λ r. ⌜ CallAs (now (words .entry)) lists (offers (now (symbols .entry)) mark) r (now (words .exit)) ⌝ }
 {
-    if !observe::size_fits(words) {
-        return calls::refuse(18, lists);
-    }
-    if !observe::lists_fit(lists) {
-        return calls::refuse(30, lists);
-    }
-    offer_lent(words, lists, symbols, mark)
+    tried::made(words, lists, symbols, Said::Offer(mark))
 }

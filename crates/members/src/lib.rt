@@ -5,19 +5,20 @@ ghost use Prim.Native.Nat.{_+_, _<_, _≤_};
 ghost use lib.ListN.{length, take};
 ghost use Rattle.model.specs.Base.{among, noRepeats, allAmong, placeOf};
 
-// Whether a number is among the first n of a slice.
+// Whether a number is among the first n of a slice. The loop goes on past it: without a way out the compiler compares many at once.
 pub fn is_among(xs: &[u16], n: usize, x: u16) -> bool
     requires { ⌜ n ≤ length (now xs) ⌝ }
     ensures { λ r. ⌜ r ≡ among x (take n (now (xs .entry))) ⌝ }
 {
+    let mut found = false;
     let mut i = 0;
     while i < n {
         if xs[i] == x {
-            return true;
+            found = true;
         }
         i += 1;
     }
-    false
+    found
 }
 
 // The place of a number among the first n of a slice; n for none.

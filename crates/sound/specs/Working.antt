@@ -1,6 +1,6 @@
 -- The soundness test in its parts (§2.3), and what it leaves for a step to work with. Assumes nothing: these are definitions.
 use mathlib.Core.Path.{_≡_}
-use mathlib.Core.Bool.{Bool, _&&_, _||_, not, cond}
+use mathlib.Core.Bool.{Bool, false, _&&_, _||_, not, cond}
 use mathlib.Core.List.{List}
 use Prim.Native.Nat.{ℕ, _*_, _≤_}
 use lib.Dec.{eqb}
@@ -13,7 +13,7 @@ use Rattle.model.specs.Entry.{storeOf, answersIn}
 use Rattle.bank.specs.Rows.{answerIn}
 use Rattle.bank.specs.Ready.{Ready}
 use Rattle.bank.specs.Pass as Rows
-use Rattle.table.specs.Answers.{Observed, Placing, Placed}
+use Rattle.table.specs.Answers.{Observed, Placing, Placed, gapFrom, isOpen}
 use Rattle.roles.specs.Marked.{recordBy}
 use Rattle.hypothesis.specs.Rules.{RepsBy, hypothesis}
 use Rattle.observe.specs.Given.{rolesFit}
@@ -35,13 +35,13 @@ pub record Room (words : List ℕ) (n : ℕ) (holes head next mix table places r
   pub places-long : length places ≡ 32
   pub reps-long : length words ≤ rowWidth * length reps
 
--- the index, the table of answers, S by its places in T, the representative of each transition
+-- the index, the table of answers, S by its places in T; where no answer is missing, the representative of each transition
 pub record Working (words counts : List ℕ) (u : ℕ) (s : List ℕ) (q : ℕ) (t : List ℕ) (n : ℕ) (c : List ℕ) (m : ℕ) (holes head next mix table places reps : List ℕ) : Type 0 where
   pub ready : Ready words counts u holes head next mix
   pub observed : Observed (storeOf words counts u) (answersIn u words) t n c m table
   pub placing : Placing places q n
   pub placed : Placed t n s q places
-  pub reps-by : RepsBy table m (take q places) (take q s) (take n t) reps
+  pub reps-by : isOpen (gapFrom table m 0 n) ≡ false → RepsBy table m (take q places) (take q s) (take n t) reps
   pub reps-long : length words ≤ rowWidth * length reps
 
 -- T1, T2, T3, and T4 but for its last clause; then the rest

@@ -1,13 +1,18 @@
 // The soundness test whole (§2.3), and looking (§3.3), on any words and any lists.
 ghost use mathlib.Core.Path.{_≡_};
 ghost use mathlib.Core.Bool.{true, false};
+ghost use Prim.Native.Nat.{ℕ, _*_, _<_, _≤_};
 ghost use lib.Dec.{eqb};
-ghost use lib.ListN.{take};
+ghost use lib.ListN.{length, getD, take};
+ghost use Rattle.model.specs.Limits.{mostContexts};
+ghost use Rattle.model.specs.Base.{noRepeats, allAmong};
 ghost use Rattle.model.specs.Sound.{isSound};
 ghost use Rattle.model.specs.Calls.{looks, look as lookOf};
-ghost use Rattle.model.specs.Entry.{storeOf, sizeFits, listsFit, tablesOf, seenOf, callSeen};
+ghost use Rattle.model.specs.Entry.{storeOf, answersIn, sizeFits, listsFit, tablesOf, seenOf, callSeen};
 ghost use Rattle.bank.specs.Ready.{Ready};
-ghost use Rattle.hypothesis.specs.Rules.{Ruled};
+ghost use Rattle.bank.specs.Pass as Rows;
+ghost use Rattle.table.specs.Answers.{Sized, Observed, Placing, Placed, gapFrom, isOpen};
+ghost use Rattle.hypothesis.specs.Rules.{RepsBy, Ruled};
 ghost use Rattle.observe.specs.Given.{given};
 ghost use Rattle.sound.specs.Working.{Arrays, Room, Working, preparedFit, judgedFit, handFits};
 use bank::pass;
@@ -17,7 +22,36 @@ use model::Row;
 use model::Seen;
 use observe::judge;
 
-// T1, T2, T3 and T4's first clauses; where they hold, the table of answers and the representatives are worked out.
+// Small room: for so many rows, and for fewer transitions than so many; a row of the table of answers is as long as C can be.
+const FEW_ROWS: usize = 1024;
+
+const FEW_RULES: usize = 64;
+
+const CONTEXTS: usize = 289;
+
+// S by its places in T, and whether an answer is missing; where none is, the representative of each transition too.
+fn represent(
+    table: &[u8],
+    contexts: usize,
+    s: &[u16; 32],
+    states: usize,
+    t: &[u16; 256],
+    rules: usize,
+    places: &mut [u16; 32],
+    reps: &mut [u16],
+) -> bool
+    requires { ⌜ Sized (now table) rules contexts × (length (now s) ≡ 32) × (states ≤ 32) × (length (now t) ≡ 256) × (rules ≤ 256) × (length (now places) ≡ 32) × (allAmong (take states (now s)) (take rules (now t)) ≡ true) × ((k : ℕ) → k < rules → getD (now t) k 0 < length (now reps)) × (noRepeats (take rules (now t)) ≡ true) ⌝ }
+    ensures { λ r. ⌜ (r ≡ isOpen (gapFrom (now (table .entry)) contexts 0 rules)) × Placing (now (places .exit)) states rules × Placed (now (t .entry)) rules (now (s .entry)) states (now (places .exit)) × (isOpen (gapFrom (now (table .entry)) contexts 0 rules) ≡ false → RepsBy (now (table .entry)) contexts (take states (now (places .exit))) (take states (now (s .entry))) (take rules (now (t .entry))) (now (reps .exit))) ⌝ }
+{
+    judge::find_places(s, states, t, rules, places);
+    if judge::is_missing(table, rules, contexts) {
+        return true;
+    }
+    hypothesis::find_reps(table, contexts, places, s, states, t, rules, reps);
+    false
+}
+
+// T1, T2, T3 and T4's first clauses; where they hold, the table of answers is worked out.
 fn prepare(
     words: &[u32],
     counts: &[u8],
@@ -33,12 +67,10 @@ fn prepare(
     next: &mut [u16],
     mix: &mut [u32; 5],
     table: &mut [u8],
-    places: &mut [u16; 32],
-    reps: &mut [u16],
 ) -> bool
-    requires { ⌜ (sizeFits (now words) ≡ true) × Arrays (now s) states (now t) rules (now c) contexts × Room (now words) rules (now holes) (now head) (now next) (now mix) (now table) (now places) (now reps) ⌝ }
+    requires { ⌜ (sizeFits (now words) ≡ true) × Arrays (now s) states (now t) rules (now c) contexts × Rows.Room (now words) (now holes) (now head) (now next) × (length (now mix) ≡ 5) × (mostContexts * rules ≤ length (now table)) ⌝ }
     ensures { λ r. ⌜ r ≡ preparedFit (given (now (words .entry)) (now (counts .entry)) used (now (s .entry)) states (now (t .entry)) rules (now (c .entry)) contexts 0 0 false) ⌝ }
-    ensures working { λ r. ⌜ (r ≡ true → Working (now (words .entry)) (now (counts .entry)) used (now (s .entry)) states (now (t .entry)) rules (now (c .entry)) contexts (now (holes .exit)) (now (head .exit)) (now (next .exit)) (now (mix .exit)) (now (table .exit)) (now (places .exit)) (now (reps .exit))) ⌝ }
+    ensures observed { λ r. ⌜ (r ≡ true → Ready (now (words .entry)) (now (counts .entry)) used (now (holes .exit)) (now (head .exit)) (now (next .exit)) (now (mix .exit)) × Observed (storeOf (now (words .entry)) (now (counts .entry)) used) (answersIn used (now (words .entry))) (now (t .entry)) rules (now (c .entry)) contexts (now (table .exit))) ⌝ }
 {
     if !pass::t1(words, counts, used, holes, head, next, mix) {
         return false;
@@ -74,8 +106,6 @@ fn prepare(
         contexts,
         table,
     );
-    judge::find_places(s, states, t, rules, places);
-    hypothesis::find_reps(table, contexts, places, s, states, t, rules, reps);
     true
 }
 
@@ -129,6 +159,13 @@ fn hand_fits(
     answer == 2
 }
 
+// How a run stands: the record in hand, the open question, whether it is accepted.
+struct Standing {
+    hand: u16,
+    asked: u16,
+    accepted: u8,
+}
+
 // T4's last clause and T5 to T8, by what has been worked out.
 fn judged(
     words: &[u32],
@@ -147,14 +184,12 @@ fn judged(
     table: &[u8],
     places: &[u16; 32],
     reps: &[u16],
-    hand: u16,
-    asked: u16,
-    accepted: u8,
+    standing: Standing,
+    missing: bool,
 ) -> bool
-    requires { ⌜ Arrays (now s) states (now t) rules (now c) contexts × Working (now words) (now counts) used (now s) states (now t) rules (now c) contexts (now holes) (now head) (now next) (now mix) (now table) (now places) (now reps) × (preparedFit (given (now words) (now counts) used (now s) states (now t) rules (now c) contexts 0 0 false) ≡ true) ⌝ }
-    ensures { λ r. ⌜ r ≡ judgedFit (given (now (words .entry)) (now (counts .entry)) used (now (s .entry)) states (now (t .entry)) rules (now (c .entry)) contexts hand asked (eqb accepted 1)) ⌝ }
+    requires { ⌜ Arrays (now s) states (now t) rules (now c) contexts × Working (now words) (now counts) used (now s) states (now t) rules (now c) contexts (now holes) (now head) (now next) (now mix) (now table) (now places) (now reps) × (preparedFit (given (now words) (now counts) used (now s) states (now t) rules (now c) contexts 0 0 false) ≡ true) × (missing ≡ isOpen (gapFrom (now table) contexts 0 rules)) ⌝ }
+    ensures { λ r. ⌜ r ≡ judgedFit (given (now (words .entry)) (now (counts .entry)) used (now (s .entry)) states (now (t .entry)) rules (now (c .entry)) contexts (standing .hand) (standing .asked) (eqb (standing .accepted) 1)) ⌝ }
 {
-    let missing = judge::is_missing(table, rules, contexts);
     if !judge::table_fits(table, places, states, rules, contexts, missing) {
         return false;
     }
@@ -171,12 +206,20 @@ fn judged(
         next,
         mix,
         reps,
-        hand,
+        standing.hand,
         missing,
     ) {
         return false;
     }
-    judge::question_fits(words, used, holes, hand, asked, accepted, missing)
+    judge::question_fits(
+        words,
+        used,
+        holes,
+        standing.hand,
+        standing.asked,
+        standing.accepted,
+        missing,
+    )
 }
 
 // T1 to T8; where they hold, what a step works with is ready.
@@ -190,9 +233,7 @@ fn is_sound(
     rules: usize,
     c: &[u16; 289],
     contexts: usize,
-    hand: u16,
-    asked: u16,
-    accepted: u8,
+    standing: Standing,
     holes: &mut [u8],
     head: &mut [u16],
     next: &mut [u16],
@@ -202,7 +243,7 @@ fn is_sound(
     reps: &mut [u16],
 ) -> bool
     requires { ⌜ (sizeFits (now words) ≡ true) × Arrays (now s) states (now t) rules (now c) contexts × Room (now words) rules (now holes) (now head) (now next) (now mix) (now table) (now places) (now reps) ⌝ }
-    ensures { λ r. ⌜ r ≡ isSound (given (now (words .entry)) (now (counts .entry)) used (now (s .entry)) states (now (t .entry)) rules (now (c .entry)) contexts hand asked (eqb accepted 1)) ⌝ }
+    ensures { λ r. ⌜ r ≡ isSound (given (now (words .entry)) (now (counts .entry)) used (now (s .entry)) states (now (t .entry)) rules (now (c .entry)) contexts (standing .hand) (standing .asked) (eqb (standing .accepted) 1)) ⌝ }
     ensures working { λ r. ⌜ (r ≡ true → Working (now (words .entry)) (now (counts .entry)) used (now (s .entry)) states (now (t .entry)) rules (now (c .entry)) contexts (now (holes .exit)) (now (head .exit)) (now (next .exit)) (now (mix .exit)) (now (table .exit)) (now (places .exit)) (now (reps .exit))) ⌝ }
 {
     if !prepare(
@@ -220,11 +261,10 @@ fn is_sound(
         next,
         mix,
         table,
-        places,
-        reps,
     ) {
         return false;
     }
+    let missing = represent(table, contexts, s, states, t, rules, places, reps);
     judged(
         words,
         counts,
@@ -242,9 +282,8 @@ fn is_sound(
         table,
         places,
         reps,
-        hand,
-        asked,
-        accepted,
+        standing,
+        missing,
     )
 }
 
@@ -269,6 +308,11 @@ pub fn lists_sound(
     let s = lists.s;
     let t = lists.t;
     let c = lists.c;
+    let standing = Standing {
+        hand: lists.hand,
+        asked: lists.asked,
+        accepted: lists.accepted,
+    };
     is_sound(
         words,
         &counts[..letters],
@@ -279,9 +323,7 @@ pub fn lists_sound(
         lists.rules as usize,
         &c,
         lists.contexts as usize,
-        lists.hand,
-        lists.asked,
-        lists.accepted,
+        standing,
         holes,
         head,
         next,
@@ -289,31 +331,6 @@ pub fn lists_sound(
         table,
         places,
         reps,
-    )
-}
-
-// The same with room of its own.
-fn lent_sound(words: &[u32], lists: Lists) -> bool
-    requires { ⌜ (sizeFits (now words) ≡ true) × (listsFit lists ≡ true) ⌝ }
-    ensures { λ r. ⌜ r ≡ isSound (tablesOf (now (words .entry)) lists) ⌝ }
-{
-    let mut holes = [0u8; 16384];
-    let mut head = [0u16; 16384];
-    let mut next = [0u16; 16384];
-    let mut mix = [0u32; 5];
-    let mut table = [0u8; 73984];
-    let mut places = [0u16; 32];
-    let mut reps = [0u16; 16384];
-    lists_sound(
-        words,
-        lists,
-        &mut holes,
-        &mut head,
-        &mut next,
-        &mut mix,
-        &mut table,
-        &mut places,
-        &mut reps,
     )
 }
 
@@ -339,7 +356,79 @@ pub fn told(words: &[u32], lists: Lists) -> Seen
     }
 }
 
-// Looking: 18, 30, then what looking tells.
+// Looking in small room: few rows, and few transitions.
+fn look_few(words: &[u32], lists: Lists) -> Seen
+    requires { ⌜ (sizeFits (now words) ≡ true) × (listsFit lists ≡ true) × (length (now words) ≤ 6144) × (lists .rules < 64) ⌝ }
+    ensures { λ r. ⌜ r ≡ callSeen (now (words .entry)) lists looks ⌝ }
+{
+    let mut holes = [0u8; FEW_ROWS];
+    let mut head = [0u16; FEW_ROWS];
+    let mut next = [0u16; FEW_ROWS];
+    let mut mix = [0u32; 5];
+    let mut table = [0u8; CONTEXTS * FEW_RULES];
+    let mut places = [0u16; 32];
+    let mut reps = [0u16; FEW_ROWS];
+    if !lists_sound(
+        words,
+        lists,
+        &mut holes,
+        &mut head,
+        &mut next,
+        &mut mix,
+        &mut table,
+        &mut places,
+        &mut reps,
+    ) {
+        return observe::refusal(30);
+    }
+    told(words, lists)
+}
+
+// Looking in room for all that may be lent.
+fn look_wide(words: &[u32], lists: Lists) -> Seen
+    requires { ⌜ (sizeFits (now words) ≡ true) × (listsFit lists ≡ true) ⌝ }
+    ensures { λ r. ⌜ r ≡ callSeen (now (words .entry)) lists looks ⌝ }
+{
+    let mut holes = [0u8; 16384];
+    let mut head = [0u16; 16384];
+    let mut next = [0u16; 16384];
+    let mut mix = [0u32; 5];
+    let mut table = [0u8; 73984];
+    let mut places = [0u16; 32];
+    let mut reps = [0u16; 16384];
+    if !lists_sound(
+        words,
+        lists,
+        &mut holes,
+        &mut head,
+        &mut next,
+        &mut mix,
+        &mut table,
+        &mut places,
+        &mut reps,
+    ) {
+        return observe::refusal(30);
+    }
+    told(words, lists)
+}
+
+// Whether small room is enough for the used rows, and they are lent.
+fn is_small(used: u16, rules: u16, size: usize) -> bool
+    ensures { λ r. ⌜ (r ≡ true → (1 ≤ used) × (used ≤ 1024) × (6 * used ≤ size) × (rules < 64)) ⌝ }
+{
+    if used == 0 {
+        return false;
+    }
+    if FEW_ROWS < used as usize {
+        return false;
+    }
+    if size < rows::WIDTH * used as usize {
+        return false;
+    }
+    (rules as usize) < FEW_RULES
+}
+
+// Looking: 18, 30, then what looking tells; on a small table over the used rows alone.
 pub fn look(words: &[u32], lists: Lists) -> Seen
     ensures { λ r. ⌜ r ≡ callSeen (now (words .entry)) lists looks ⌝ }
 {
@@ -349,8 +438,9 @@ pub fn look(words: &[u32], lists: Lists) -> Seen
     if !observe::lists_fit(lists) {
         return observe::refusal(30);
     }
-    if !lent_sound(words, lists) {
-        return observe::refusal(30);
+    if is_small(lists.used, lists.rules, words.len()) {
+        let most = rows::WIDTH * lists.used as usize;
+        return look_few(&words[..most], lists);
     }
-    told(words, lists)
+    look_wide(words, lists)
 }

@@ -12,9 +12,9 @@ ghost use Rattle.step.specs.Stepping.{Stepping, KnownTable, InHand, Ende
 use crate::finish;
 use crate::finish::Stepped;
 use crate::putdown;
-use bank::add;
-use bank::add::Grown;
-use bank::context;
+use growth::add;
+use growth::add::Grown;
+use growth::context;
 use hand::Found;
 use model::Lists;
 use model::Row;
@@ -124,7 +124,7 @@ fn ended_at(
     }
 }
 
-// The way down of every row, and where the search in hand ends.
+// The parts of the lists lent to the search in hand.
 fn find(
     words: &[u32],
     lists: Lists,
@@ -146,26 +146,7 @@ fn find(
     let s = lists.s;
     let t = lists.t;
     let c = lists.c;
-    hand::descend(
-        words,
-        &counts[..letters],
-        lists.used,
-        holes,
-        head,
-        next,
-        mix,
-        &s,
-        lists.states as usize,
-        &t,
-        lists.rules as usize,
-        &c,
-        lists.contexts as usize,
-        reps,
-        down,
-        at,
-        exchanged,
-    );
-    hand::search(
+    hand::find(
         words,
         &counts[..letters],
         lists.used,

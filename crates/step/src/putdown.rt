@@ -10,8 +10,8 @@ ghost use Rattle.bank.specs.Ready.{pathOf};
 ghost use Rattle.step.specs.Stepping.{Stepping, EndedAs, withContext};
 use crate::finish;
 use crate::finish::Stepped;
-use bank::add;
-use bank::add::Grown;
+use growth::add;
+use growth::add::Grown;
 use model::Lists;
 use model::Row;
 

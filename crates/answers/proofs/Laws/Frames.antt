@@ -21,9 +21,9 @@ use Rattle.bank.specs.Ready.{oneFurther, placeCode, Ready, frameAt}
 use Rattle.bank.proofs.Laws.Words.{used-of, symbol-in}
 use Rattle.bank.proofs.Laws.Finding.{found-in}
 use Rattle.bank.proofs.Laws.Chains.{by-equal}
-use Rattle.bank.proofs.Laws.Above.{frame-four, above-kids, above-asks}
 use Rattle.bank.proofs.Laws.T1.{hole-ready}
-use Rattle.bank.proofs.Laws.Paths.{fits-head, kid-before, kid-word}
+use Rattle.growth.proofs.Laws.Above.{frame-four, above-kids, above-asks}
+use Rattle.growth.proofs.Laws.Paths.{fits-head, kid-before, kid-word}
 use Rattle.answers.specs.Columns.{holeKid}
 
 -- THE FIRST CHILD with a property, by its place

@@ -3,8 +3,8 @@ use borrow.Author.Needs.{needs}
 use Rattle.answers.proofs.observe_to_gap.Statement.{statement}
 use Rattle.answers.proofs.observe_to_gap.Tie as tie
 
-gap-few-requires : tie.Need-gap-few-requires
-gap-few-requires c κs = search needs
+gap-some-requires : tie.Need-gap-some-requires
+gap-some-requires c κs = search needs
 
 same-length : tie.Need-same-length
 same-length c = search needs
@@ -34,7 +34,7 @@ pub observe-to-gap-spec : {M : Type 1} → statement M
 observe-to-gap-spec =
     tie.close
     (tie.spec
-    gap-few-requires
+    gap-some-requires
     same-length
     returns
     slice-aggregate-gap-with

@@ -25,6 +25,7 @@ use Rattle.model.specs.Entry.{listsFit, tablesOf}
 use Rattle.model.specs.declared.Lists.{Lists}
 use Rattle.model.proofs.Laws.Lent.{listsFit-facts, listsFit-true}
 use Rattle.model.proofs.Laws.Sounds.{sound-facts}
+use Rattle.model.proofs.Laws.ReflectTable.{known-back}
 use Rattle.model.proofs.Laws.Turn.{answers-same}
 use Rattle.model.proofs.Laws.Unchanged.{full-of}
 use Rattle.model.proofs.Laws.Step.{AnswerOk, answer-held, answer-filling, mark-some, mark-small}
@@ -34,6 +35,7 @@ use Rattle.bank.proofs.Laws.Words.{used-of, answer-in}
 use Rattle.undo.proofs.Laws.Left.{answered-store, answered-answers, ready-answered}
 use Rattle.table.specs.Answers.{KnownRows}
 use Rattle.table.proofs.Laws.Known.{known-answered}
+use Rattle.table.proofs.Laws.Tied.{missing-tied}
 use Rattle.hypothesis.proofs.Laws.Tied.{RepsOf, reps-tied}
 use Rattle.hand.specs.Spots.{Handling}
 use Rattle.sound.specs.Working.{Working}
@@ -164,9 +166,10 @@ module _ (ws : List ℕ) (l : Lists) (m : ℕ) (fit : listsFit l ≡ true) (soun
 
   module _ {holes head next mix table places reps : List ℕ} (arrays : InArrays l)
       (w : Working ws (countsIn l) (l .used) (l .s) (l .states) (l .t) (l .rules) (l .c) (l .contexts) holes head next mix table places reps) where
-    its-reps : RepsOf (answersOf (X .store) (X .answers) (X .c)) (X .s) (X .t) reps
-    its-reps =
-        reps-tied (w .observed) (l .s) (l .states) places (w .placed) (arrays .states) (omega (arith, w .placing .long, w .placing .few)) (arrays .rules) (w .reps-by)
+    its-reps : Whole X → RepsOf (answersOf (X .store) (X .answers) (X .c)) (X .s) (X .t) reps
+    its-reps k =
+        reps-tied (w .observed) (l .s) (l .states) places (w .placed) (arrays .states) (omega (arith, w .placing .long, w .placing .few)) (arrays .rules)
+        (w .reps-by (missing-tied (w .observed) (arrays .rules) ∙ known-back X (k .known)))
 
     pub stepping-answered : (vs : List ℕ) (g : Lists) → vs ≡ withAnswer ws (l .asked) (m + 1) → g ≡ closed l → Stepping vs g holes head next mix
     stepping-answered vs g e f = subst (λ (us : List ℕ). Stepping us g holes head next mix) (sym e) (subst (λ (k : Lists). Stepping (withAnswer ws (l .asked) (m + 1)) k holes head next mix) (sym f) at)
@@ -206,7 +209,7 @@ module _ (ws : List ℕ) (l : Lists) (m : ℕ) (fit : listsFit l ≡ true) (soun
               room = room arrays (p .0);
               handling =
                   subst (λ (y : Tables). Handling (y .store) (y .answers) (y .s) (y .t) (y .c) reps) (sym tables-answered)
-                  (handling-answered X (p .0) (l .hand) (p .1) o (m + 1) (mark-some m) (mark-small m mark) few-rows reps its-reps (omega (arith, w .reps-long)));
+                  (handling-answered X (p .0) (l .hand) (p .1) o (m + 1) (mark-some m) (mark-small m mark) few-rows reps (its-reps (p .0)) (omega (arith, w .reps-long)));
             }
 
   -- the step goes as model's laws say

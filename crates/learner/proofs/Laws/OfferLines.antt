@@ -157,8 +157,15 @@ module _ (ws : List ℕ) (l : Lists) {holes head next mix table places reps : Li
     verdict-by : verdictIs (tablesOf ws l) xs m ≡ eqb (cond y 1 0) m
     verdict-by = λ i. guess ((ap (λ A. acceptsList A xs) (sym (hypothesis-is a w prepared (l .hand) (l .asked) (eqb (l .accepted) 1) tables-fit none-missing)) ∙ sym p) i) m
 
-    pub verdict-same : Bool·beq y (eqb m 1) ≡ true → verdictIs (tablesOf ws l) xs m ≡ true
+    verdict-same : Bool·beq y (eqb m 1) ≡ true → verdictIs (tablesOf ws l) xs m ≡ true
     verdict-same q = verdict-by ∙ mark-is y m h q
 
-    pub verdict-other : Bool·beq y (eqb m 1) ≡ false → verdictIs (tablesOf ws l) xs m ≡ false
+    verdict-other : Bool·beq y (eqb m 1) ≡ false → verdictIs (tablesOf ws l) xs m ≡ false
     verdict-other q = verdict-by ∙ mark-other y m h q
+
+    pub verdict-told : Bool·beq y (eqb m 1) ≡ verdictIs (tablesOf ws l) xs m
+    verdict-told = go (Bool·beq y (eqb m 1)) refl
+      where
+        go : (b : Bool) → Bool·beq y (eqb m 1) ≡ b → b ≡ verdictIs (tablesOf ws l) xs m
+        go true q = sym (verdict-same q)
+        go false q = sym (verdict-other q)

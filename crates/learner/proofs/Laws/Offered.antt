@@ -24,14 +24,17 @@ use Rattle.model.specs.declared.Lists.{Lists}
 use Rattle.model.proofs.Laws.Lent.{good-four, rows-within, over-take, listsFit-facts, listsFit-true, listsOf-within}
 use Rattle.model.proofs.Laws.Listed.{stored}
 use Rattle.model.proofs.Laws.Sounds.{sound-facts}
+use Rattle.model.proofs.Laws.ReflectTable.{known-back}
 use Rattle.model.proofs.Laws.Step as Step
 use Rattle.model.proofs.Laws.Step.{Offering, offering, StepOk, step-left}
 use Rattle.model.proofs.Laws.Took.{idle-facts}
 use Rattle.bank.specs.Rows.{answerIn, withAnswer, Within}
-use Rattle.bank.specs.Ready.{Ready, Kept, grownRow}
-use Rattle.bank.specs.declared.add.Grown.{Grown}
+use Rattle.bank.specs.Ready.{Ready, Kept}
 use Rattle.bank.proofs.Laws.Words.{used-of, length-withRows, front-withRows}
-use Rattle.bank.proofs.Laws.Coming.{Comes, Stage, stage, not-full, store-room}
+use Rattle.growth.specs.Adding.{grownRow}
+use Rattle.growth.specs.declared.add.Grown.{Grown}
+use Rattle.growth.proofs.Laws.Coming.{Comes, Stage, stage, not-full, store-room}
+use Rattle.table.proofs.Laws.Tied.{missing-tied}
 use Rattle.hypothesis.proofs.Laws.Tied.{RepsOf, reps-tied}
 use Rattle.hand.specs.Spots.{Handling}
 use Rattle.undo.specs.Left.{Left}
@@ -189,7 +192,11 @@ module _ {ws : List ℕ} {l : Lists} {xs : List ℕ} {m : ℕ} {holes head next 
     reps-are =
         let w = t .working in
         let a = t .arrays in
-        reps-tied (w .observed) (l .s) (l .states) places (w .placed) (omega (arith, a .s-long, a .few-s)) (omega (arith, w .placing .long, w .placing .few)) (omega (arith, a .t-long, a .few-t)) (w .reps-by)
+        reps-tied (w .observed) (l .s) (l .states) places (w .placed) (omega (arith, a .s-long, a .few-s)) (omega (arith, w .placing .long, w .placing .few)) rows-t
+        (w .reps-by (missing-tied (w .observed) rows-t ∙ known-back X (whole .known)))
+      where
+        rows-t : l .rules ≤ length (l .t)
+        rows-t = let a = t .arrays in omega (arith, a .t-long, a .few-t)
 
     module _ {us' : List ℕ} (set-to : us' ≡ withAnswer us j (m + 1)) {l' : Lists} (up : l' ≡ takenUp l j v) where
       left-now : Left ws (countsIn l) us' y (set blank j (m + 1))

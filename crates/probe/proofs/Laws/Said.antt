@@ -10,9 +10,9 @@ use Rattle.model.specs.Store.{Built, full, built, Frame, used, hasHole, fill, f
 use Rattle.model.specs.Terms.{recordFault, storeFrom}
 use Rattle.model.specs.Entry.{storeOf}
 use Rattle.bank.specs.Ready.{Ready, pathOf}
-use Rattle.bank.specs.declared.add.Grown.{Grown}
 use Rattle.bank.proofs.Laws.Words.{used-of}
-use Rattle.bank.proofs.Laws.Coming.{Comes, comes-by}
+use Rattle.growth.specs.declared.add.Grown.{Grown}
+use Rattle.growth.proofs.Laws.Coming.{Comes, comes-by}
 use Rattle.probe.specs.declared.Reply.{Reply}
 use Rattle.probe.specs.Probed.{isPassed, said, saidOf, Said, SaidIf, isFillable, FilledReady, Filled, isListed, StoredReady, Stored}
 

@@ -14,11 +14,12 @@ use Rattle.model.specs.Entry.{storeOf, answersIn}
 use Rattle.model.proofs.Laws.Lent.{good-four}
 use Rattle.model.proofs.Laws.ReflectLists.{context-of}
 use Rattle.model.proofs.Laws.Down.{context-fits}
-use Rattle.bank.specs.declared.add.Grown.{Grown}
-use Rattle.bank.specs.Ready.{Ready, grownRow}
+use Rattle.bank.specs.Ready.{Ready}
 use Rattle.bank.proofs.Laws.Words.{used-of}
-use Rattle.bank.proofs.Laws.Coming.{Comes, store-room}
-use Rattle.bank.proofs.Laws.Filling.{reached}
+use Rattle.growth.specs.declared.add.Grown.{Grown}
+use Rattle.growth.specs.Adding.{grownRow}
+use Rattle.growth.proofs.Laws.Coming.{Comes, store-room}
+use Rattle.growth.proofs.Laws.Filling.{reached}
 use Rattle.table.specs.Answers.{gapFrom, soughtBy, growAt, grownBy, Observed, ToGap, Placed, rowsAt}
 use Rattle.table.specs.declared.Gap.{Gap}
 use Rattle.table.specs.declared.Growth.{Growth}

@@ -7,7 +7,7 @@ use borrow.Author.Needs.{needs}
 use lib.ListN.{getD}
 use Rattle.model.specs.Store.{framesOf, fill}
 use Rattle.model.specs.Entry.{storeOf}
-use Rattle.bank.proofs.Laws.Coming.{Comes, comes-as}
+use Rattle.growth.proofs.Laws.Coming.{Comes, comes-as}
 use Rattle.table.specs.declared.Gap.{Gap}
 use Rattle.settle.proofs.Laws.Stepped.{Looked, whole-table, rule-within, context-within, context-used, context-holed, rule-used, no-rows, asks-filled}
 use Rattle.settle.proofs.settle.Statement.{statement}
@@ -15,7 +15,7 @@ use Rattle.settle.proofs.settle.Tie as tie
 use Rattle.settle.proofs.settle.Reads as reads
 use Rattle.settle.proofs.settle.Lts as lts
 use Rattle.answers.proofs.observe_to_gap.Reads as observe-to-gap-reads
-use Rattle.bank.proofs.context.fill_context.Reads as fill-context-reads
+use Rattle.growth.proofs.context.fill_context.Reads as fill-context-reads
 use Rattle.settle.proofs.propose.Reads as propose-reads
 use Rattle.table.proofs.first_unknown.Reads as first-unknown-reads
 

@@ -107,7 +107,7 @@ module _ {ws ns : List ℕ} {u : ℕ} {s : List ℕ} {q : ℕ} {t : List ℕ} {n
           covers-shaped (w .ready .good) (shaped-of X (held .0) (known-of X e) (and-right (isT5 X) (isT6 X) (and-right (contextsFew X) (isT5 X && isT6 X) f))) (held .0 .one) (held .1 .few-s)
 
       reps-are : RepsOf (answersOf (storeOf ws ns u) (answersIn u ws) (take m c)) (take q s) (take n t) reps
-      reps-are = reps-tied (w .observed) s q places (w .placed) q-s q-places n-t (w .reps-by)
+      reps-are = reps-tied (w .observed) s q places (w .placed) q-s q-places n-t (w .reps-by (missing-is h o z ∙ e))
 
       pub ruled : Ruled (storeOf ws ns u) (take q s) (take n t) reps
       ruled = ruled-tied covers reps-are small (omega (arith, w .reps-long))

@@ -1,17 +1,21 @@
 -- Looking, line by line: 18, 30, then what looking tells; and what it tells of lists within their arrays.
--- Each line that does not apply leaves the rest to decide; the counts are the lengths of S, T and C.
+-- Each line that does not apply leaves the rest to decide; the counts are the lengths of S, T and C. Looking at the used rows is looking at all.
 use mathlib.Core.Path.{_≡_, sym, ap}
+use mathlib.Core.Logic.{_≢_}
 use mathlib.Core.Bool.{Bool, true, false, not, cond}
 use mathlib.Core.List.{List}
-use Prim.Native.Nat.{ℕ, _≤_}
+use Prim.Native.Nat.{ℕ, _*_, _≤_}
+use native.Mathlib.Omega.{arith}
 use borrow.Author.Tests.{eq-eqb, ne-eqb}
-use lib.ListN.{length}
+use lib.ListN.{length, take}
 use lib.Seq.{length-take-le}
+use Rattle.model.specs.Limits.{rowWidth}
 use Rattle.model.specs.Sound.{isSound}
-use Rattle.model.specs.Calls.{Outcome, refuses, leaves, looks, look, phaseOf}
-use Rattle.model.specs.Entry.{sizeFits, listsFit, tablesOf, seenOf, seenBy, refused, callSeen}
+use Rattle.model.specs.Calls.{Outcome, refuses, leaves, numberOf, looks, look, phaseOf}
+use Rattle.model.specs.Entry.{sizeFits, listsFit, tablesOf, seenOf, seenBy, refused, callBy, callSeen}
 use Rattle.model.specs.declared.Lists.{Lists}
 use Rattle.model.specs.declared.Seen.{Seen}
+use Rattle.model.proofs.Laws.LentPart.{part-fits, seen-part}
 
 module _ (ws : List ℕ) (l : Lists) where
   abbrev told : (fits within sound : Bool) → Outcome
@@ -31,6 +35,16 @@ module _ (ws : List ℕ) (l : Lists) where
       pub looked : isSound (tablesOf ws l) ≡ true → seenOf (look (tablesOf ws l)) ≡ callSeen ws l looks
       looked e = sym (λ i. seenBy (told (s i) (f i) (e i)))
 
+  -- looking adds no row, so the rows lent are enough
+  told-number : (a b c : Bool) → numberOf (told a b c) ≢ 34
+  told-number true true true e = absurd (omega arith)
+  told-number true true false e = absurd (omega arith)
+  told-number true false c e = absurd (omega arith)
+  told-number false b c e = absurd (omega arith)
+
+  not-short : numberOf (callBy ws l looks) ≢ 34
+  not-short = told-number (sizeFits ws) (listsFit l) (isSound (tablesOf ws l))
+
   -- the phase
   pub phase-accepted : l .accepted ≡ 1 → 2 ≡ phaseOf (tablesOf ws l)
   phase-accepted e = rw (eq-eqb (l .accepted) 1 e)
@@ -49,3 +63,11 @@ module _ (ws : List ℕ) (l : Lists) where
       let n = sym (length-take-le (l .rules) (l .t) b) in
       let m = sym (length-take-le (l .contexts) (l .c) c) in
       λ i. record { number = 0; phase = e i; row = l .asked; states = q i; rules = n i; contexts = m i }
+
+-- the used rows alone
+module _ (ws : List ℕ) (l : Lists) (s : sizeFits ws ≡ true) (f : listsFit l ≡ true) (some : 1 ≤ l .used) (within : rowWidth * l .used ≤ length ws) where
+  pub used-fit : sizeFits (take (rowWidth * l .used) ws) ≡ true
+  used-fit = part-fits ws l (l .used) s f some within (omega arith)
+
+  pub used-looked : callSeen (take (rowWidth * l .used) ws) l looks ≡ callSeen ws l looks
+  used-looked = sym (seen-part ws l (l .used) s f some within (omega arith) looks (not-short (take (rowWidth * l .used) ws) l))

@@ -1,12 +1,11 @@
--- `sound::prepare` meets its contract: T1, then the roles of rows; then what has been worked out is as Working has it.
+-- `sound::prepare` meets its contract: T1, then the roles of rows; then the answers are those of transitions at contexts.
 use mathlib.Core.Path.{sym, _∙_}
 use mathlib.Core.Bool.{true, false, true≢false}
-use native.Mathlib.Omega.{arith}
 use borrow.Author.Tests.{not-true, not-false}
 use borrow.Author.Needs.{needs}
 use Rattle.model.proofs.Laws.Tests.{true-both}
 use Rattle.roles.proofs.Laws.Scan.{stops, goes-on}
-use Rattle.sound.proofs.Laws.Prepared.{t1-answered, t-one, s-in-t, t-used, c-contexts}
+use Rattle.sound.proofs.Laws.Prepared.{t1-answered, t-used, c-contexts}
 use Rattle.sound.proofs.prepare.Statement.{statement}
 use Rattle.sound.proofs.prepare.Tie as tie
 
@@ -27,9 +26,8 @@ returns c = (stops _ _ (sym (c .before .before .before .before .before .before .
 
 roles-fit-requires : tie.Need-roles-fit-requires
 roles-fit-requires c κs =
-    let s = c .before .before .before .before .before .before .before .before .before .before .before .before .before .before .before .before .before .before .before .before .before .before .before in
-    let a = s .pre .1 in
-    ((c .before .before .before .before .before .before .before .before .before .before .before .t1 .ensures .1 (not-false (c .before .before .before .before .before .before .before .before .before .before .before .t1 .result) (c .before .before .before .before .if1 .left))), a .s-long, a .few-s, a .t-long, a .few-t, a .c-long, a .few-c)
+    let a = c .before .before .before .before .before .before .before .before .before .before .before .before .before .before .before .before .before .before .before .before .before .before .pre .1 in
+    (c .before .before .before .before .before .before .before .before .before .before .before .t1 .ensures .1 (not-false (c .before .before .before .before .before .before .before .before .before .before .before .t1 .result) (c .before .before .before .before .if1 .left)), a .s-long, a .few-s, a .t-long, a .few-t, a .c-long, a .few-c)
 
 same-length-4 : tie.Need-same-length-4
 same-length-4 c = search needs
@@ -46,45 +44,37 @@ returns-2 c =
 
 observe-requires : tie.Need-observe-requires
 observe-requires c κs =
-    let s = c .before .before .before .before .before .before .before .before .before .before .before .before .before .before .before .before .before .before .before .before .before .before .before .before .before .before .before .before .before .before in
+    let s = c .before .before .before .before .before .before .before .before .before .before .before .before .before .before .before .before .before .before .before .before .before .before .before .before .before .before .before .before .before in
     let a = s .pre .1 in
-    let f = (sym (c .before .before .before .before .before .before .roles-fit .ensures) ∙ not-false (c .before .before .before .before .before .before .roles-fit .result) (c .before .before .before .before .before .if2 .left)) in
-    ((c .before .before .before .before .before .before .before .before .before .before .before .before .before .before .before .before .before .before .t1 .ensures .1 (not-false (c .before .before .before .before .before .before .before .before .before .before .before .before .before .before .before .before .before .before .t1 .result) (c .before .before .before .before .before .before .before .before .before .before .before .if1 .left))), t1-answered (s .args .words .now) (s .args .counts .now) (s .args .used) (s .args .s .now) (s .args .states) (s .args .t .now) (s .args .rules) (s .args .c .now) (s .args .contexts) (sym (c .before .before .before .before .before .before .before .before .before .before .before .before .before .before .before .before .before .before .t1 .ensures .0) ∙ not-false (c .before .before .before .before .before .before .before .before .before .before .before .before .before .before .before .before .before .before .t1 .result) (c .before .before .before .before .before .before .before .before .before .before .before .if1 .left)), t-used (s .args .words .now) (s .args .counts .now) (s .args .used) (s .args .s .now) (s .args .states) (s .args .t .now) (s .args .rules) (s .args .c .now) (s .args .contexts) a f, a .t-long, a .few-t, c-contexts (s .args .words .now) (s .args .counts .now) (s .args .used) (s .args .s .now) (s .args .states) (s .args .t .now) (s .args .rules) (s .args .c .now) (s .args .contexts) a f, a .c-long, a .few-c, s .pre .2 .table-long)
-
-find-places-requires : tie.Need-find-places-requires
-find-places-requires c κs =
-    let s = c .before .before .before .before .before .before .before .before .before .before .before .before .before .before .before .before .before .before .before .before .before .before .before .before .before .before .before .before .before .before .before .before .before .before in
-    let a = s .pre .1 in
-    (a .s-long, a .few-s, a .t-long, a .few-t, s .pre .2 .places-long, s-in-t (s .args .words .now) (s .args .counts .now) (s .args .used) (s .args .s .now) (s .args .states) (s .args .t .now) (s .args .rules) (s .args .c .now) (s .args .contexts) a (sym (c .before .before .before .before .before .before .before .before .before .before .roles-fit .ensures) ∙ not-false (c .before .before .before .before .before .before .before .before .before .before .roles-fit .result) (c .before .before .before .before .before .before .before .before .before .if2 .left)))
-
-find-reps-requires : tie.Need-find-reps-requires
-find-reps-requires c κs =
-    let s = c .before .before .before .before .before .before .before .before .before .before .before .before .before .before .before .before .before .before .before .before .before .before .before .before .before .before .before .before .before .before .before .before .before .before .before .before .before .before in
-    let a = s .pre .1 in
-    let f = (sym (c .before .before .before .before .before .before .before .before .before .before .before .before .before .before .roles-fit .ensures) ∙ not-false (c .before .before .before .before .before .before .before .before .before .before .before .before .before .before .roles-fit .result) (c .before .before .before .before .before .before .before .before .before .before .before .before .before .if2 .left)) in
-    let p = c .before .before .before .find-places .ensures .0 in
-    ((c .before .before .before .before .before .before .before .observe .ensures .sized), a .few-s, p .long, p .within, a .s-long, a .t-long, a .few-t, λ k l. omega (arith, t-used (s .args .words .now) (s .args .counts .now) (s .args .used) (s .args .s .now) (s .args .states) (s .args .t .now) (s .args .rules) (s .args .c .now) (s .args .contexts) a f k l, (c .before .before .before .before .before .before .before .before .before .before .before .before .before .before .before .before .before .before .before .before .before .before .before .before .before .before .t1 .ensures .1 (not-false (c .before .before .before .before .before .before .before .before .before .before .before .before .before .before .before .before .before .before .before .before .before .before .before .before .before .before .t1 .result) (c .before .before .before .before .before .before .before .before .before .before .before .before .before .before .before .before .before .before .before .if1 .left))) .finding .room, s .pre .2 .reps-long), t-one (s .args .words .now) (s .args .counts .now) (s .args .used) (s .args .s .now) (s .args .states) (s .args .t .now) (s .args .rules) (s .args .c .now) (s .args .contexts) a f)
+    let o = not-false (c .before .before .before .before .before .before .before .before .before .before .before .before .before .before .before .before .before .before .t1 .result) (c .before .before .before .before .before .before .before .before .before .before .before .if1 .left) in
+    let f = sym (c .before .before .before .before .before .before .roles-fit .ensures) ∙ not-false (c .before .before .before .before .before .before .roles-fit .result) (c .before .before .before .before .before .if2 .left) in (
+      c .before .before .before .before .before .before .before .before .before .before .before .before .before .before .before .before .before .before .t1 .ensures .1 o,
+      t1-answered (s .args .words .now) (s .args .counts .now) (s .args .used) (s .args .s .now) (s .args .states) (s .args .t .now) (s .args .rules) (s .args .c .now) (s .args .contexts) (sym (c .before .before .before .before .before .before .before .before .before .before .before .before .before .before .before .before .before .before .t1 .ensures .0) ∙ o),
+      t-used (s .args .words .now) (s .args .counts .now) (s .args .used) (s .args .s .now) (s .args .states) (s .args .t .now) (s .args .rules) (s .args .c .now) (s .args .contexts) a f,
+      a .t-long,
+      a .few-t,
+      c-contexts (s .args .words .now) (s .args .counts .now) (s .args .used) (s .args .s .now) (s .args .states) (s .args .t .now) (s .args .rules) (s .args .c .now) (s .args .contexts) a f,
+      a .c-long,
+      a .few-c,
+      s .pre .4,
+    )
 
 same-length-7 : tie.Need-same-length-7
-same-length-7 c = c .before .before .before .before .before .before .before .before .before .before .before .before .before .before .before .before .before .before .before .before .before .before .before .before .before .before .before .before .before .t1 .kept .1 .1 .1 .0
+same-length-7 c = c .before .before .before .before .before .before .before .before .before .before .before .before .before .before .before .before .before .before .before .before .before .t1 .kept .1 .1 .1 .0
 
 same-length-8 : tie.Need-same-length-8
-same-length-8 c = c .before .before .before .before .before .before .before .before .before .before .before .before .before .before .before .before .before .before .before .before .before .before .before .before .before .before .before .before .before .t1 .kept .1 .1 .1 .1 .0
+same-length-8 c = c .before .before .before .before .before .before .before .before .before .before .before .before .before .before .before .before .before .before .before .before .before .t1 .kept .1 .1 .1 .1 .0
 
 same-length-9 : tie.Need-same-length-9
-same-length-9 c = c .before .before .before .before .before .before .before .before .before .before .before .before .before .before .before .before .before .before .before .before .before .before .before .before .before .before .before .before .before .t1 .kept .1 .1 .1 .1 .1 .0
+same-length-9 c = c .before .before .before .before .before .before .before .before .before .before .before .before .before .before .before .before .before .before .before .before .before .t1 .kept .1 .1 .1 .1 .1 .0
 
 same-length-10 : tie.Need-same-length-10
 same-length-10 c = search needs
 
-same-length-11 : tie.Need-same-length-11
-same-length-11 c = search needs
-
 returns-3 : tie.Need-returns-3
-returns-3 c = (
-  sym (true-both _ _ (sym (c .before .before .before .before .before .before .before .before .before .before .before .before .before .before .before .before .before .before .before .before .before .before .before .before .before .before .before .before .before .t1 .ensures .0) ∙ not-false (c .before .before .before .before .before .before .before .before .before .before .before .before .before .before .before .before .before .before .before .before .before .before .before .before .before .before .before .before .before .t1 .result) (c .before .before .before .before .before .before .before .before .before .before .before .before .before .before .before .before .before .before .before .before .before .before .if1 .left)) (sym (c .before .before .before .before .before .before .before .before .before .before .before .before .before .before .before .before .before .roles-fit .ensures) ∙ not-false (c .before .before .before .before .before .before .before .before .before .before .before .before .before .before .before .before .before .roles-fit .result) (c .before .before .before .before .before .before .before .before .before .before .before .before .before .before .before .before .if2 .left))),
-  λ e. record { ready = (c .before .before .before .before .before .before .before .before .before .before .before .before .before .before .before .before .before .before .before .before .before .before .before .before .before .before .before .before .before .t1 .ensures .1 (not-false (c .before .before .before .before .before .before .before .before .before .before .before .before .before .before .before .before .before .before .before .before .before .before .before .before .before .before .before .before .before .t1 .result) (c .before .before .before .before .before .before .before .before .before .before .before .before .before .before .before .before .before .before .before .before .before .before .if1 .left))); observed = c .before .before .before .before .before .before .before .before .before .before .observe .ensures; placing = c .before .before .before .before .before .before .find-places .ensures .0; placed = c .before .before .before .before .before .before .find-places .ensures .1; reps-by = c .before .before .find-reps .ensures; reps-long = omega (arith, c .before .before .find-reps .kept .1 .1 .1 .1 .1 .1 .1 .0, c .before .before .before .before .before .before .before .before .before .before .before .before .before .before .before .before .before .before .before .before .before .before .before .before .before .before .before .before .before .before .before .before .before .before .before .before .before .before .before .before .before .pre .2 .reps-long) },
-)
+returns-3 c =
+    let t = not-false (c .before .before .before .before .before .before .before .before .before .before .before .before .before .before .before .before .before .before .before .before .before .t1 .result) (c .before .before .before .before .before .before .before .before .before .before .before .before .before .before .if1 .left) in
+    (sym (true-both _ _ (sym (c .before .before .before .before .before .before .before .before .before .before .before .before .before .before .before .before .before .before .before .before .before .t1 .ensures .0) ∙ t) (sym (c .before .before .before .before .before .before .before .before .before .roles-fit .ensures) ∙ not-false (c .before .before .before .before .before .before .before .before .before .roles-fit .result) (c .before .before .before .before .before .before .before .before .if2 .left))), λ e. (c .before .before .before .before .before .before .before .before .before .before .before .before .before .before .before .before .before .before .before .before .before .t1 .ensures .1 t, c .before .before .observe .ensures))
 
 pub prepare-spec : {M : Type 1} → statement M
 prepare-spec =
@@ -101,11 +91,8 @@ prepare-spec =
     same-length-6
     returns-2
     observe-requires
-    find-places-requires
-    find-reps-requires
     same-length-7
     same-length-8
     same-length-9
     same-length-10
-    same-length-11
     returns-3)

@@ -20,10 +20,11 @@ use Rattle.model.specs.Entry.{listsFit, tablesOf, listsOf}
 use Rattle.model.specs.declared.Lists.{Lists}
 use Rattle.model.proofs.Laws.Lists.{in-left, in-snoc}
 use Rattle.model.proofs.Laws.Lent.{over-take, good-four, listsFit-facts, listsFit-true}
-use Rattle.bank.specs.declared.add.Grown.{Grown}
-use Rattle.bank.specs.Ready.{grownRow, pathOf}
-use Rattle.bank.proofs.Laws.Coming.{Comes, store-room}
-use Rattle.bank.proofs.Laws.Filling.{reached}
+use Rattle.bank.specs.Ready.{pathOf}
+use Rattle.growth.specs.declared.add.Grown.{Grown}
+use Rattle.growth.specs.Adding.{grownRow}
+use Rattle.growth.proofs.Laws.Coming.{Comes, store-room}
+use Rattle.growth.proofs.Laws.Filling.{reached}
 use Rattle.undo.specs.Left.{Left}
 use Rattle.undo.proofs.Laws.Left.{left-rows}
 use Rattle.step.specs.declared.finish.Stepped.{Stepped}

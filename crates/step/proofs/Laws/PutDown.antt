@@ -21,11 +21,11 @@ use Rattle.model.proofs.Laws.Rows.{record-ext, context-ext}
 use Rattle.model.proofs.Laws.Down.{hole-has}
 use Rattle.model.proofs.Laws.Settle.{past}
 use Rattle.model.proofs.Laws.Lent.{take-over, over-take, good-four, listsFit-facts, listsFit-true, listsOf-within}
-use Rattle.bank.specs.declared.add.Grown.{Grown}
 use Rattle.bank.specs.Ready.{Ready, Kept}
 use Rattle.bank.proofs.Laws.Words.{used-of, front-withRows}
-use Rattle.bank.proofs.Laws.Coming.{Comes, store-room}
-use Rattle.bank.proofs.Laws.Filling.{Reached}
+use Rattle.growth.specs.declared.add.Grown.{Grown}
+use Rattle.growth.proofs.Laws.Coming.{Comes, store-room}
+use Rattle.growth.proofs.Laws.Filling.{Reached}
 use Rattle.table.specs.Answers.{Forgotten}
 use Rattle.table.proofs.Laws.Known.{forgotten-known}
 use Rattle.undo.specs.Left.{Left}

@@ -13,7 +13,7 @@ use Rattle.model.specs.Steps.{advance}
 use Rattle.model.proofs.Laws.Lent.{listsFit-facts}
 use Rattle.model.proofs.Laws.Trees.{recordFault-parses}
 use Rattle.model.proofs.Laws.Step.{offering}
-use Rattle.bank.proofs.Laws.Coming.{Comes, comes-as}
+use Rattle.growth.proofs.Laws.Coming.{Comes, comes-as}
 use Rattle.step.specs.Stepping.{countsIn}
 use Rattle.model.specs.declared.Lists.{Lists}
 use Rattle.learner.proofs.Laws.Ends.{Ends}
@@ -22,9 +22,9 @@ use Rattle.learner.proofs.offer.take_offer.Statement.{statement}
 use Rattle.learner.proofs.offer.take_offer.Tie as tie
 use Rattle.learner.proofs.offer.take_offer.Reads as reads
 use Rattle.learner.proofs.offer.take_offer.Lts as lts
-use Rattle.bank.proofs.listed.store.Reads as store-reads
 use Rattle.bank.proofs.rows.answer_of.Reads as answer-of-reads
 use Rattle.bank.proofs.rows.set_answer.Reads as set-answer-reads
+use Rattle.growth.proofs.listed.store.Reads as store-reads
 use Rattle.step.proofs.advance.advance.Reads as advance-reads
 use Rattle.learner.proofs.calls.refuse.Reads as refuse-reads
 use Rattle.learner.proofs.offer.taken_up.Reads as taken-up-reads

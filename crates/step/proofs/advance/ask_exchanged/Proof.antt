@@ -9,14 +9,14 @@ use Rattle.model.specs.Entry.{tablesOf}
 use Rattle.model.proofs.Laws.Lent.{listsFit-facts}
 use Rattle.bank.specs.Ready.{pathOf}
 use Rattle.bank.proofs.Laws.Words.{used-of}
-use Rattle.bank.proofs.Laws.Coming.{Comes, comes-as}
+use Rattle.growth.proofs.Laws.Coming.{Comes, comes-as}
 use Rattle.step.specs.Stepping.{countsIn}
 use Rattle.step.proofs.Laws.Advanced.{Long, no-rows, asks-filled}
 use Rattle.step.proofs.advance.ask_exchanged.Statement.{statement}
 use Rattle.step.proofs.advance.ask_exchanged.Tie as tie
 use Rattle.step.proofs.advance.ask_exchanged.Reads as reads
 use Rattle.step.proofs.advance.ask_exchanged.Lts as lts
-use Rattle.bank.proofs.add.fill.Reads as fill-reads
+use Rattle.growth.proofs.add.fill.Reads as fill-reads
 use Rattle.step.proofs.finish.asking.Reads as asking-reads
 use Rattle.step.proofs.finish.short.Reads as short-reads
 

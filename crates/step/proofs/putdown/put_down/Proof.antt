@@ -12,8 +12,8 @@ use Rattle.model.specs.Entry.{tablesOf}
 use Rattle.model.specs.declared.Lists.{Lists}
 use Rattle.bank.specs.Ready.{pathOf}
 use Rattle.bank.proofs.Laws.Words.{used-of}
-use Rattle.bank.proofs.Laws.Coming.{Comes, comes-as}
-use Rattle.bank.proofs.Laws.Filling.{Reached, reached}
+use Rattle.growth.proofs.Laws.Coming.{Comes, comes-as}
+use Rattle.growth.proofs.Laws.Filling.{Reached, reached}
 use Rattle.step.specs.Stepping.{countsIn}
 use Rattle.step.proofs.Laws.Finished.{Arrays, few-letters}
 use Rattle.step.proofs.Laws.PutDown.{put-none, stepping-after, few-after, long-after, known-after, put-ends}
@@ -21,7 +21,7 @@ use Rattle.step.proofs.putdown.put_down.Statement.{statement}
 use Rattle.step.proofs.putdown.put_down.Tie as tie
 use Rattle.step.proofs.putdown.put_down.Reads as reads
 use Rattle.step.proofs.putdown.put_down.Lts as lts
-use Rattle.bank.proofs.add.fill.Reads as fill-reads
+use Rattle.growth.proofs.add.fill.Reads as fill-reads
 use Rattle.table.proofs.forget.Reads as forget-reads
 use Rattle.step.proofs.finish.finish.Reads as finish-reads
 use Rattle.step.proofs.finish.short.Reads as short-reads

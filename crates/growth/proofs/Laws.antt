@@ -1,0 +1,9 @@
+pub mod Coming
+pub mod Adding
+pub mod Above
+pub mod Paths
+pub mod Filling
+pub mod ArrayStack
+pub mod Reading
+pub mod Storing
+pub mod Ways
