@@ -23,13 +23,14 @@ fn to_acceptance(seed: u64, states: usize, rows: usize) -> Option<(Tables, Vec<C
     Some((begin, made, tables))
 }
 
-/// A run that learns so many states, at the first seed that has one: its tables, its calls, and what they leave.
+/// The runs that learn so many states, by seeds in order: their tables, their calls, and what they leave.
+pub fn runs(states: usize, rows: usize) -> impl Iterator<Item = (Tables, Vec<Call>, Tables)> {
+    (1..)
+        .filter_map(move |seed| to_acceptance(seed, states, rows))
+        .filter(move |run| run.2.lists.states as usize == states)
+}
+
+/// The first of them.
 pub fn learning(states: usize, rows: usize) -> (Tables, Vec<Call>, Tables) {
-    let mut seed = 1;
-    loop {
-        match to_acceptance(seed, states, rows) {
-            Some(run) if run.2.lists.states as usize == states => return run,
-            _ => seed += 1,
-        }
-    }
+    runs(states, rows).next().expect("some seed has one")
 }

@@ -4,7 +4,7 @@
 use harness::calls::{call, oracle_call};
 use harness::crowded::Crowded;
 use harness::kuldveth;
-use harness::learning::learning;
+use harness::learning::{learning, runs};
 use harness::teaching::started;
 use oracle::limits::ROWS_MAX;
 use oracle::testing::big;
@@ -13,6 +13,7 @@ use oracle::{Emitted, Lists, Seen};
 use std::time::{Duration, Instant};
 
 const RUNS: usize = 60;
+const AUTOMATA: usize = 12;
 
 type Calls = fn(&mut [u32], &mut Lists, &Call) -> Seen;
 
@@ -59,6 +60,19 @@ fn run_line(states: usize, rows: usize) {
         made.len(),
         lists.used
     );
+    line(&name, library, oracle);
+}
+
+/// Runs that learn so many states, together, and the largest ratio of one.
+fn runs_line(states: usize, rows: usize) {
+    let (mut library, mut oracle, mut most) = (Duration::ZERO, Duration::ZERO, 0f64);
+    for (begin, made, _) in runs(states, rows).take(AUTOMATA) {
+        let least = least(5, &begin, &made);
+        most = most.max(least.0.as_secs_f64() / least.1.as_secs_f64());
+        library += least.0;
+        oracle += least.1;
+    }
+    let name = format!("    {AUTOMATA} automata; ratio of one at most {most:.2}");
     line(&name, library, oracle);
 }
 
@@ -186,6 +200,7 @@ fn main() {
     );
     for states in [8, 12, 16, 20, 24, 28, 32] {
         run_line(states, ROWS_MAX);
+        runs_line(states, ROWS_MAX);
     }
     call_lines();
     collided_lines();

@@ -1,5 +1,5 @@
-//! What bank does, by plain means: clause by clause, recursion, linear search. Nothing here is
-//! made to be fast, and nothing is taken from bank's way of doing it.
+//! What bank and growth do, by plain means: clause by clause, recursion, linear search. Nothing here is
+//! made to be fast, and nothing is taken from their way of doing it.
 
 mod grow;
 mod listed;

@@ -62,23 +62,17 @@ fn chained(rows: usize, length: usize, met: &mut Met) -> (Tables, u8) {
     (tables, seen.number)
 }
 
-/// Calls that want about as many rows past the used ones as the library first tries them with, and more: 128 for an
-/// answer, of which these add 127 to 519, and 1,152 for an offer, which adds 3,070.
+/// Calls that want about as many rows past the used ones as the library tries them with, and more: 64 on a small table
+/// and for a short record, then 256. Answers that add 63 to 519 rows, and offers that add from some 60 to 3,070.
 #[test]
 fn past_the_first_rows() {
     let mut met = Met::default();
     let due = |rows: usize, wanted: usize| if rows < wanted { 34 } else { 0 };
-    for length in [128, 129, 130, 520] {
+    for length in [64, 65, 66, 128, 256, 257, 258, 520] {
         let (used, wanted) = (3 * length + 1, 4 * length);
-        for rows in [
-            used + 127,
-            used + 128,
-            used + 129,
-            wanted - 1,
-            wanted,
-            wanted + 1,
-            16_384,
-        ] {
+        let ends = [64, 256].map(|tried| [used + tried - 1, used + tried, used + tried + 1]);
+        let ends = ends.concat();
+        for rows in [&ends[..], &[wanted - 1, wanted, wanted + 1, 16_384]].concat() {
             let (mut tables, _) = chained(rows, length, &mut met);
             assert_eq!(tables.lists.used as usize, used);
             others(&tables, &mut met);
@@ -86,10 +80,13 @@ fn past_the_first_rows() {
             assert_eq!(seen.number, due(rows, wanted));
         }
     }
-    for rows in [1_154, 1_155, 1_156, 3_072, 3_073, 16_384] {
-        let (tables, number) = chained(rows, 1_024, &mut met);
-        assert_eq!(number, due(rows, 3_073));
-        others(&tables, &mut met);
+    for length in [20, 21, 22, 23, 24, 63, 64, 65, 84, 85, 86, 87, 88, 1_024] {
+        let wanted = 3 * length + 1;
+        for rows in [wanted - 1, wanted, wanted + 1, 16_384] {
+            let (tables, number) = chained(rows, length, &mut met);
+            assert_eq!(number, due(rows, wanted));
+            others(&tables, &mut met);
+        }
     }
     met.at_least(10, [34]);
 }
