@@ -1,4 +1,4 @@
-//! The proved functions beside a second program: those of `crates/bank` and `crates/growth` beside what they do, written
+//! The proved functions beside a second program: those over the record table beside what they do, written
 //! again by plain means from docs/SPECIFICATION.md, the calls of `crates/kuldveth` beside the oracle.
 
 pub mod calls;

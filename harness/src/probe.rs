@@ -1,4 +1,4 @@
-//! The functions of bank and growth as `crates/probe` exports them. Each lent slice stands between guard
+//! The functions over the record table as `crates/probe` exports them. Each lent slice stands between guard
 //! elements, which no call may touch.
 
 use crate::lent::Lent;

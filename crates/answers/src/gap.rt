@@ -7,10 +7,9 @@ ghost use Rattle.model.specs.Base.{among};
 ghost use Rattle.model.specs.Entry.{storeOf, answersIn};
 ghost use Rattle.bank.specs.Ready.{Ready};
 ghost use Rattle.table.specs.Answers.{rowAt, Observed, KnownRows, ToGap};
-ghost use Rattle.answers.specs.Columns.{HoledRows, Answered, Contexts, Used};
+ghost use Rattle.columns.specs.Columns.{HoledRows, Answered, Contexts, Used};
 use crate::FEW;
 use crate::SOME;
-use crate::columns;
 
 // The k-th row of the table, worked out again if it has an unknown answer, and else as it is: whether it has one then.
 fn update_row(

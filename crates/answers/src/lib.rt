@@ -7,9 +7,8 @@ ghost use Rattle.model.specs.Limits.{mostContexts};
 ghost use Rattle.model.specs.Entry.{storeOf, answersIn};
 ghost use Rattle.bank.specs.Ready.{Ready};
 ghost use Rattle.table.specs.Answers.{Observed, KnownRows, ToGap};
-ghost use Rattle.answers.specs.Columns.{Answered, Contexts, Used};
+ghost use Rattle.columns.specs.Columns.{Answered, Contexts, Used};
 
-pub mod columns; // columns.rt: one column, and a record's answers from it
 pub mod whole; // whole.rt: the whole table, by sizes
 pub mod gap; // gap.rt: the table up to its first gap, by sizes
 

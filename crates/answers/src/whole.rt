@@ -7,10 +7,9 @@ ghost use Rattle.model.specs.Limits.{mostContexts};
 ghost use Rattle.model.specs.Entry.{storeOf, answersIn};
 ghost use Rattle.bank.specs.Ready.{Ready};
 ghost use Rattle.table.specs.Answers.{Observed};
-ghost use Rattle.answers.specs.Columns.{Answered, Contexts, Used};
+ghost use Rattle.columns.specs.Columns.{Answered, Contexts, Used};
 use crate::FEW;
 use crate::SOME;
-use crate::columns;
 
 // The answers of the first transitions at the first contexts, into the table.
 pub fn observe_with(

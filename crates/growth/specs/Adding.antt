@@ -12,7 +12,7 @@ use Rattle.model.specs.Entry.{storeOf, rowsLent}
 use Rattle.bank.specs.Rows.{withRow, Within}
 use Rattle.bank.specs.Index.{Indexed, Finding, findIn}
 use Rattle.bank.specs.Ready.{placeCode, Ready, pathOf, withRows, Kept}
-use Rattle.bank.specs.Pass.{holeBy}
+use Rattle.pass.specs.Pass.{holeBy}
 use Rattle.growth.specs.declared.add.Grown.{Grown}
 
 -- WHAT ADDING ROWS CAME TO: rows ran out, with the first n rows as they were; or the store that was built, ready again

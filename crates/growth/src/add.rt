@@ -11,7 +11,6 @@ ghost use Rattle.bank.specs.Index.{findIn};
 ghost use Rattle.bank.specs.Ready.{Ready, pathOf};
 ghost use Rattle.growth.specs.Adding.{Came, PlacesAsked, kidsOf, Lent, holeAbove, Put, Under, FramesAsked};
 use bank::index;
-use bank::pass;
 use bank::rows;
 use model::Row;
 

@@ -18,7 +18,6 @@ ghost use Rattle.hypothesis.specs.Rules.{RepsBy, rulesBy, hypothesis, Ru
 use bank::index;
 use bank::rows;
 use growth::context;
-use growth::listed;
 use model::Row;
 
 // All entries 0.

@@ -1,6 +1,55 @@
 // The calls on a run (§3), by value: words by reference, lists in and out. A refusal returns its number and leaves both as they were.
+ghost use mathlib.Core.Path.{_≡_};
+ghost use Rattle.model.specs.Calls.{answers, offers, accept as acceptCall};
+ghost use Rattle.closing.specs.Stepping.{accepting as acceptingOf};
+ghost use Rattle.opening.specs.Calls.{CallAs};
+use lent::Said;
+use model::Lists;
+use opening::Done;
 
-pub mod calls; // calls.rt: answers and acceptance
-pub mod offer; // offer.rt: offers
-pub mod start; // start.rt: start
-pub mod tried; // tried.rt: the room that a call is made in
+mod tried; // tried.rt: the room that a call is made in
+
+// An offer: 18, 30, its own lines, then the step.
+pub fn offer(words: &mut [u32], lists: Lists, symbols: &[u8], mark: u8) -> Done
+    ensures { λ r. ⌜ CallAs (now (words .entry)) lists (offers (now (symbols .entry)) mark) r (now (words .exit)) ⌝ }
+{
+    tried::made(words, lists, symbols, Said::Offer(mark))
+}
+
+// An answer: 18, 30, 31, 16, then the step.
+pub fn answer(words: &mut [u32], lists: Lists, mark: u8) -> Done
+    ensures { λ r. ⌜ CallAs (now (words .entry)) lists (answers mark) r (now (words .exit)) ⌝ }
+{
+    let none = [0u8; 1];
+    tried::made(words, lists, &none[..0], Said::Answer(mark))
+}
+
+// The lists with the run accepted.
+fn accepting(lists: Lists) -> Lists
+    ensures { λ r. ⌜ r ≡ acceptingOf lists ⌝ }
+{
+    let mut left = lists;
+    left.accepted = 1;
+    left
+}
+
+// Acceptance: 18, 30, 31.
+pub fn accept(words: &mut [u32], lists: Lists) -> Done
+    ensures { λ r. ⌜ CallAs (now (words .entry)) lists acceptCall r (now (words .exit)) ⌝ }
+{
+    let seen = look::look(words, lists);
+    if seen.number != 0 {
+        return Done {
+            seen: seen,
+            lists: lists,
+        };
+    }
+    if seen.phase != 0 {
+        return opening::refuse(31, lists);
+    }
+    let left = accepting(lists);
+    Done {
+        seen: look::told(words, left),
+        lists: left,
+    }
+}

@@ -5,13 +5,13 @@ ghost use mathlib.Core.Bool.{true};
 ghost use Prim.Native.Nat.{_<_, _+_, _*_, _≤_};
 ghost use lib.ListN.{length};
 ghost use Rattle.model.specs.Entry.{sizeFits, listsFit};
-ghost use Rattle.sound.specs.Working.{Room};
-ghost use Rattle.learner.specs.Calls.{CallAs, FirstAs, callOf};
-use crate::calls;
-use crate::calls::Done;
-use crate::offer;
+ghost use Rattle.opening.specs.Calls.{CallAs};
+ghost use Rattle.lent.specs.Said.{callOf};
+ghost use Rattle.learner.specs.Tried.{FirstAs};
 use bank::rows;
+use lent::Said;
 use model::Lists;
+use opening::Done;
 
 // Rows past the used ones that a call is first tried with, and then.
 const FEW: usize = 64;
@@ -39,61 +39,6 @@ const MID_RULES: usize = 128;
 
 const CONTEXTS: usize = 289;
 
-// What the archive said: an answer to the open question, or its mark for the record offered.
-pub enum Said {
-    Answer(u8),
-    Offer(u8),
-}
-
-// The call on tables of a size that fits, in lists that fit, in the room lent.
-fn call_in(
-    words: &mut [u32],
-    lists: Lists,
-    symbols: &[u8],
-    said: Said,
-    saved: &mut [u32],
-    holes: &mut [u8],
-    head: &mut [u16],
-    next: &mut [u16],
-    mix: &mut [u32; 5],
-    table: &mut [u8],
-    places: &mut [u16; 32],
-    reps: &mut [u16],
-) -> Done
-    requires { ⌜ (sizeFits (now words) ≡ true) × (listsFit lists ≡ true) × (length (now words) ≤ 6 * lists .used + length (now saved)) × Room (now words) (lists .rules) (now holes) (now head) (now next) (now mix) (now table) (now places) (now reps) × (289 * (lists .rules + 1) ≤ length (now table)) ⌝ }
-    ensures { λ r. ⌜ CallAs (now (words .entry)) lists (callOf said (now (symbols .entry))) r (now (words .exit)) ⌝ }
-{
-    match said {
-        Said::Answer(mark) => calls::answer_in(
-            words,
-            lists,
-            mark,
-            saved,
-            holes,
-            head,
-            next,
-            mix,
-            table,
-            places,
-            reps,
-        ),
-        Said::Offer(mark) => offer::offer_in(
-            words,
-            lists,
-            symbols,
-            mark,
-            saved,
-            holes,
-            head,
-            next,
-            mix,
-            table,
-            places,
-            reps,
-        ),
-    }
-}
-
 // The same in the smallest room.
 fn in_tiny(words: &mut [u32], lists: Lists, symbols: &[u8], said: Said, saved: &mut [u32]) -> Done
     requires { ⌜ (sizeFits (now words) ≡ true) × (listsFit lists ≡ true) × (length (now words) ≤ 6 * lists .used + length (now saved)) × (length (now words) ≤ 2304) × (lists .rules < 40) ⌝ }
@@ -106,7 +51,7 @@ fn in_tiny(words: &mut [u32], lists: Lists, symbols: &[u8], said: Said, saved: &
     let mut table = [0u8; CONTEXTS * TINY_RULES];
     let mut places = [0u16; 32];
     let mut reps = [0u16; TINY_ROWS];
-    call_in(
+    lent::call_in(
         words,
         lists,
         symbols,
@@ -134,7 +79,7 @@ fn in_small(words: &mut [u32], lists: Lists, symbols: &[u8], said: Said, saved: 
     let mut table = [0u8; CONTEXTS * SMALL_RULES];
     let mut places = [0u16; 32];
     let mut reps = [0u16; SMALL_ROWS];
-    call_in(
+    lent::call_in(
         words,
         lists,
         symbols,
@@ -162,7 +107,7 @@ fn in_mid(words: &mut [u32], lists: Lists, symbols: &[u8], said: Said, saved: &m
     let mut table = [0u8; CONTEXTS * MID_RULES];
     let mut places = [0u16; 32];
     let mut reps = [0u16; MID_ROWS];
-    call_in(
+    lent::call_in(
         words,
         lists,
         symbols,
@@ -190,7 +135,7 @@ fn in_wide(words: &mut [u32], lists: Lists, symbols: &[u8], said: Said, saved: &
     let mut table = [0u8; 74273];
     let mut places = [0u16; 32];
     let mut reps = [0u16; 16384];
-    call_in(
+    lent::call_in(
         words,
         lists,
         symbols,
@@ -310,10 +255,10 @@ pub fn made(words: &mut [u32], lists: Lists, symbols: &[u8], said: Said) -> Done
     ensures { λ r. ⌜ CallAs (now (words .entry)) lists (callOf said (now (symbols .entry))) r (now (words .exit)) ⌝ }
 {
     if !observe::size_fits(words) {
-        return calls::refuse(18, lists);
+        return opening::refuse(18, lists);
     }
     if !observe::lists_fit(lists) {
-        return calls::refuse(30, lists);
+        return opening::refuse(30, lists);
     }
     if !is_small(lists.used, lists.rules, symbols.len()) {
         return tried_more(words, lists, symbols, said);

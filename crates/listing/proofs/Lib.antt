@@ -7,6 +7,3 @@ pub mod Reading
 pub mod Put
 pub mod Flat
 pub mod Writing
-pub mod Looks
-pub mod Views
-pub mod Parts

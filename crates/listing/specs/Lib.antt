@@ -1,4 +1,3 @@
 pub mod Blocks
 pub mod Flat
 pub mod Put
-pub mod Shown

@@ -6,7 +6,7 @@ ghost use Rattle.model.specs.Listing.{sizeAt, bodyAt, behind, isBlock};
 ghost use Rattle.listing.specs.Blocks.{blockLen};
 
 // The byte at a place, 0 past the end.
-pub(crate) fn byte_at(bytes: &[u8], i: usize) -> usize
+pub fn byte_at(bytes: &[u8], i: usize) -> usize
     ensures { λ r. ⌜ r ≡ getD (now (bytes .entry)) i 0 ⌝ }
     ensures small { λ r. ⌜ r < 256 ⌝ }
 {
@@ -54,7 +54,7 @@ fn block_len(bytes: &[u8]) -> usize
 }
 
 // The body, as far as it is there.
-pub(crate) fn body(bytes: &[u8]) -> &[u8]
+pub fn body(bytes: &[u8]) -> &[u8]
     ensures { λ r. ⌜ now r ≡ bodyAt (now (bytes .entry)) ⌝ }
 {
     let end = block_len(bytes);
@@ -65,7 +65,7 @@ pub(crate) fn body(bytes: &[u8]) -> &[u8]
 }
 
 // What stands behind the block.
-pub(crate) fn rest(bytes: &[u8]) -> &[u8]
+pub fn rest(bytes: &[u8]) -> &[u8]
     ensures { λ r. ⌜ now r ≡ behind (now (bytes .entry)) ⌝ }
 {
     let end = block_len(bytes);

@@ -67,7 +67,7 @@ fn rule_fits(counts: &[u8], states: usize, body: &[u8]) -> bool
 }
 
 // The child states in a rule's body: all but its first byte and its last.
-pub(crate) fn states_in(body: &[u8]) -> &[u8]
+pub fn states_in(body: &[u8]) -> &[u8]
     ensures { λ r. ⌜ now r ≡ ruleIn (now (body .entry)) .states ⌝ }
 {
     if body.len() < 2 {

@@ -10,7 +10,7 @@ ghost use Rattle.listing.specs.Put.{putAt};
 use crate::blocks::byte_at;
 
 // How many child states a rule of a symbol has.
-pub(crate) fn width(counts: &[u8], symbol: usize) -> usize
+pub fn width(counts: &[u8], symbol: usize) -> usize
     ensures { λ r. ⌜ r ≡ flatWidth (now (counts .entry)) symbol ⌝ }
 {
     let n = byte_at(counts, symbol);

@@ -116,7 +116,7 @@ fn first(words: &mut [u32], script: Script, line: &[u8], out: &mut [u8]) -> Repl
         return unread(words, at_stage(script, 2), out);
     }
     let n = opened.size;
-    let started = learner::start::start(words, script.lists, &counts[..n]);
+    let started = opening::start(words, script.lists, &counts[..n]);
     let seen = started.seen;
     let number = seen.number;
     if number != 0 {
@@ -146,7 +146,7 @@ fn offer(words: &mut [u32], script: Script, line: &[u8], mark: u8, out: &mut [u8
     if size == 0 {
         return unread(words, script, out);
     }
-    let offered = learner::offer::offer(words, lists, &text[..size], mark);
+    let offered = learner::offer(words, lists, &text[..size], mark);
     told(words, with_lists(script, offered.lists), offered.seen, out)
 }
 
@@ -158,7 +158,7 @@ fn later(words: &mut [u32], script: Script, line: &[u8], out: &mut [u8]) -> Repl
     match lines::asked_of(line) {
         Asked::Nothing => unread(words, script, out),
         Asked::Answer(mark) => {
-            let answered = learner::calls::answer(words, script.lists, mark);
+            let answered = learner::answer(words, script.lists, mark);
             told(
                 words,
                 with_lists(script, answered.lists),
@@ -167,7 +167,7 @@ fn later(words: &mut [u32], script: Script, line: &[u8], out: &mut [u8]) -> Repl
             )
         }
         Asked::Accept => {
-            let accepted = learner::calls::accept(words, script.lists);
+            let accepted = learner::accept(words, script.lists);
             told(
                 words,
                 with_lists(script, accepted.lists),

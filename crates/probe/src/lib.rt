@@ -1,4 +1,4 @@
-// For tests alone: the calls by which the second program in harness/ runs the functions of bank and growth, on whatever it lends.
+// For tests alone: the calls by which the second program in harness/ runs the functions over the record table, on whatever it lends.
 ghost use mathlib.Core.Path.{_≡_};
 ghost use mathlib.Core.Bool.{true};
 ghost use mathlib.Core.List.{[], _∷_};
@@ -9,10 +9,8 @@ ghost use Rattle.model.specs.Entry.{sizeFits};
 ghost use Rattle.bank.specs.Ready.{Ready};
 ghost use Rattle.probe.specs.Probed.{isPassed, Shown, Marks, said, saidOf, found, FilledReady, Filled, StoredReady, Stored, known};
 use bank::index;
-use bank::pass;
 use growth::add::Grown;
 use growth::context;
-use growth::listed;
 use model::Row;
 
 // What adding rows came to: 0 rows ran out, 1 the row and the rows used afterwards, 2 refused.

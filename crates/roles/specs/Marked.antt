@@ -5,7 +5,7 @@ use Prim.Native.Nat.{ℕ, _+_}
 use lib.Dec.{ltb, leb, eqb}
 use lib.ListN.{length, getD}
 use Rattle.model.specs.Base.{all, noRepeats}
-use Rattle.bank.specs.Pass.{holeBy}
+use Rattle.pass.specs.Pass.{holeBy}
 
 abbrev pub recordBy : (holes : List ℕ) → (used row : ℕ) → Bool
 recordBy hs u i = ltb i u && not (holeBy hs i)

@@ -6,7 +6,6 @@ ghost use Prim.Native.Nat.{_+_, _<_, _≤_};
 ghost use lib.ListN.{length, take};
 ghost use Rattle.model.specs.Base.{noRepeats, allAmong};
 ghost use Rattle.roles.specs.Marked.{recordBy, contextBy, recordsBy, contextsBy, contextsFitBy};
-use bank::pass;
 use model::Row;
 
 pub mod transitions; // transitions.rt: T2

@@ -9,7 +9,7 @@ use Rattle.model.specs.Store.{used}
 use Rattle.model.specs.Steps.{Ended, short, asks, proposes, ofRows, ofStates, ofTransitions, ofTurns}
 use Rattle.model.specs.Entry.{storeOf}
 use Rattle.bank.specs.Ready.{Kept}
-use Rattle.answers.specs.Columns.{Answered, Contexts, Used}
+use Rattle.columns.specs.Columns.{Answered, Contexts, Used}
 use Rattle.undo.specs.Left.{Left}
 use Rattle.settle.specs.declared.Step.{Step}
 

@@ -3,4 +3,3 @@ pub mod Prepared
 pub mod Hand
 pub mod Judged
 pub mod Rooms
-pub mod Looked

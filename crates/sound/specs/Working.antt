@@ -12,7 +12,7 @@ use Rattle.model.specs.Sound.{isT1, contextsFew, isT5, isT6, isT7, isT8}
 use Rattle.model.specs.Entry.{storeOf, answersIn}
 use Rattle.bank.specs.Rows.{answerIn}
 use Rattle.bank.specs.Ready.{Ready}
-use Rattle.bank.specs.Pass as Rows
+use Rattle.pass.specs.Pass as Rows
 use Rattle.table.specs.Answers.{Observed, Placing, Placed, gapFrom, isOpen}
 use Rattle.roles.specs.Marked.{recordBy}
 use Rattle.hypothesis.specs.Rules.{RepsBy, hypothesis}

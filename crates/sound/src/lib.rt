@@ -1,4 +1,4 @@
-// The soundness test whole (§2.3), and looking (§3.3), on any words and any lists.
+// The soundness test whole (§2.3), on any words and any lists, and what it leaves for a step to work with.
 ghost use mathlib.Core.Path.{_≡_};
 ghost use mathlib.Core.Bool.{true, false};
 ghost use Prim.Native.Nat.{ℕ, _*_, _<_, _≤_};
@@ -7,27 +7,17 @@ ghost use lib.ListN.{length, getD, take};
 ghost use Rattle.model.specs.Limits.{mostContexts};
 ghost use Rattle.model.specs.Base.{noRepeats, allAmong};
 ghost use Rattle.model.specs.Sound.{isSound};
-ghost use Rattle.model.specs.Calls.{looks, look as lookOf};
-ghost use Rattle.model.specs.Entry.{storeOf, answersIn, sizeFits, listsFit, tablesOf, seenOf, callSeen};
+ghost use Rattle.model.specs.Entry.{storeOf, answersIn, sizeFits, listsFit, tablesOf};
 ghost use Rattle.bank.specs.Ready.{Ready};
-ghost use Rattle.bank.specs.Pass as Rows;
+ghost use Rattle.pass.specs.Pass as Rows;
 ghost use Rattle.table.specs.Answers.{Sized, Observed, Placing, Placed, gapFrom, isOpen};
 ghost use Rattle.hypothesis.specs.Rules.{RepsBy, Ruled};
 ghost use Rattle.observe.specs.Given.{given};
 ghost use Rattle.sound.specs.Working.{Arrays, Room, Working, preparedFit, judgedFit, handFits};
-use bank::pass;
 use bank::rows;
 use model::Lists;
 use model::Row;
-use model::Seen;
 use observe::judge;
-
-// Small room: for so many rows, and for fewer transitions than so many; a row of the table of answers is as long as C can be.
-const FEW_ROWS: usize = 1024;
-
-const FEW_RULES: usize = 64;
-
-const CONTEXTS: usize = 289;
 
 // S by its places in T, and whether an answer is missing; where none is, the representative of each transition too.
 fn represent(
@@ -332,115 +322,4 @@ pub fn lists_sound(
         places,
         reps,
     )
-}
-
-// What looking tells of lists that are within their arrays.
-pub fn told(words: &[u32], lists: Lists) -> Seen
-    requires { ⌜ listsFit lists ≡ true ⌝ }
-    ensures { λ r. ⌜ r ≡ seenOf (lookOf (tablesOf (now (words .entry)) lists)) ⌝ }
-{
-    let mut phase = 0;
-    if lists.asked != 0 {
-        phase = 1;
-    }
-    if lists.accepted == 1 {
-        phase = 2;
-    }
-    Seen {
-        number: 0,
-        phase: phase,
-        row: lists.asked,
-        states: lists.states,
-        rules: lists.rules,
-        contexts: lists.contexts,
-    }
-}
-
-// Looking in small room: few rows, and few transitions.
-fn look_few(words: &[u32], lists: Lists) -> Seen
-    requires { ⌜ (sizeFits (now words) ≡ true) × (listsFit lists ≡ true) × (length (now words) ≤ 6144) × (lists .rules < 64) ⌝ }
-    ensures { λ r. ⌜ r ≡ callSeen (now (words .entry)) lists looks ⌝ }
-{
-    let mut holes = [0u8; FEW_ROWS];
-    let mut head = [0u16; FEW_ROWS];
-    let mut next = [0u16; FEW_ROWS];
-    let mut mix = [0u32; 5];
-    let mut table = [0u8; CONTEXTS * FEW_RULES];
-    let mut places = [0u16; 32];
-    let mut reps = [0u16; FEW_ROWS];
-    if !lists_sound(
-        words,
-        lists,
-        &mut holes,
-        &mut head,
-        &mut next,
-        &mut mix,
-        &mut table,
-        &mut places,
-        &mut reps,
-    ) {
-        return observe::refusal(30);
-    }
-    told(words, lists)
-}
-
-// Looking in room for all that may be lent.
-fn look_wide(words: &[u32], lists: Lists) -> Seen
-    requires { ⌜ (sizeFits (now words) ≡ true) × (listsFit lists ≡ true) ⌝ }
-    ensures { λ r. ⌜ r ≡ callSeen (now (words .entry)) lists looks ⌝ }
-{
-    let mut holes = [0u8; 16384];
-    let mut head = [0u16; 16384];
-    let mut next = [0u16; 16384];
-    let mut mix = [0u32; 5];
-    let mut table = [0u8; 73984];
-    let mut places = [0u16; 32];
-    let mut reps = [0u16; 16384];
-    if !lists_sound(
-        words,
-        lists,
-        &mut holes,
-        &mut head,
-        &mut next,
-        &mut mix,
-        &mut table,
-        &mut places,
-        &mut reps,
-    ) {
-        return observe::refusal(30);
-    }
-    told(words, lists)
-}
-
-// Whether small room is enough for the used rows, and they are lent.
-fn is_small(used: u16, rules: u16, size: usize) -> bool
-    ensures { λ r. ⌜ (r ≡ true → (1 ≤ used) × (used ≤ 1024) × (6 * used ≤ size) × (rules < 64)) ⌝ }
-{
-    if used == 0 {
-        return false;
-    }
-    if FEW_ROWS < used as usize {
-        return false;
-    }
-    if size < rows::WIDTH * used as usize {
-        return false;
-    }
-    (rules as usize) < FEW_RULES
-}
-
-// Looking: 18, 30, then what looking tells; on a small table over the used rows alone.
-pub fn look(words: &[u32], lists: Lists) -> Seen
-    ensures { λ r. ⌜ r ≡ callSeen (now (words .entry)) lists looks ⌝ }
-{
-    if !observe::size_fits(words) {
-        return observe::refusal(18);
-    }
-    if !observe::lists_fit(lists) {
-        return observe::refusal(30);
-    }
-    if is_small(lists.used, lists.rules, words.len()) {
-        let most = rows::WIDTH * lists.used as usize;
-        return look_few(&words[..most], lists);
-    }
-    look_wide(words, lists)
 }

@@ -1,5 +1,192 @@
-// A step of the learner (§4) over the lent words and lists: with a record in hand, or none. Each function mirrors its definition in model's Steps.
+// A step (§4): with a record in hand the search goes on, with none the first unknown is asked. Each function mirrors its definition in
+// model's Steps.
+ghost use mathlib.Core.Path.{_≡_};
+ghost use Prim.Native.Nat.{_+_, _*_, _≤_};
+ghost use lib.ListN.{length};
+ghost use Rattle.model.specs.Limits.{mostContexts};
+ghost use Rattle.model.specs.Steps.{advance as advanceOf, search};
+ghost use Rattle.model.specs.Entry.{tablesOf};
+ghost use Rattle.hand.specs.Spots.{Descended, searchBy};
+ghost use Rattle.closing.specs.Stepping.{Stepping, KnownTable, InHand, EndedAs};
+use closing::finish;
+use closing::finish::Stepped;
+use growth::context;
+use hand::Found;
+use model::Lists;
+use model::Row;
 
-pub mod finish; // finish.rt: a question or a proposal, as lists
-pub mod putdown; // putdown.rt: the record in hand is put down with its context
-pub mod advance; // advance.rt: with a record in hand, or none
+// The parts of the lists lent to the search in hand.
+fn find(
+    words: &[u32],
+    lists: Lists,
+    holes: &[u8],
+    head: &[u16],
+    next: &[u16],
+    mix: &[u32; 5],
+    reps: &[u16],
+    down: &mut [u8],
+    at: &mut [u16],
+    exchanged: &mut [u16],
+) -> Found
+    requires { ⌜ Stepping (now words) lists (now holes) (now head) (now next) (now mix) × InHand (now words) lists (now reps) × (lists .used ≤ length (now down)) × (lists .used ≤ length (now at)) × (lists .used ≤ length (now exchanged)) ⌝ }
+    ensures { λ r. ⌜ Descended (tablesOf (now (words .entry)) lists .s) (now (reps .entry)) (tablesOf (now (words .entry)) lists .store) (now (down .exit)) (now (at .exit)) (now (exchanged .exit)) (lists .used) ⌝ }
+    ensures ended { λ r. ⌜ searchBy (tablesOf (now (words .entry)) lists .s) (now (reps .entry)) (tablesOf (now (words .entry)) lists .store) r ≡ search (tablesOf (now (words .entry)) lists .store) (tablesOf (now (words .entry)) lists .answers) (tablesOf (now (words .entry)) lists .s) (tablesOf (now (words .entry)) lists .t) (tablesOf (now (words .entry)) lists .c) (lists .hand) ⌝ }
+{
+    let letters = lists.letters as usize;
+    let counts = lists.counts;
+    let s = lists.s;
+    let t = lists.t;
+    let c = lists.c;
+    hand::find(
+        words,
+        &counts[..letters],
+        lists.used,
+        holes,
+        head,
+        next,
+        mix,
+        &s,
+        lists.states as usize,
+        &t,
+        lists.rules as usize,
+        &c,
+        lists.contexts as usize,
+        reps,
+        down,
+        at,
+        exchanged,
+        Row(lists.hand),
+    )
+}
+
+// With a record in hand: the search, and what its end asks for. The arrays lent have room for the rows used.
+fn in_hand_with(
+    words: &mut [u32],
+    lists: Lists,
+    holes: &mut [u8],
+    head: &mut [u16],
+    next: &mut [u16],
+    mix: &[u32; 5],
+    table: &mut [u8],
+    reps: &[u16],
+    down: &mut [u8],
+    at: &mut [u16],
+    exchanged: &mut [u16],
+) -> Stepped
+    requires { ⌜ Stepping (now words) lists (now holes) (now head) (now next) (now mix) × (mostContexts * (lists .rules + 1) ≤ length (now table)) × InHand (now words) lists (now reps) × (lists .hand ≡ 0 → ⊥) × (lists .used ≤ length (now down)) × (lists .used ≤ length (now at)) × (lists .used ≤ length (now exchanged)) ⌝ }
+    ensures { λ r. ⌜ EndedAs (now (words .entry)) lists (advanceOf (tablesOf (now (words .entry)) lists)) r (now (words .exit)) ⌝ }
+{
+    let found = find(
+        words,
+        lists,
+        holes,
+        head,
+        next,
+        mix,
+        reps,
+        down,
+        at,
+        exchanged,
+    );
+    found::ended_at(
+        words,
+        lists,
+        holes,
+        head,
+        next,
+        mix,
+        table,
+        reps,
+        down,
+        at,
+        exchanged,
+        found,
+    )
+}
+
+// The same where few rows are used.
+fn in_hand_few(
+    words: &mut [u32],
+    lists: Lists,
+    holes: &mut [u8],
+    head: &mut [u16],
+    next: &mut [u16],
+    mix: &[u32; 5],
+    table: &mut [u8],
+    reps: &[u16],
+) -> Stepped
+    requires { ⌜ Stepping (now words) lists (now holes) (now head) (now next) (now mix) × (mostContexts * (lists .rules + 1) ≤ length (now table)) × InHand (now words) lists (now reps) × (lists .hand ≡ 0 → ⊥) × (lists .used ≤ 1024) ⌝ }
+    ensures { λ r. ⌜ EndedAs (now (words .entry)) lists (advanceOf (tablesOf (now (words .entry)) lists)) r (now (words .exit)) ⌝ }
+{
+    let mut down = [0u8; 1024];
+    let mut at = [0u16; 1024];
+    let mut exchanged = [0u16; 1024];
+    in_hand_with(
+        words,
+        lists,
+        holes,
+        head,
+        next,
+        mix,
+        table,
+        reps,
+        &mut down,
+        &mut at,
+        &mut exchanged,
+    )
+}
+
+// The same, whatever is used.
+fn in_hand(
+    words: &mut [u32],
+    lists: Lists,
+    holes: &mut [u8],
+    head: &mut [u16],
+    next: &mut [u16],
+    mix: &[u32; 5],
+    table: &mut [u8],
+    reps: &[u16],
+) -> Stepped
+    requires { ⌜ Stepping (now words) lists (now holes) (now head) (now next) (now mix) × (mostContexts * (lists .rules + 1) ≤ length (now table)) × InHand (now words) lists (now reps) × (lists .hand ≡ 0 → ⊥) ⌝ }
+    ensures { λ r. ⌜ EndedAs (now (words .entry)) lists (advanceOf (tablesOf (now (words .entry)) lists)) r (now (words .exit)) ⌝ }
+{
+    if lists.used <= context::FEW {
+        return in_hand_few(words, lists, holes, head, next, mix, table, reps);
+    }
+    let mut down = [0u8; 16384];
+    let mut at = [0u16; 16384];
+    let mut exchanged = [0u16; 16384];
+    in_hand_with(
+        words,
+        lists,
+        holes,
+        head,
+        next,
+        mix,
+        table,
+        reps,
+        &mut down,
+        &mut at,
+        &mut exchanged,
+    )
+}
+
+// A step. With nothing in hand, rows of the table without an unknown answer are right; there is room in it for one transition more.
+pub fn advance(
+    words: &mut [u32],
+    lists: Lists,
+    holes: &mut [u8],
+    head: &mut [u16],
+    next: &mut [u16],
+    mix: &[u32; 5],
+    table: &mut [u8],
+    reps: &[u16],
+) -> Stepped
+    requires { ⌜ Stepping (now words) lists (now holes) (now head) (now next) (now mix) × (mostContexts * (lists .rules + 1) ≤ length (now table)) × ((lists .hand ≡ 0 → ⊥) → InHand (now words) lists (now reps)) × (lists .hand ≡ 0 → KnownTable (now words) lists (now table)) × (lists .asked ≡ 0) × (lists .accepted ≡ 0) ⌝ }
+    ensures { λ r. ⌜ EndedAs (now (words .entry)) lists (advanceOf (tablesOf (now (words .entry)) lists)) r (now (words .exit)) ⌝ }
+{
+    if lists.hand == 0 {
+        return finish::finish(words, lists, holes, head, next, mix, table);
+    }
+    in_hand(words, lists, holes, head, next, mix, table, reps)
+}

@@ -1,4 +1,4 @@
-//! What bank and growth do, by plain means: clause by clause, recursion, linear search. Nothing here is
+//! What the functions over the record table do, by plain means: clause by clause, recursion, linear search. Nothing here is
 //! made to be fast, and nothing is taken from their way of doing it.
 
 mod grow;

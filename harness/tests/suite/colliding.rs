@@ -5,10 +5,10 @@ use harness::colliding::{Crowd, MIXES};
 use harness::lent::{Lent, ROW_WORDS};
 use harness::random::Random;
 
-/// The tables are made for the multipliers that bank has.
+/// The tables are made for the multipliers of the pass and the buckets of bank.
 #[test]
-fn multipliers_are_those_of_bank() {
-    let pass = include_str!("../../../crates/bank/src/pass.rt");
+fn multipliers_are_those_of_the_pass() {
+    let pass = include_str!("../../../crates/pass/src/lib.rt");
     let index = include_str!("../../../crates/bank/src/index.rt");
     for mix in MIXES {
         assert!(pass.contains(&format!("{mix:?}")), "{mix:?}");

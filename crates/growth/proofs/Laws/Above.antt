@@ -18,7 +18,7 @@ use Rattle.bank.specs.Rows.{symbolIn, placesIn}
 use Rattle.bank.specs.Ready.{placeCode, oneFurther, Ready, frameAt}
 use Rattle.bank.proofs.Laws.Words.{used-of, symbol-in, places-in}
 use Rattle.bank.proofs.Laws.Chains.{by-equal}
-use Rattle.bank.proofs.Laws.T1.{hole-ready}
+use Rattle.pass.proofs.Laws.T1.{hole-ready}
 use Rattle.growth.specs.declared.add.Grown.{Grown}
 use Rattle.growth.specs.Adding.{kidsOf, PlacesAsked, holeAbove, Put}
 use Rattle.growth.proofs.Laws.Coming.{Comes, comes-by}

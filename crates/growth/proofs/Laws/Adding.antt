@@ -24,7 +24,7 @@ use Rattle.bank.specs.Index.{Finding, Indexed, findIn}
 use Rattle.bank.specs.Ready.{placeCode, Holed, Ready, withRows}
 use Rattle.bank.proofs.Laws.Words.{used-of, length-withRow, front-withRow, symbol-written, places-written, one-row, store-withRows, nodes-kept}
 use Rattle.bank.proofs.Laws.Chains.{finding-kept, finding-more}
-use Rattle.bank.proofs.Laws.Row.{code-below}
+use Rattle.pass.proofs.Laws.Row.{code-below}
 use Rattle.growth.specs.declared.add.Grown.{Grown}
 use Rattle.growth.specs.Adding.{grownRow, kidsOf, PlacesAsked, Lent, Put, found, no-room, written}
 use Rattle.growth.proofs.Laws.Coming.{Comes, comes-by, comes-same, store-room}

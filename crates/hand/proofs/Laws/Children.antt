@@ -16,7 +16,7 @@ use Rattle.bank.specs.Index.{findIn}
 use Rattle.bank.specs.Ready.{Ready, frameAt}
 use Rattle.bank.proofs.Laws.Words.{used-of, symbol-in, places-in, kids-in}
 use Rattle.bank.proofs.Laws.Finding.{found-in}
-use Rattle.bank.proofs.Laws.Kids.{below-at}
+use Rattle.pass.proofs.Laws.Kids.{below-at}
 
 places-at : (ws : List ℕ) (i k : ℕ) → k < 4 → getD (placesIn ws i) k 0 ≡ kidIn ws i k
 places-at ws i zero h = refl

@@ -12,7 +12,7 @@ use Rattle.model.specs.Facts.{Good, IsRecord, Fits}
 use Rattle.model.proofs.Laws.Fold.{earlier}
 use Rattle.model.proofs.Laws.Down.{down-fuel, fits-record}
 use Rattle.bank.specs.Ready.{placeCode, frameAt, pathBy, pathFrom, pathOf}
-use Rattle.bank.proofs.Laws.Kids.{below-at}
+use Rattle.pass.proofs.Laws.Kids.{below-at}
 use Rattle.hand.specs.Spots.{Descended}
 use Rattle.hand.proofs.Laws.Place.{split-none, split-some}
 

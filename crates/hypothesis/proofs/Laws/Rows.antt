@@ -21,8 +21,8 @@ use Rattle.model.proofs.Laws.Tests.{both-true}
 use Rattle.model.proofs.Laws.Lists.{map-below}
 use Rattle.model.proofs.Laws.Fold.{fold-eq, earlier}
 use Rattle.bank.proofs.Laws.Chains.{by-equal}
-use Rattle.bank.proofs.Laws.Kids.{below-at}
-use Rattle.growth.proofs.Laws.ArrayStack.{places-more}
+use Rattle.pass.proofs.Laws.Kids.{below-at}
+use Rattle.listed.proofs.Laws.ArrayStack.{places-more}
 use Rattle.hypothesis.specs.Rules.{ruleBy, rulesBy, Ruled, repOf}
 use Rattle.hypothesis.proofs.Laws.Lookup.{placeIn, stateBy, Rep, state-some, rep-back, rep-in, rep-some, rep-within, lookup, found-rep}
 

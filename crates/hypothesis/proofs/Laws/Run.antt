@@ -17,8 +17,8 @@ use Rattle.model.specs.Facts.{Good, Parses, parsed, parses}
 use Rattle.model.proofs.Laws.Lists.{each-at}
 use Rattle.model.proofs.Laws.Scans.{drop-next}
 use Rattle.model.proofs.Laws.Stack.{length-backwards, map-drop, map-top, each-backwards, each-take, each-drop}
-use Rattle.growth.specs.Listed.{stackOf}
-use Rattle.growth.proofs.Laws.ArrayStack.{stack-length, stack-push, stack-one}
+use Rattle.listed.specs.Listed.{stackOf}
+use Rattle.listed.proofs.Laws.ArrayStack.{stack-length, stack-push, stack-one}
 use Rattle.hypothesis.specs.Rules.{rulesBy, Ruled, ledBy}
 use Rattle.hypothesis.specs.declared.Led.{Led}
 use Rattle.hypothesis.proofs.Laws.Lookup.{placeIn, stateBy, Rep, state-some, at-own-place, own-place-within, rep-in, rep-some, lookup, found-rep}

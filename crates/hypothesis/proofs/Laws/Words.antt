@@ -16,7 +16,7 @@ use Rattle.bank.specs.Ready.{Ready}
 use Rattle.bank.proofs.Laws.Words.{used-of, symbol-in, kids-in}
 use Rattle.bank.proofs.Laws.Finding.{found-in}
 use Rattle.bank.proofs.Laws.Chains.{by-equal}
-use Rattle.bank.proofs.Laws.Kids.{place-at}
+use Rattle.pass.proofs.Laws.Kids.{place-at}
 use Rattle.hypothesis.specs.Rules.{Ruled}
 
 pub find-used : {mix ws : List ℕ} {n : ℕ} {head next : List ℕ} → Finding mix ws n head next → (a : ℕ) (ps : List ℕ) → findIn ws n a ps < n

@@ -18,7 +18,7 @@ use Rattle.hypothesis.proofs.run_list.Statement.{statement}
 use Rattle.hypothesis.proofs.run_list.Tie as tie
 use Rattle.hypothesis.proofs.run_list.Reads as reads
 use Rattle.hypothesis.proofs.run_list.Lts as lts
-use Rattle.growth.proofs.listed.top_places.Reads as top-places-reads
+use Rattle.listed.proofs.top_places.Reads as top-places-reads
 use Rattle.hypothesis.proofs.target_of.Reads as target-of-reads
 
 abbrev Inv-loop : tie.InvT-loop

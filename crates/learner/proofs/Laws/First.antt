@@ -13,8 +13,9 @@ use Rattle.model.specs.Entry.{sizeFits, listsFit, seenBy, wordsBy, callBy}
 use Rattle.model.specs.declared.Lists.{Lists}
 use Rattle.model.specs.declared.Seen.{Seen}
 use Rattle.model.proofs.Laws.LentPart.{part-fits, seen-part, lists-part, words-part}
-use Rattle.learner.specs.declared.calls.Done.{Done}
-use Rattle.learner.specs.Calls.{CallAs, FirstAs}
+use Rattle.opening.specs.declared.Done.{Done}
+use Rattle.opening.specs.Calls.{CallAs}
+use Rattle.learner.specs.Tried.{FirstAs}
 
 seen-number : (o : Outcome) → seenBy o .number ≡ numberOf o
 seen-number (refuses n) = refl

@@ -15,8 +15,8 @@ use Rattle.model.proofs.Laws.Tests.{both-true, and-right}
 use Rattle.model.proofs.Laws.Lent.{take-over}
 use Rattle.listing.specs.Put.{putAt}
 use Rattle.listing.proofs.Put.{put-over, put-length}
-use Rattle.learner.specs.Calls.{CallAs}
-use Rattle.learner.specs.declared.calls.Done.{Done}
+use Rattle.opening.specs.Calls.{CallAs}
+use Rattle.opening.specs.declared.Done.{Done}
 use Rattle.text.specs.Bytes.{space, plus, minus, yesWord, noWord, okWord, mostInput}
 use Rattle.text.specs.Reading.{readText}
 use Rattle.text.specs.Lines.{Line, unreadLine, calls, isOffer, signMark, offering, lineOf, unreadText}

@@ -13,8 +13,8 @@ use Rattle.model.specs.Base.{over}
 use Rattle.model.specs.Calls.{refuses, leaves, started}
 use Rattle.model.specs.Entry.{rowsLent, storeOf, seenBy, wordsBy, startNumber, startSeen, startWords, startLists}
 use Rattle.model.specs.declared.Seen.{Seen}
-use Rattle.learner.specs.Calls.{StartAs}
-use Rattle.learner.specs.declared.calls.Done.{Done}
+use Rattle.opening.specs.Calls.{StartAs}
+use Rattle.opening.specs.declared.Done.{Done}
 use Rattle.text.specs.Bytes.{replyRoom}
 use Rattle.text.specs.Alphabet.{Alphabet, noAlphabet, alphabet, alphabetOf}
 use Rattle.text.specs.Lines.{lineOf, seenText, unreadText}

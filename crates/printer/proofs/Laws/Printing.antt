@@ -14,7 +14,7 @@ use Rattle.model.specs.Entry.{storeOf}
 use Rattle.model.proofs.Laws.Fold.{fold-eq, earlier}
 use Rattle.bank.specs.Rows.{symbolIn, kidIn, placesIn}
 use Rattle.bank.proofs.Laws.Words.{used-of, symbol-in, kids-in}
-use Rattle.bank.proofs.Laws.Kids.{place-at, below-at}
+use Rattle.pass.proofs.Laws.Kids.{place-at, below-at}
 use Rattle.sizes.specs.Sizes.{sizeOf, Stored}
 use Rattle.text.specs.Bytes.{comma, opening, closing}
 use Rattle.text.specs.Written.{letterOf, others, bracketed, written, rowText}

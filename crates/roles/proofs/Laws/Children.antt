@@ -14,7 +14,7 @@ use Rattle.model.proofs.Laws.Members.{all-fails, all-passes, all-ends}
 use Rattle.bank.specs.Rows.{symbolIn, kidIn, placesIn, Within}
 use Rattle.bank.specs.Ready.{Ready}
 use Rattle.bank.proofs.Laws.Words.{used-of, symbol-in, kids-in}
-use Rattle.bank.proofs.Laws.Kids.{below-at}
+use Rattle.pass.proofs.Laws.Kids.{below-at}
 
 places-at : (ws : List ℕ) (i k : ℕ) → k < 4 → getD (placesIn ws i) k 0 ≡ kidIn ws i k
 places-at ws i zero h = refl

@@ -17,9 +17,9 @@ use Rattle.model.specs.Entry.{storeOf}
 use Rattle.model.proofs.Laws.Tests.{all-getD}
 use Rattle.model.proofs.Laws.ReflectLists.{record-of}
 use Rattle.bank.specs.Ready.{Ready}
-use Rattle.bank.specs.Pass.{holeBy}
+use Rattle.pass.specs.Pass.{holeBy}
 use Rattle.bank.proofs.Laws.Words.{used-of}
-use Rattle.bank.proofs.Laws.T1.{hole-ready}
+use Rattle.pass.proofs.Laws.T1.{hole-ready}
 use Rattle.roles.specs.Marked.{recordBy, contextBy, recordsBy, contextsBy, contextsFitBy}
 
 module _ {ws ns : List ℕ} {n : ℕ} {hs head next mix : List ℕ} (r : Ready ws ns n hs head next mix) where

@@ -14,7 +14,7 @@ use Rattle.model.specs.Entry.{storeOf}
 use Rattle.model.proofs.Laws.Fold.{fold-eq, earlier}
 use Rattle.bank.specs.Rows.{symbolIn, kidIn, placesIn}
 use Rattle.bank.proofs.Laws.Words.{used-of, symbol-in, kids-in}
-use Rattle.bank.proofs.Laws.Kids.{place-at, below-at}
+use Rattle.pass.proofs.Laws.Kids.{place-at, below-at}
 use Rattle.sizes.specs.Sizes.{sizeOf, mostCounted, cut, Sizing}
 use Rattle.sizes.proofs.Laws.Cut.{cut-most, cut-part}
 

@@ -26,7 +26,7 @@ use Rattle.roles.specs.Marked.{recordBy}
 use Rattle.roles.proofs.Laws.Marked.{record-ready}
 use Rattle.hypothesis.specs.Rules.{hypothesis, Ruled}
 use Rattle.hypothesis.proofs.Laws.Tied.{Covers, covers-shaped, RepsOf, reps-tied, ruled-tied, hypothesis-tied}
-use Rattle.bank.specs.Pass.{holeBy}
+use Rattle.pass.specs.Pass.{holeBy}
 use Rattle.observe.proofs.Laws.Parts.{and-assoc}
 use Rattle.observe.specs.Given.{given, rolesFit, fewFit, tableFits, questionFits}
 use Rattle.sound.specs.Working.{Arrays, Working, preparedFit, judgedFit, handFits}

@@ -18,7 +18,7 @@ use Rattle.model.proofs.Laws.Tests.{and-left, and-right, all-getD}
 use Rattle.model.proofs.Laws.ReflectRows.{rows-of}
 use Rattle.model.proofs.Laws.ReflectLists.{record-of}
 use Rattle.bank.proofs.Laws.Words.{used-of, answer-in}
-use Rattle.answers.specs.Columns.{Answered, Contexts, Used}
+use Rattle.columns.specs.Columns.{Answered, Contexts, Used}
 use Rattle.observe.specs.Given.{given, rolesFit}
 use Rattle.sound.specs.Working.{Arrays}
 

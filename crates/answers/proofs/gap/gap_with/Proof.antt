@@ -8,7 +8,7 @@ use lib.ListN.{length}
 use Rattle.model.specs.Entry.{storeOf, answersIn}
 use Rattle.table.specs.Answers.{Observed, KnownRows}
 use Rattle.table.proofs.Laws.Tied.{gap-at-last}
-use Rattle.answers.proofs.Laws.Rows.{observed-none}
+use Rattle.columns.proofs.Laws.Rows.{observed-none}
 use Rattle.answers.proofs.gap.gap_with.Statement.{statement}
 use Rattle.answers.proofs.gap.gap_with.Tie as tie
 

@@ -6,7 +6,7 @@ use native.Mathlib.Omega.{arith}
 use borrow.Author.Needs.{needs}
 use borrow.Author.Tests.{not-true}
 use Rattle.table.proofs.Laws.Known.{observed-known}
-use Rattle.answers.proofs.Laws.Rows.{known-more}
+use Rattle.columns.proofs.Laws.Rows.{known-more}
 use Rattle.answers.proofs.gap.update_row.Statement.{statement}
 use Rattle.answers.proofs.gap.update_row.Tie as tie
 

@@ -7,7 +7,7 @@ use borrow.Author.Needs.{needs}
 use lib.ListN.{length}
 use Rattle.model.specs.Entry.{storeOf, answersIn}
 use Rattle.table.specs.Answers.{Observed}
-use Rattle.answers.proofs.Laws.Rows.{observed-none}
+use Rattle.columns.proofs.Laws.Rows.{observed-none}
 use Rattle.answers.proofs.whole.observe_with.Statement.{statement}
 use Rattle.answers.proofs.whole.observe_with.Tie as tie
 

@@ -9,8 +9,9 @@ use borrow.Author.Tests.{not-true, not-false}
 use borrow.Author.Needs.{needs}
 use lib.ListN.{length}
 use Rattle.model.specs.Entry.{sizeFits, listsFit}
-use Rattle.learner.specs.Calls.{CallAs, callOf}
-use Rattle.learner.proofs.Laws.Called.{called-size, called-lists}
+use Rattle.opening.specs.Calls.{CallAs}
+use Rattle.lent.specs.Said.{callOf}
+use Rattle.opening.proofs.Laws.Called.{called-size, called-lists}
 use Rattle.learner.proofs.tried.made.Statement.{statement}
 use Rattle.learner.proofs.tried.made.Tie as tie
 

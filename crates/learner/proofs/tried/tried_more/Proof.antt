@@ -7,7 +7,8 @@ use Prim.Native.Nat.{ℕ}
 use native.Mathlib.Omega.{arith}
 use lib.ListN.{length}
 use Rattle.model.specs.Entry.{sizeFits}
-use Rattle.learner.specs.Calls.{CallAs, callOf}
+use Rattle.opening.specs.Calls.{CallAs}
+use Rattle.lent.specs.Said.{callOf}
 use borrow.Author.Needs.{needs}
 use Rattle.learner.proofs.tried.tried_more.Statement.{statement}
 use Rattle.learner.proofs.tried.tried_more.Tie as tie

@@ -16,7 +16,7 @@ use Rattle.notation.proofs.reply.offer.Statement.{statement}
 use Rattle.notation.proofs.reply.offer.Tie as tie
 use Rattle.notation.proofs.reply.offer.Reads as reads
 use Rattle.notation.proofs.reply.offer.Lts as lts
-use Rattle.learner.proofs.offer.offer.Reads as offer-reads
+use Rattle.learner.proofs.offer.Reads as offer-reads
 use Rattle.listing.proofs.put_bytes.Reads as put-bytes-reads
 use Rattle.reader.proofs.read_text.Reads as read-text-reads
 use Rattle.notation.proofs.reply.letters_in.Reads as letters-in-reads

@@ -1,0 +1,3 @@
+pub mod ArrayStack
+pub mod Reading
+pub mod Storing

@@ -1,0 +1,7 @@
+-- The laws, in reading order: a file leans on those above it.
+pub mod Accepted
+pub mod Answered
+pub mod AnswerTaken
+pub mod Ends
+pub mod OfferTaken
+pub mod Offered
