@@ -79,7 +79,7 @@ fn offer_in(
     if !sound::lists_sound(words, lists, holes, head, next, mix, table, places, reps) {
         return opening::refuse(30, lists);
     }
-    let fault = lines::fault_of(
+    let fault = faults::fault_of(
         words,
         lists,
         symbols,

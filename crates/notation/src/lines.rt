@@ -1,6 +1,6 @@
 // What a later line asks for (§8.3), by its first bytes.
 ghost use mathlib.Core.Path.{_≡_};
-ghost use Rattle.notation.specs.Replies.{askedOf};
+ghost use Rattle.notation.specs.Asks.{askedOf};
 
 // A call that needs no record, an offer with its mark, or none of these.
 pub enum Asked {

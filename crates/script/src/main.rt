@@ -5,7 +5,6 @@ ghost use lib.ListN.{length};
 ghost use Rattle.script.specs.LineEnd.{lineEnd};
 use libc::STDIN_FILENO;
 use libc::STDOUT_FILENO;
-use notation::reply;
 
 // Where the line that begins at a place ends: at its newline, or at the end of the input.
 fn line_end(input: &[u8], from: usize) -> usize

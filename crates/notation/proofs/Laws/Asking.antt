@@ -13,7 +13,7 @@ use Rattle.model.proofs.Laws.Scans.{same-lengths}
 use Rattle.text.specs.Bytes.{space, plus, minus, yesWord, noWord, okWord, mostInput}
 use Rattle.text.specs.Lines.{isOffer, signMark}
 use Rattle.notation.specs.declared.lines.Asked.{Asked}
-use Rattle.notation.specs.Replies.{askedOf}
+use Rattle.notation.specs.Asks.{askedOf}
 
 -- A LINE OF ONE BYTE
 pub asked-yes : (bs : List ℕ) → length bs ≡ 1 → getD bs 0 0 ≡ 121 → askedOf bs ≡ Asked.Answer 1
