@@ -137,7 +137,7 @@ fn in_hand_few(
 }
 
 // The same, whatever is used.
-fn in_hand(
+pub fn in_hand(
     words: &mut [u32],
     lists: Lists,
     holes: &mut [u8],

@@ -111,7 +111,7 @@ pub fn take_offer(
             let old = rows::answer_of(words, row);
             rows::set_answer(words, row, mark as u32 + 1);
             let given = taken_up(lists, row, n);
-            let stepped = step::advance(words, given, holes, head, next, mix, table, reps);
+            let stepped = step::in_hand(words, given, holes, head, next, mix, table, reps);
             let number = stepped.number;
             if number != 0 {
                 rows::set_answer(words, row, old);

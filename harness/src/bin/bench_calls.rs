@@ -15,6 +15,15 @@ use std::time::{Duration, Instant};
 const RUNS: usize = 60;
 const AUTOMATA: usize = 12;
 
+/// How often a learning run is made: the short ones often, since their times scatter.
+fn repeats(states: usize) -> usize {
+    if states <= 16 {
+        RUNS
+    } else {
+        5
+    }
+}
+
 type Calls = fn(&mut [u32], &mut Lists, &Call) -> Seen;
 
 fn line(name: &str, library: Duration, oracle: Duration) {
@@ -51,7 +60,7 @@ fn least(runs: usize, tables: &Tables, made: &[Call]) -> (Duration, Duration) {
 /// A run that learns so many states, at the first seed that has one.
 fn run_line(states: usize, rows: usize) {
     let (begin, made, left) = learning(states, rows);
-    let (library, oracle) = least(5, &begin, &made);
+    let (library, oracle) = least(repeats(states), &begin, &made);
     let lists = &left.lists;
     let name = format!(
         "run: {states}, {}, {}; {} calls, {} rows",
@@ -67,7 +76,7 @@ fn run_line(states: usize, rows: usize) {
 fn runs_line(states: usize, rows: usize) {
     let (mut library, mut oracle, mut most) = (Duration::ZERO, Duration::ZERO, 0f64);
     for (begin, made, _) in runs(states, rows).take(AUTOMATA) {
-        let least = least(5, &begin, &made);
+        let least = least(repeats(states), &begin, &made);
         most = most.max(least.0.as_secs_f64() / least.1.as_secs_f64());
         library += least.0;
         oracle += least.1;

@@ -243,12 +243,6 @@ module _ {ws : List ℕ} {l : Lists} {xs : List ℕ} {m : ℕ} {holes head next 
                 (handling-offered X whole xs m brought j y (q .is) reps-are (omega (arith, used-of ws (countsIn l) (l .used), t .working .ready .finding .few)) (omega (arith, q .ext .room, t .working .reps-long)));
           }
 
-      pub no-question : l' .asked ≡ 0
-      no-question = ap (λ (k : Lists). k .asked) up
-
-      pub not-accepted : l' .accepted ≡ 0
-      not-accepted = ap (λ (k : Lists). k .accepted) up
-
       -- THE STEP taken from these tables
       done-by : endOf (offered X xs m) ≡ endOf (advance (tablesOf us' l'))
       done-by = ap (λ (b : Built). endOf (takenBy X m b)) (q .is) ∙ ap (λ (z : Tables). endOf (advance z)) (sym back)

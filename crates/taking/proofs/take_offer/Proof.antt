@@ -17,7 +17,7 @@ use Rattle.growth.proofs.Laws.Coming.{Comes, comes-as}
 use Rattle.closing.specs.Stepping.{countsIn}
 use Rattle.model.specs.declared.Lists.{Lists}
 use Rattle.taking.proofs.Laws.Ends.{Ends}
-use Rattle.taking.proofs.Laws.Offered.{Given, StoredAt, full-size, full-held, full-called, offer-stored, row-within, offer-stepping, offer-in-hand, no-question, not-accepted, short-within, back-size, back-held, words-back, short-called, left-size, left-fit, left-called}
+use Rattle.taking.proofs.Laws.Offered.{Given, StoredAt, full-size, full-held, full-called, offer-stored, row-within, offer-stepping, offer-in-hand, short-within, back-size, back-held, short-called, left-fit, left-called}
 use Rattle.taking.proofs.take_offer.Statement.{statement}
 use Rattle.taking.proofs.take_offer.Tie as tie
 use Rattle.taking.proofs.take_offer.Reads as reads
@@ -25,7 +25,7 @@ use Rattle.taking.proofs.take_offer.Lts as lts
 use Rattle.bank.proofs.rows.answer_of.Reads as answer-of-reads
 use Rattle.bank.proofs.rows.set_answer.Reads as set-answer-reads
 use Rattle.listed.proofs.store.Reads as store-reads
-use Rattle.step.proofs.advance.Reads as advance-reads
+use Rattle.step.proofs.in_hand.Reads as in-hand-reads
 use Rattle.opening.proofs.refuse.Reads as refuse-reads
 use Rattle.taking.proofs.taken_up.Reads as taken-up-reads
 use Rattle.look.proofs.told.Reads as told-reads
@@ -49,8 +49,8 @@ claims = (
   set-answer-reads.Learnt,
   taken-up-reads.Asked,
   taken-up-reads.Learnt,
-  advance-reads.Asked,
-  advance-reads.Learnt,
+  in-hand-reads.Asked,
+  in-hand-reads.Learnt,
   told-reads.Asked,
   told-reads.Learnt,
 )
@@ -81,7 +81,7 @@ abbrev Taken : Type 0
 Taken = lts.After-taken-up claims reads.Pre reads.Post
 
 abbrev Advanced : Type 0
-Advanced = lts.After-advance claims reads.Pre reads.Post
+Advanced = lts.After-in-hand claims reads.Pre reads.Post
 
 given : (s : Start) →
     Given (s .args .words .now) (s .args .lists) (s .args .symbols .now) (s .args .mark) (s .args .holes .now) (s .args .head .now) (s .args .next .now) (s .args .mix .now) (s .args .table .now)
@@ -148,14 +148,14 @@ abbrev saving : Advanced → Saving
 saving c = c .before .before .before .before .before .before .before .before .before .before .before .before .before .before .before .before .before .before .before .before .before .before .before .before .before .before .before .before .before .before .before .before
 
 ended : (c : Advanced) →
-    Ends (marking c .set-answer .last .0) (taking c .taken-up .result) (advance (tablesOf (marking c .set-answer .last .0) (taking c .taken-up .result))) (c .advance .result) (c .advance .last .0)
-ended c = record { ended = c .advance .ensures }
+    Ends (marking c .set-answer .last .0) (taking c .taken-up .result) (advance (tablesOf (marking c .set-answer .last .0) (taking c .taken-up .result))) (c .in-hand .result) (c .in-hand .last .0)
+ended c = record { ended = c .in-hand .ensures }
 
 -- the answer set back after a shortage
 abbrev short-of : Reset → Advanced
 short-of c = c .before .before .before .before .before .before .before .before .before .before .before .before .before
 
-shortage : (c : Reset) → short-of c .advance .result .number ≡ 0 → ⊥
+shortage : (c : Reset) → short-of c .in-hand .result .number ≡ 0 → ⊥
 shortage c = c .before .before .if1 .taken
 
 cast-letters : tie.Need-cast-letters
@@ -209,13 +209,13 @@ set-answer-requires c κs = let a : AtRow = c .before .before .before .before in
 taken-up-requires : tie.Need-taken-up-requires
 taken-up-requires c κs = search needs
 
-advance-requires : tie.Need-advance-requires
-advance-requires c κs =
+in-hand-requires : tie.Need-in-hand-requires
+in-hand-requires c κs =
     let a : AtRow = c .before .before .before .before .before .before .before .before .before .before .before .before .before in
     let g = given (first a) in
     let p = c .before .before .before .before .before .before .before .before .set-answer .ensures in
     let u = c .before .before .before .before .before .taken-up .ensures in
-    (offer-stepping g (stored a) p u, omega (arith, ap (λ (o : Lists). o .rules) u, c .before .before .before .before .before .before .before .before .before .before .before .before .before .before .before .before .before .before .before .before .before .before .before .before .before .before .before .before .before .before .before .before .before .before .before .before .before .before .before .before .before .before .before .before .pre .6), (λ n. offer-in-hand g (stored a) p u), (λ z. absurd (omega (arith, z, offer-in-hand g (stored a) p u .fits .record-row .some))), no-question g (stored a) p u, not-accepted g (stored a) p u)
+    (offer-stepping g (stored a) p u, omega (arith, ap (λ (o : Lists). o .rules) u, c .before .before .before .before .before .before .before .before .before .before .before .before .before .before .before .before .before .before .before .before .before .before .before .before .before .before .before .before .before .before .before .before .before .before .before .before .before .before .before .before .before .before .before .before .pre .6), offer-in-hand g (stored a) p u, (λ z. omega (arith, z, offer-in-hand g (stored a) p u .fits .record-row .some)))
 
 set-answer-requires-2 : tie.Need-set-answer-requires-2
 set-answer-requires-2 c κs =
@@ -239,19 +239,19 @@ refuse-requires-2 : tie.Need-refuse-requires-2
 refuse-requires-2 c κs = search needs
 
 same-length : tie.Need-same-length
-same-length c = c .before .before .before .restore2 .kept .0 ∙ c .before .before .before .before .before .before .before .before .set-answer2 .kept .0 ∙ c .before .before .before .before .before .before .before .before .before .before .before .before .before .before .before .before .before .before .before .before .before .advance .kept .0 ∙ c .before .before .before .before .before .before .before .before .before .before .before .before .before .before .before .before .before .before .before .before .before .before .before .before .before .before .before .before .before .before .set-answer .kept .0 ∙ c .before .before .before .before .before .before .before .before .before .before .before .before .before .before .before .before .before .before .before .before .before .before .before .before .before .before .before .before .before .before .before .before .before .before .before .before .before .before .before .before .before .before .before .before .before .store .kept .0
+same-length c = c .before .before .before .restore2 .kept .0 ∙ c .before .before .before .before .before .before .before .before .set-answer2 .kept .0 ∙ c .before .before .before .before .before .before .before .before .before .before .before .before .before .before .before .before .before .before .before .before .before .in-hand .kept .0 ∙ c .before .before .before .before .before .before .before .before .before .before .before .before .before .before .before .before .before .before .before .before .before .before .before .before .before .before .before .before .before .before .set-answer .kept .0 ∙ c .before .before .before .before .before .before .before .before .before .before .before .before .before .before .before .before .before .before .before .before .before .before .before .before .before .before .before .before .before .before .before .before .before .before .before .before .before .before .before .before .before .before .before .before .before .store .kept .0
 
 same-length-2 : tie.Need-same-length-2
 same-length-2 c = c .before .before .before .before .before .before .before .before .before .before .before .before .before .before .before .before .before .before .before .before .before .before .before .before .before .before .before .before .before .before .before .before .before .before .before .before .before .before .before .before .before .before .before .before .before .before .before .before .before .before .before .before .before .save .kept .1 .1 .0
 
 same-length-3 : tie.Need-same-length-3
-same-length-3 c = c .before .before .before .before .before .before .before .before .before .before .before .before .before .before .before .before .before .before .before .before .before .advance .kept .1 .1 .0 ∙ c .before .before .before .before .before .before .before .before .before .before .before .before .before .before .before .before .before .before .before .before .before .before .before .before .before .before .before .before .before .before .before .before .before .before .before .before .before .before .before .before .before .before .before .before .before .store .kept .1 .1 .1 .0
+same-length-3 c = c .before .before .before .before .before .before .before .before .before .before .before .before .before .before .before .before .before .before .before .before .before .in-hand .kept .1 .1 .0 ∙ c .before .before .before .before .before .before .before .before .before .before .before .before .before .before .before .before .before .before .before .before .before .before .before .before .before .before .before .before .before .before .before .before .before .before .before .before .before .before .before .before .before .before .before .before .before .store .kept .1 .1 .1 .0
 
 same-length-4 : tie.Need-same-length-4
-same-length-4 c = c .before .before .before .before .before .before .before .before .before .before .before .before .before .before .before .before .before .before .before .before .before .advance .kept .1 .1 .1 .0 ∙ c .before .before .before .before .before .before .before .before .before .before .before .before .before .before .before .before .before .before .before .before .before .before .before .before .before .before .before .before .before .before .before .before .before .before .before .before .before .before .before .before .before .before .before .before .before .store .kept .1 .1 .1 .1 .0
+same-length-4 c = c .before .before .before .before .before .before .before .before .before .before .before .before .before .before .before .before .before .before .before .before .before .in-hand .kept .1 .1 .1 .0 ∙ c .before .before .before .before .before .before .before .before .before .before .before .before .before .before .before .before .before .before .before .before .before .before .before .before .before .before .before .before .before .before .before .before .before .before .before .before .before .before .before .before .before .before .before .before .before .store .kept .1 .1 .1 .1 .0
 
 same-length-5 : tie.Need-same-length-5
-same-length-5 c = c .before .before .before .before .before .before .before .before .before .before .before .before .before .before .before .before .before .before .before .before .before .advance .kept .1 .1 .1 .1 .0 ∙ c .before .before .before .before .before .before .before .before .before .before .before .before .before .before .before .before .before .before .before .before .before .before .before .before .before .before .before .before .before .before .before .before .before .before .before .before .before .before .before .before .before .before .before .before .before .store .kept .1 .1 .1 .1 .1 .0
+same-length-5 c = c .before .before .before .before .before .before .before .before .before .before .before .before .before .before .before .before .before .before .before .before .before .in-hand .kept .1 .1 .1 .1 .0 ∙ c .before .before .before .before .before .before .before .before .before .before .before .before .before .before .before .before .before .before .before .before .before .before .before .before .before .before .before .before .before .before .before .before .before .before .before .before .before .before .before .before .before .before .before .before .before .store .kept .1 .1 .1 .1 .1 .0
 
 same-length-6 : tie.Need-same-length-6
 same-length-6 c = search needs
@@ -291,19 +291,19 @@ returns-2 c =
     full-called (given (begun f)) (comes-as (c .before .before .before .before .before .before .enum-told .given .1) (came f)) (c .before .before .before .before .before .before .before .before .before .before .before .before .before .before .before .before .before .before .before .before .before .before .before .before .save .ensures) (c .before .before .before .restore .ensures) (c .refuse .ensures .0) (c .refuse .ensures .1)
 
 same-length-12 : tie.Need-same-length-12
-same-length-12 c = c .before .before .before .before .before .before .before .before .before .before .before .before .before .before .advance .kept .0 ∙ c .before .before .before .before .before .before .before .before .before .before .before .before .before .before .before .before .before .before .before .before .before .before .before .set-answer .kept .0 ∙ c .before .before .before .before .before .before .before .before .before .before .before .before .before .before .before .before .before .before .before .before .before .before .before .before .before .before .before .before .before .before .before .before .before .before .before .before .before .before .store .kept .0
+same-length-12 c = c .before .before .before .before .before .before .before .before .before .before .before .before .before .before .in-hand .kept .0 ∙ c .before .before .before .before .before .before .before .before .before .before .before .before .before .before .before .before .before .before .before .before .before .before .before .set-answer .kept .0 ∙ c .before .before .before .before .before .before .before .before .before .before .before .before .before .before .before .before .before .before .before .before .before .before .before .before .before .before .before .before .before .before .before .before .before .before .before .before .before .before .store .kept .0
 
 same-length-13 : tie.Need-same-length-13
 same-length-13 c = c .before .before .before .before .before .before .before .before .before .before .before .before .before .before .before .before .before .before .before .before .before .before .before .before .before .before .before .before .before .before .before .before .before .before .before .before .before .before .before .before .before .before .before .before .before .before .save .kept .1 .1 .0
 
 same-length-14 : tie.Need-same-length-14
-same-length-14 c = c .before .before .before .before .before .before .before .before .before .before .before .before .before .before .advance .kept .1 .1 .0 ∙ c .before .before .before .before .before .before .before .before .before .before .before .before .before .before .before .before .before .before .before .before .before .before .before .before .before .before .before .before .before .before .before .before .before .before .before .before .before .before .store .kept .1 .1 .1 .0
+same-length-14 c = c .before .before .before .before .before .before .before .before .before .before .before .before .before .before .in-hand .kept .1 .1 .0 ∙ c .before .before .before .before .before .before .before .before .before .before .before .before .before .before .before .before .before .before .before .before .before .before .before .before .before .before .before .before .before .before .before .before .before .before .before .before .before .before .store .kept .1 .1 .1 .0
 
 same-length-15 : tie.Need-same-length-15
-same-length-15 c = c .before .before .before .before .before .before .before .before .before .before .before .before .before .before .advance .kept .1 .1 .1 .0 ∙ c .before .before .before .before .before .before .before .before .before .before .before .before .before .before .before .before .before .before .before .before .before .before .before .before .before .before .before .before .before .before .before .before .before .before .before .before .before .before .store .kept .1 .1 .1 .1 .0
+same-length-15 c = c .before .before .before .before .before .before .before .before .before .before .before .before .before .before .in-hand .kept .1 .1 .1 .0 ∙ c .before .before .before .before .before .before .before .before .before .before .before .before .before .before .before .before .before .before .before .before .before .before .before .before .before .before .before .before .before .before .before .before .before .before .before .before .before .before .store .kept .1 .1 .1 .1 .0
 
 same-length-16 : tie.Need-same-length-16
-same-length-16 c = c .before .before .before .before .before .before .before .before .before .before .before .before .before .before .advance .kept .1 .1 .1 .1 .0 ∙ c .before .before .before .before .before .before .before .before .before .before .before .before .before .before .before .before .before .before .before .before .before .before .before .before .before .before .before .before .before .before .before .before .before .before .before .before .before .before .store .kept .1 .1 .1 .1 .1 .0
+same-length-16 c = c .before .before .before .before .before .before .before .before .before .before .before .before .before .before .in-hand .kept .1 .1 .1 .1 .0 ∙ c .before .before .before .before .before .before .before .before .before .before .before .before .before .before .before .before .before .before .before .before .before .before .before .before .before .before .before .before .before .before .before .before .before .before .before .before .before .before .store .kept .1 .1 .1 .1 .1 .0
 
 same-length-17 : tie.Need-same-length-17
 same-length-17 c = search needs
@@ -331,7 +331,7 @@ take-offer-spec =
     add-set-answer
     set-answer-requires
     taken-up-requires
-    advance-requires
+    in-hand-requires
     set-answer-requires-2
     restore-requires-2
     refuse-requires-2
