@@ -7,7 +7,6 @@ use Prim.Native.Nat.{ℕ, _+_, _-_, _≤_, _<_}
 use native.Mathlib.Omega.{arith}
 use lib.ListN.{length, getD, set, length-set}
 use lib.Seq.{getD-set-same, getD-set-other}
-use Rattle.model.specs.Limits.{mostRows}
 use Rattle.model.specs.Store.{Store, Frame, used, hasHole, isContext, nextRow, filledRow, framesOf}
 use Rattle.model.specs.Table.{answerAt, answerIn as answerOf}
 use Rattle.model.specs.Entry.{storeOf, answersIn}

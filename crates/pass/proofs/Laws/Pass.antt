@@ -9,7 +9,7 @@ use lib.Dec.{leb, eqb}
 use borrow.Author.Tests.{leb-true, eq-eqb, ne-eqb}
 use lib.ListN.{length, getD, set, take, drop, length-set, List·getD-eq-default}
 use lib.Seq.{getD-set-same, getD-set-other}
-use Rattle.model.specs.Limits.{rowWidth, mostRows, mostSymbols, mostChildren, holeSymbol}
+use Rattle.model.specs.Limits.{rowWidth, mostSymbols, mostChildren, holeSymbol}
 use Rattle.model.specs.Base.{none-below, isIn, all}
 use Rattle.model.specs.Store.{Node, Store, symbolAt, countOf, nodeAt, kidsAt, hasHole, findFrom}
 use Rattle.model.specs.Sound.{nodeFits, answerFits, hasTwin, rowsFit}

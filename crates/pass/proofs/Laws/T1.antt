@@ -8,7 +8,7 @@ use native.Mathlib.Omega.{arith}
 use lib.Dec.{leb, eqb}
 use borrow.Author.Tests.{le-leb, lt-leb, eq-eqb}
 use lib.ListN.{length}
-use Rattle.model.specs.Limits.{rowWidth, mostRows}
+use Rattle.model.specs.Limits.{rowWidth}
 use Rattle.model.specs.Base.{isIn}
 use Rattle.model.specs.Store.{used, nodeAt, hasHole}
 use Rattle.model.specs.Table.{Tables, tables, answerAt}

@@ -6,13 +6,13 @@ use Prim.Native.Nat.{ℕ, _≤_, _<_}
 use native.Mathlib.Omega.{arith}
 use lib.Dec.{ltb}
 use borrow.Author.Tests.{lt-ltb, le-ltb, eq-eqb, ne-eqb}
-use Rattle.model.specs.Store.{Built, full, built, Frame, used, hasHole, fill, framesOf}
+use Rattle.model.specs.Store.{Built, full, built, used, hasHole, fill, framesOf}
 use Rattle.model.specs.Terms.{recordFault, storeFrom}
 use Rattle.model.specs.Entry.{storeOf}
-use Rattle.bank.specs.Ready.{Ready, pathOf}
+use Rattle.bank.specs.Ready.{Ready}
 use Rattle.bank.proofs.Laws.Words.{used-of}
 use Rattle.growth.specs.declared.add.Grown.{Grown}
-use Rattle.growth.proofs.Laws.Coming.{Comes, comes-by}
+use Rattle.growth.proofs.Laws.Coming.{Comes}
 use Rattle.probe.specs.declared.Reply.{Reply}
 use Rattle.probe.specs.Probed.{isPassed, said, saidOf, Said, SaidIf, isFillable, FilledReady, Filled, isListed, StoredReady, Stored}
 

@@ -1,6 +1,6 @@
 -- `finish::finish` meets its contract: the lists mean the tables that settling is given, so what settling came to is what the step comes to.
 -- The lists left are made field by field, and the law says that they are those of the tables.
-use mathlib.Core.Path.{_≡_, sym}
+use mathlib.Core.Path.{sym}
 use Prim.Native.Nat.{ℕ, _≤_}
 use borrow.Author.Needs.{needs, length-unmapped}
 use lib.ListN.{length}

@@ -1,7 +1,7 @@
 -- The proof of the cycle of calls {fill_below, fill_frames}: the innermost frame filled with the row, or the frames below and then the row above,
 -- are the fill. The two have the same text but for the call. The measure is the row's number, for a child is an earlier row. Where rows run out
 -- below, they run out for the whole.
-use mathlib.Core.Path.{sym, _∙_}
+use mathlib.Core.Path.{sym}
 use mathlib.Core.List.{List}
 use Prim.Native.Nat.{ℕ, _<_}
 use native.Mathlib.Omega.{arith}
