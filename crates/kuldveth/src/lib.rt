@@ -13,7 +13,7 @@ pub extern "C" fn kuldveth_start(words: &mut [u32], lists: &mut Lists, counts: &
     ensures words { λ r. ⌜ now (words .exit) ≡ startWords (now (words .entry)) (now (counts .entry)) ⌝ }
     ensures lists { λ r. ⌜ now (lists .exit) ≡ startLists (now (words .entry)) (now (counts .entry)) (now (lists .entry)) ⌝ }
 {
-    let started = opening::start(words, *lists, counts);
+    let started = call::start(words, *lists, counts);
     *lists = started.lists;
     started.seen
 }
@@ -30,7 +30,7 @@ pub extern "C" fn kuldveth_offer(
     ensures words { λ r. ⌜ now (words .exit) ≡ callWords (now (words .entry)) (now (lists .entry)) (offers (now (symbols .entry)) mark) ⌝ }
     ensures lists { λ r. ⌜ now (lists .exit) ≡ callLists (now (words .entry)) (now (lists .entry)) (offers (now (symbols .entry)) mark) ⌝ }
 {
-    let offered = learner::offer(words, *lists, symbols, mark);
+    let offered = call_room::offer(words, *lists, symbols, mark);
     *lists = offered.lists;
     offered.seen
 }
@@ -42,7 +42,7 @@ pub extern "C" fn kuldveth_answer(words: &mut [u32], lists: &mut Lists, mark: u8
     ensures words { λ r. ⌜ now (words .exit) ≡ callWords (now (words .entry)) (now (lists .entry)) (answers mark) ⌝ }
     ensures lists { λ r. ⌜ now (lists .exit) ≡ callLists (now (words .entry)) (now (lists .entry)) (answers mark) ⌝ }
 {
-    let answered = learner::answer(words, *lists, mark);
+    let answered = call_room::answer(words, *lists, mark);
     *lists = answered.lists;
     answered.seen
 }
@@ -54,7 +54,7 @@ pub extern "C" fn kuldveth_accept(words: &mut [u32], lists: &mut Lists) -> Seen
     ensures words { λ r. ⌜ now (words .exit) ≡ callWords (now (words .entry)) (now (lists .entry)) acceptCall ⌝ }
     ensures lists { λ r. ⌜ now (lists .exit) ≡ callLists (now (words .entry)) (now (lists .entry)) acceptCall ⌝ }
 {
-    let accepted = learner::accept(words, *lists);
+    let accepted = call_room::accept(words, *lists);
     *lists = accepted.lists;
     accepted.seen
 }
@@ -64,7 +64,7 @@ pub extern "C" fn kuldveth_accept(words: &mut [u32], lists: &mut Lists) -> Seen
 pub extern "C" fn kuldveth_look(words: &[u32], lists: &Lists) -> Seen
     ensures { λ r. ⌜ r ≡ callSeen (now (words .entry)) (now (lists .entry)) looks ⌝ }
 {
-    look::look(words, *lists)
+    call_look::look(words, *lists)
 }
 
 // Emitting the list of the proposed automaton (§3.7): the count of bytes written; the bytes past them stay.
@@ -73,7 +73,7 @@ pub extern "C" fn kuldveth_emit(words: &[u32], lists: &Lists, out: &mut [u8]) ->
     ensures { λ r. ⌜ r ≡ emitSeen (now (words .entry)) (now (lists .entry)) (now (out .entry)) ⌝ }
     ensures out { λ r. ⌜ now (out .exit) ≡ emitOut (now (words .entry)) (now (lists .entry)) (now (out .entry)) ⌝ }
 {
-    emit::emit(words, *lists, out)
+    call_emit::emit(words, *lists, out)
 }
 
 // Loading a list (§3.8): 21, or the count of its rules.
@@ -81,5 +81,5 @@ pub extern "C" fn kuldveth_emit(words: &[u32], lists: &Lists, out: &mut [u8]) ->
 pub extern "C" fn kuldveth_load(bytes: &[u8]) -> Emitted
     ensures { λ r. ⌜ r ≡ loadSeen (now (bytes .entry)) ⌝ }
 {
-    listing::load(bytes)
+    list::load(bytes)
 }

@@ -12,7 +12,7 @@ use Rattle.model.specs.Terms.{recordFault, storeFrom, knownRow}
 use Rattle.model.specs.Entry.{storeOf, answersIn, sizeFits}
 use Rattle.bank.specs.Index.{findIn}
 use Rattle.bank.specs.Ready.{Holed, Kept, withRows}
-use Rattle.growth.specs.declared.add.Grown.{Grown}
+use Rattle.bank_fill.specs.declared.add.Grown.{Grown}
 use Rattle.probe.specs.declared.Reply.{Reply}
 
 -- 18's test of the size, then T1

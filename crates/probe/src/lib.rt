@@ -9,8 +9,8 @@ ghost use Rattle.model.specs.Entry.{sizeFits};
 ghost use Rattle.bank.specs.Ready.{Ready};
 ghost use Rattle.probe.specs.Probed.{isPassed, Shown, Marks, said, saidOf, found, FilledReady, Filled, StoredReady, Stored, known};
 use bank::index;
-use growth::add::Grown;
-use growth::context;
+use bank_fill::add::Grown;
+use bank_fill::context;
 use model::Row;
 
 // What adding rows came to: 0 rows ran out, 1 the row and the rows used afterwards, 2 refused.
@@ -26,7 +26,7 @@ pub struct Reply {
 pub extern "C" fn probe_fault(counts: &[u8], symbols: &[u8]) -> u8
     ensures { λ r. ⌜ r ≡ recordFault (now (counts .entry)) (now (symbols .entry)) ⌝ }
 {
-    listed::record_fault(counts, symbols)
+    bank_listed::record_fault(counts, symbols)
 }
 
 // Whether the words are whole rows, 1 to 16,384.
@@ -59,7 +59,7 @@ fn passes(
     if !size_fits(words) {
         return false;
     }
-    pass::t1(words, counts, used, holes, head, next, mix)
+    bank_t1::t1(words, counts, used, holes, head, next, mix)
 }
 
 // The first marks of holes, copied.
@@ -182,7 +182,7 @@ fn filled(
     if used <= context {
         return refused();
     }
-    if !pass::has_hole(holes, Row(context)) {
+    if !bank_t1::has_hole(holes, Row(context)) {
         return refused();
     }
     if used <= with {
@@ -255,10 +255,10 @@ fn stored(
     requires { ⌜ Ready (now words) (now counts) used (now holes) (now head) (now next) (now mix) ⌝ }
     ensures { λ r. ⌜ StoredReady (now (words .entry)) (now (counts .entry)) used (now (symbols .entry)) r (now (words .exit)) ⌝ }
 {
-    if listed::record_fault(counts, symbols) != 0 {
+    if bank_listed::record_fault(counts, symbols) != 0 {
         return refused();
     }
-    let grown = listed::store(words, counts, used, holes, head, next, mix, symbols);
+    let grown = bank_listed::store(words, counts, used, holes, head, next, mix, symbols);
     reply_of(grown)
 }
 
@@ -314,8 +314,8 @@ pub extern "C" fn probe_known(words: &[u32], counts: &[u8], used: u16, symbols: 
     ) {
         return 0;
     }
-    if listed::record_fault(counts, symbols) != 0 {
+    if bank_listed::record_fault(counts, symbols) != 0 {
         return 0;
     }
-    listed::known_row(words, counts, used, &holes, &head, &next, &mix, symbols).0
+    bank_listed::known_row(words, counts, used, &holes, &head, &next, &mix, symbols).0
 }

@@ -11,8 +11,8 @@ use lib.ListN.{length, getD, drop, drop-of-length-le, length-append, length-drop
 use Rattle.model.proofs.Laws.Scans.{drop-next}
 use Rattle.text.specs.Bytes.{newline}
 use Rattle.text.specs.Script.{Reply}
-use Rattle.reply.specs.declared.Replied.{Replied}
-use Rattle.reply.specs.Replies.{ReplyAs}
+use Rattle.text_reply.specs.declared.Replied.{Replied}
+use Rattle.text_reply.specs.Replies.{ReplyAs}
 use Rattle.script.specs.LineEnd.{lineLength, lineEnd}
 
 pub end-none : (bs : List ℕ) (i : ℕ) → length bs ≤ i → lineEnd bs i ≡ i

@@ -21,12 +21,12 @@ fn line_end(input: &[u8], from: usize) -> usize
 // Hands over line after line.
 fn run(input: &[u8]) {
     let mut words = [0u32; 16380];
-    let mut script = reply::fresh();
+    let mut script = text_reply::fresh();
     let mut out = [0u8; 4096];
     let mut at = 0;
     while at < input.len() {
         let end = line_end(input, at);
-        let replied = reply::reply(&mut words, script, &input[at..end], &mut out);
+        let replied = text_reply::reply(&mut words, script, &input[at..end], &mut out);
         script = replied.script;
         let size = replied.size;
         if !io::write_all(STDOUT_FILENO, &out[..size]) {

@@ -12,11 +12,11 @@ use Rattle.model.specs.Sound.{isT1, contextsFew, isT5, isT6, isT7, isT8}
 use Rattle.model.specs.Entry.{storeOf, answersIn}
 use Rattle.bank.specs.Rows.{answerIn}
 use Rattle.bank.specs.Ready.{Ready}
-use Rattle.pass.specs.Pass as Rows
+use Rattle.bank_t1.specs.Pass as Rows
 use Rattle.table.specs.Answers.{Observed, Placing, Placed, gapFrom, isOpen}
-use Rattle.roles.specs.Marked.{recordBy}
-use Rattle.hypothesis.specs.Rules.{RepsBy, hypothesis}
-use Rattle.observe.specs.Given.{rolesFit}
+use Rattle.sound_roles.specs.Marked.{recordBy}
+use Rattle.table_verdict.specs.Rules.{RepsBy, hypothesis}
+use Rattle.sound_parts.specs.Given.{rolesFit}
 
 -- the run's lists in their arrays
 pub record Arrays (s : List ℕ) (q : ℕ) (t : List ℕ) (n : ℕ) (c : List ℕ) (m : ℕ) : Type 0 where

@@ -9,15 +9,15 @@ ghost use Rattle.model.specs.Base.{noRepeats, allAmong};
 ghost use Rattle.model.specs.Sound.{isSound};
 ghost use Rattle.model.specs.Entry.{storeOf, answersIn, sizeFits, listsFit, tablesOf};
 ghost use Rattle.bank.specs.Ready.{Ready};
-ghost use Rattle.pass.specs.Pass as Rows;
+ghost use Rattle.bank_t1.specs.Pass as Rows;
 ghost use Rattle.table.specs.Answers.{Sized, Observed, Placing, Placed, gapFrom, isOpen};
-ghost use Rattle.hypothesis.specs.Rules.{RepsBy, Ruled};
-ghost use Rattle.observe.specs.Given.{given};
+ghost use Rattle.table_verdict.specs.Rules.{RepsBy, Ruled};
+ghost use Rattle.sound_parts.specs.Given.{given};
 ghost use Rattle.sound.specs.Working.{Arrays, Room, Working, preparedFit, judgedFit, handFits};
 use bank::rows;
 use model::Lists;
 use model::Row;
-use observe::judge;
+use sound_parts::judge;
 
 // S by its places in T, and whether an answer is missing; where none is, the representative of each transition too.
 fn represent(
@@ -37,7 +37,7 @@ fn represent(
     if judge::is_missing(table, rules, contexts) {
         return true;
     }
-    hypothesis::find_reps(table, contexts, places, s, states, t, rules, reps);
+    table_verdict::find_reps(table, contexts, places, s, states, t, rules, reps);
     false
 }
 
@@ -62,7 +62,7 @@ fn prepare(
     ensures { λ r. ⌜ r ≡ preparedFit (given (now (words .entry)) (now (counts .entry)) used (now (s .entry)) states (now (t .entry)) rules (now (c .entry)) contexts 0 0 false) ⌝ }
     ensures observed { λ r. ⌜ (r ≡ true → Ready (now (words .entry)) (now (counts .entry)) used (now (holes .exit)) (now (head .exit)) (now (next .exit)) (now (mix .exit)) × Observed (storeOf (now (words .entry)) (now (counts .entry)) used) (answersIn used (now (words .entry))) (now (t .entry)) rules (now (c .entry)) contexts (now (table .exit))) ⌝ }
 {
-    if !pass::t1(words, counts, used, holes, head, next, mix) {
+    if !bank_t1::t1(words, counts, used, holes, head, next, mix) {
         return false;
     }
     if !judge::roles_fit(
@@ -82,7 +82,7 @@ fn prepare(
     ) {
         return false;
     }
-    answers::observe(
+    table_answers::observe(
         words,
         counts,
         used,
@@ -122,14 +122,14 @@ fn hand_fits(
     if hand == 0 {
         return true;
     }
-    if !roles::is_record(used, holes, Row(hand)) {
+    if !sound_roles::is_record(used, holes, Row(hand)) {
         return false;
     }
     if missing {
         return false;
     }
     let answer = rows::answer_of(words, Row(hand));
-    if hypothesis::accepts_row(
+    if table_verdict::accepts_row(
         words,
         counts,
         used,

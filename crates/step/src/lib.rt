@@ -6,14 +6,14 @@ ghost use lib.ListN.{length};
 ghost use Rattle.model.specs.Limits.{mostContexts};
 ghost use Rattle.model.specs.Steps.{advance as advanceOf, search};
 ghost use Rattle.model.specs.Entry.{tablesOf};
-ghost use Rattle.hand.specs.Spots.{Descended, searchBy};
-ghost use Rattle.closing.specs.Stepping.{Stepping, KnownTable, InHand, EndedAs};
-use closing::finish;
-use closing::finish::Stepped;
-use growth::context;
-use hand::Found;
+ghost use Rattle.step_search.specs.Spots.{Descended, searchBy};
+ghost use Rattle.step_end.specs.Stepping.{Stepping, KnownTable, InHand, EndedAs};
+use bank_fill::context;
 use model::Lists;
 use model::Row;
+use step_end::finish;
+use step_end::finish::Stepped;
+use step_search::Found;
 
 // The parts of the lists lent to the search in hand.
 fn find(
@@ -37,7 +37,7 @@ fn find(
     let s = lists.s;
     let t = lists.t;
     let c = lists.c;
-    hand::find(
+    step_search::find(
         words,
         &counts[..letters],
         lists.used,
@@ -88,7 +88,7 @@ fn in_hand_with(
         at,
         exchanged,
     );
-    found::ended_at(
+    step_found::ended_at(
         words,
         lists,
         holes,

@@ -1,4 +1,4 @@
--- `kuldveth::kuldveth_start` meets its contract: a walk of its MIR, by hand. The borrow of the lists is opened, the struct is copied out and passed with the words to `opening::start`, of which the proof knows only that it meets its contract; the lists that it returned are stored back whole, and the borrow is closed at them.
+-- `kuldveth::kuldveth_start` meets its contract: a walk of its MIR, by hand. The borrow of the lists is opened, the struct is copied out and passed with the words to `call::start`, of which the proof knows only that it meets its contract; the lists that it returned are stored back whole, and the borrow is closed at them.
 -- The words' borrow goes to the callee at its own lifetime, share and ghost name, for good (`gave-slice`).
 -- Assumes nothing.
 use mathlib.Core.Path.{_≡_, refl, ap}
@@ -42,20 +42,20 @@ use denote.Triple.Walked.{Stays, stay-ref, stay-none-slice, gave-slice, walkOf, 
 use denote.Exit.{yes}
 use denote.Signature.{plain}
 use Rattle.model.specs.Entry.{startSeen, startWords, startLists}
-use Rattle.opening.specs.Calls.{StartAs}
+use Rattle.call.specs.Calls.{StartAs}
 use Rattle.model.specs.declared.Lists.{Lists}
-use Rattle.opening.specs.declared.Done.{Done}
+use Rattle.call.specs.declared.Done.{Done}
 use Rattle.kuldveth.proofs.Says.{says3}
 use Rattle.model.proofs.Lists as T
 use Rattle.model.proofs.Lists.Laws as T′
 use Rattle.model.proofs.Seen as S
 use Rattle.model.proofs.Seen.Laws as S′
-use Rattle.opening.proofs.Done as D
-use Rattle.opening.proofs.Done.Laws as D′
-use Rattle.opening.proofs.start as core
-use Rattle.opening.proofs.start.Symbol as core-def
-use Rattle.opening.proofs.start.Symbol.{name as #opening·start}
-use Rattle.opening.proofs.start.Met as core-thm
+use Rattle.call.proofs.Done as D
+use Rattle.call.proofs.Done.Laws as D′
+use Rattle.call.proofs.start as core
+use Rattle.call.proofs.start.Symbol as core-def
+use Rattle.call.proofs.start.Symbol.{name as #call·start}
+use Rattle.call.proofs.start.Met as core-thm
 use Rattle.kuldveth.proofs.kuldveth_start.Key.{name as #kuldveth-start}
 use Rattle.kuldveth.proofs.kuldveth_start as start
 use Rattle.kuldveth.proofs.kuldveth_start.Statement as stated
@@ -104,7 +104,7 @@ module _ {M : Type 1} (𝓤 : URA M) (H : Heap 𝓤) (A : Atoms 𝓤) (W : Given
   abbrev Post : Val → SProp 𝓤
   Post = walkOf 𝓤 H A start.ended stayed (start.clauses 𝓤 H A at-mem run) .post (((κ, (κ′, (κ″, tt))), (q, (q′, (q″, tt))), bounds, a, vals), tt)
 
-  -- what `opening::start`'s triple binds outside: the words' own lifetime, share and value, and the lists by value
+  -- what `call::start`'s triple binds outside: the words' own lifetime, share and value, and the lists by value
   abbrev to-core : Core 𝓤 H A at-mem run .Ghost
   to-core = (((κ, (κ″, tt)), (q, (q″, tt)), tt, (x, (h, (z, tt))), (s ∷ [], (LL.vals T.the-type T′.the-laws h, (v ∷ [], tt)))), tt)
 
@@ -113,7 +113,7 @@ module _ {M : Type 1} (𝓤 : URA M) (H : Heap 𝓤) (A : Atoms 𝓤) (W : Given
       qed W ((‵ (flft κ q) ⊛ ‵ (flft κ″ q″) ⊛ ‵ ftrue) ∷ ‵ (MutSlice (named 0) κ u32 .own x (s ∷ [])) ∷ ‵ (fsep (T.the-row .own h (LL.vals T.the-type T′.the-laws h)) Own) ∷ []) ∵
       move ! (2 ∷ []) $ fsplit ! $ nothing ! $ move ! (2 ∷ 0 ∷ []) $ fjoin ! $ move ! (1 ∷ 0 ∷ []) $ fjoin ! $ move ! (2 ∷ 0 ∷ []) $ fjoin ! $ move ! (1 ∷ 0 ∷ []) $ join ! $ frame ! $ done !
 
-  -- what `opening::start` says of its result and of the last words
+  -- what `call::start` says of its result and of the last words
   abbrev Said : Done → List ℕ → SProp 𝓤
   Said r zs = fact 𝓤 (StartAs ys ss h r zs)
 
@@ -126,14 +126,14 @@ module _ {M : Type 1} (𝓤 : URA M) (H : Heap 𝓤) (A : Atoms 𝓤) (W : Given
       feqI ! (List Val) (vptr b′ o′ ∷ []) (vptr b′ o′ ∷ []) refl $ fjoin3 ! $
       nothing ! $ move ! (3 ∷ 0 ∷ []) $ fjoin ! $ move ! (1 ∷ 0 ∷ []) $ fjoin ! $ move ! (1 ∷ 0 ∷ []) $ fjoin ! $ done !
 
-  -- of what `opening::start` returned: the machine values of its parts, and that each is one
+  -- of what `call::start` returned: the machine values of its parts, and that each is one
   seen-is : (r : Done) (w : Val) → Is D.the-row r (w ∷ []) → Is S.the-row (r .seen) (LL.vals S.the-type S′.the-laws (r .seen))
   seen-is r w is = LL.owed D.the-type D′.the-laws r (w ∷ []) is .0
 
   lists-is : (r : Done) (w : Val) → Is D.the-row r (w ∷ []) → Is T.the-row (r .lists) (LL.vals T.the-type T′.the-laws (r .lists))
   lists-is r w is = LL.owed D.the-type D′.the-laws r (w ∷ []) is .1 .0
 
-  module _ (C : Calls 𝓤 H) (Λ : Loops 𝓤 H) (fm : FmC 𝓤 H (W .laws) C) (known : Triple 𝓤 (C #opening·start) (Core 𝓤 H A at-mem run)) where
+  module _ (C : Calls 𝓤 H) (Λ : Loops 𝓤 H) (fm : FmC 𝓤 H (W .laws) C) (known : Triple 𝓤 (C #call·start) (Core 𝓤 H A at-mem run)) where
     walk : Room u32 (length ys) → Is (ShrSlice (named 2) κ″ u8) z (v ∷ []) → ent 𝓤 (onEntry 𝓤 H A start.signature (κ, (κ′, (κ″, tt))) (q, (q′, (q″, tt))) a vals) (WpFn 𝓤 H C Λ code.function (s ∷ vptr b′ o′ ∷ v ∷ []) Post)
     walk room gz =
         qed W ((‵ (flft κ q) ⊛ ‵ (flft κ′ q′) ⊛ ‵ (flft κ″ q″) ⊛ ‵ ftrue) ∷ ‵ (owns (MutSlice (named 0) κ u32 ∷ MutRef (named 1) κ′ T.the-row ∷ ShrSlice (named 2) κ″ u8 ∷ []) a vals) ∷ []) ∵ enter ! C Λ code.function (s ∷ vptr b′ o′ ∷ v ∷ []) _ $
@@ -151,10 +151,10 @@ module _ {M : Type 1} (𝓤 : URA M) (H : Heap 𝓤) (A : Atoms 𝓤) (W : Given
         -- [the struct's cell; what a Lists owns; the open borrow; obs; auth; the counts' token; the words' token; the counts', twice; nothing; what words owns; _8 at 11; …]
         assigns ! (of-opd ! (load ! (from ! (hop ! (look ! 21 refl) (stop !))) (look-raw ! 0 refl))) (from ! (stop !)) (init ! 11 refl (LL.lawful T.the-type T′.the-laws 𝓤 H A W .typed h _ g .0)) $
         move ! (6 ∷ 5 ∷ []) $ join ! $ move ! (2 ∷ 6 ∷ []) $ fjoin ! $ move ! (1 ∷ 8 ∷ 0 ∷ []) $ use3 W (raw (Core 𝓤 H A at-mem run .pre to-core)) goes $
-        -- [what opening::start asks; the cell; the open borrow; obs; auth; the counts'; nothing; _8 at 7; …]
+        -- [what call::start asks; the cell; the open borrow; obs; auth; the counts'; nothing; _8 at 7; …]
         calls-at ! fm (Core 𝓤 H A at-mem run) known to-core (and-then ! (load ! (from ! (stop !)) (look ! 9 refl)) (and-then ! (load ! (from ! (stop !)) (look ! 7 refl)) (and-then ! (load ! (from ! (stop !)) (look ! 15 refl)) (no-more !)))) (λ w.
         use1 W (later (some (λ (r : Done). ((‵ (flft κ q) ⊛ ‵ (flft κ″ q″) ⊛ ‵ ftrue) ⊛ ‵ (D.the-row .own r (w ∷ []))) ⊛ raw (ensured 𝓤 H A core.ended (core.clauses 𝓤 H A at-mem run) (κ, (κ″, tt)) (x, (h, (z, tt))) tt r)))) (id⊢ 𝓤 _) $ await ! tt $ pick ! (λ r.
-        -- what `opening::start` ensures, at some last words
+        -- what `call::start` ensures, at some last words
         split ! $ move ! (1 ∷ []) $ use1 W (some (λ (zs : List ℕ × (Unit {0} × (Unit {0} × Unit {0}))). ‵ (lasts core.ended (κ, (κ″, tt)) (x, (h, (z, tt))) zs) ⊛ raw (Said r (zs .0)))) (id⊢ 𝓤 _) $ pick ! (λ zs.
         split ! $ move ! (1 ∷ []) $ heard ! (StartAs ys ss h r (zs .0)) (λ e.
         fsplit ! $ fsplit ! $ move ! (1 ∷ []) $ feqL ! (λ l.
@@ -173,13 +173,13 @@ module _ {M : Type 1} (𝓤 : URA M) (H : Heap 𝓤) (A : Atoms 𝓤) (W : Given
         keep ! (3 ∷ 4 ∷ 5 ∷ 1 ∷ 2 ∷ 7 ∷ 9 ∷ 0 ∷ []) $ by ! (exits r _ (zs .0) (e .seen) (e .words) (e .lists) l)))))))))))))))))
 
 module _ {M : Type 1} (𝓤 : URA M) (H : Heap 𝓤) (A : Atoms 𝓤) (W : Given 𝓤 H A) (mem : Memory → SProp 𝓤) (run : Routine → Fun 𝓤) where
-  start-walks : (C : Calls 𝓤 H) (Λ : Loops 𝓤 H) → FmC 𝓤 H (W .laws) C → Triple 𝓤 (C #opening·start) (Core 𝓤 H A mem run) → Walks 𝓤 H A start.ended stayed (WpFn 𝓤 H C Λ code.function) (start.clauses 𝓤 H A mem run)
+  start-walks : (C : Calls 𝓤 H) (Λ : Loops 𝓤 H) → FmC 𝓤 H (W .laws) C → Triple 𝓤 (C #call·start) (Core 𝓤 H A mem run) → Walks 𝓤 H A start.ended stayed (WpFn 𝓤 H C Λ code.function) (start.clauses 𝓤 H A mem run)
   start-walks C Λ fm known = walked 𝓤 H A start.ended stayed (start.clauses 𝓤 H A mem run) (WpFn 𝓤 H C Λ code.function)
       (λ κs. (slice-vals, (ptr-vals, (slice-vals, tt)))) (λ κs. (mut-slice-tells (named 0) (κs .0) u32, (mut-tells (named 1) (κs .1 .0) T.the-row, (shr-slice-tells (named 2) (κs .1 .1 .0) u8, tt))))
       (λ κs qs bounds a g are. via 𝓤 _ (fst∗ 𝓤 _ (emp 𝓤))
       (walk 𝓤 H A W mem run (κs .0) (κs .1 .0) (κs .1 .1 .0) bounds (qs .0) (qs .1 .0) (qs .1 .1 .0) (a .0 .ptr .0) (a .0 .ptr .1) (a .0 .name) (a .0 .now) (a .1 .0 .ptr .0) (a .1 .0 .ptr .1) (a .1 .0 .name) (a .1 .0 .now) (a .1 .1 .0) C Λ fm known (are .0 .0 .1) (are .1 .1 .0)))
 
-start-meets : {M : Type 1} (𝓤 : URA M) (H : Heap 𝓤) (A : Atoms 𝓤) → Given 𝓤 H A → (mem : Memory → SProp 𝓤) (run : Routine → Fun 𝓤) (𝓣 : Tables 𝓤 H) → Triple 𝓤 (𝓣 .C #opening·start) (Core 𝓤 H A mem run)
+start-meets : {M : Type 1} (𝓤 : URA M) (H : Heap 𝓤) (A : Atoms 𝓤) → Given 𝓤 H A → (mem : Memory → SProp 𝓤) (run : Routine → Fun 𝓤) (𝓣 : Tables 𝓤 H) → Triple 𝓤 (𝓣 .C #call·start) (Core 𝓤 H A mem run)
     → Meets 𝓤 H A start.signature (WpFn 𝓤 H (𝓣 .C) (𝓣 .Λ) code.function) (start.spec 𝓤 H A mem run)
 start-meets 𝓤 H A W mem run 𝓣 known =
     walk-meets 𝓤 H A start.ended stayed W (goes-gave-slice 𝓤 H A W 3 0 tt (plain (λ _. u32)), (goes-ref 𝓤 H A W 3 1 tt (plain (λ _. T.the-row)), (goes-none-slice 𝓤 H A W 3 (2 ∷ []) tt (plain (λ _. u8)) yes, tt))) (start.clauses 𝓤 H A mem run)
@@ -191,4 +191,4 @@ kuldveth-start-spec 𝓤 H 𝓜 𝓖 𝓡 =
     entered 𝓤 H (tripleOf 𝓤 H (𝓖 .A) start.signature (start.spec 𝓤 H (𝓖 .A) (𝓜 .mem) (𝓡 .run)))
     (tables 𝓤 H 𝓜 𝓡 code.env .C) (tables 𝓤 H 𝓜 𝓡 code.env .Λ) #kuldveth-start code.function (code.unfolded 𝓤 H 𝓜 𝓡)
     (start-meets 𝓤 H (𝓖 .A) (givenOf 𝓤 H 𝓜 𝓖) (𝓜 .mem) (𝓡 .run) (tablesOf 𝓤 H 𝓜 (tables 𝓤 H 𝓜 𝓡 code.env))
-    (cited 𝓤 H (Core 𝓤 H (𝓖 .A) (𝓜 .mem) (𝓡 .run)) 𝓜 𝓡 code.env #opening·start core-def.routine code.calls-opening·start (core-thm.met 𝓤 H 𝓜 𝓖 𝓡)))
+    (cited 𝓤 H (Core 𝓤 H (𝓖 .A) (𝓜 .mem) (𝓡 .run)) 𝓜 𝓡 code.env #call·start core-def.routine code.calls-call·start (core-thm.met 𝓤 H 𝓜 𝓖 𝓡)))

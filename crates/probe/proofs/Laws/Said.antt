@@ -11,8 +11,8 @@ use Rattle.model.specs.Terms.{recordFault, storeFrom}
 use Rattle.model.specs.Entry.{storeOf}
 use Rattle.bank.specs.Ready.{Ready}
 use Rattle.bank.proofs.Laws.Words.{used-of}
-use Rattle.growth.specs.declared.add.Grown.{Grown}
-use Rattle.growth.proofs.Laws.Coming.{Comes}
+use Rattle.bank_fill.specs.declared.add.Grown.{Grown}
+use Rattle.bank_fill.proofs.Laws.Coming.{Comes}
 use Rattle.probe.specs.declared.Reply.{Reply}
 use Rattle.probe.specs.Probed.{isPassed, said, saidOf, Said, SaidIf, isFillable, FilledReady, Filled, isListed, StoredReady, Stored}
 

@@ -5,7 +5,7 @@ use borrow.Author.Tests.{not-true, not-false}
 use borrow.Author.Needs.{needs}
 use Rattle.model.specs.Store.{hasHole}
 use Rattle.model.specs.Entry.{storeOf}
-use Rattle.pass.proofs.Laws.T1.{hole-ready}
+use Rattle.bank_t1.proofs.Laws.T1.{hole-ready}
 use Rattle.probe.proofs.Laws.Said.{past-context, no-hole, past-row, filled as filled-law}
 use Rattle.probe.proofs.filled.Statement.{statement}
 use Rattle.probe.proofs.filled.Tie as tie

@@ -9,8 +9,8 @@ use lib.Dec.{eqb}
 use Rattle.model.specs.Automata.{acceptsRow}
 use Rattle.model.specs.Entry.{storeOf}
 use Rattle.bank.specs.Rows.{answerIn}
-use Rattle.roles.specs.Marked.{recordBy}
-use Rattle.hypothesis.specs.Rules.{hypothesis}
+use Rattle.sound_roles.specs.Marked.{recordBy}
+use Rattle.table_verdict.specs.Rules.{hypothesis}
 use Rattle.sound.specs.Working.{handFits}
 
 and-false : (a : Bool) → a && false ≡ false

@@ -22,13 +22,13 @@ use Rattle.bank.proofs.Laws.Words.{used-of, answer-in}
 use Rattle.table.specs.Answers.{gapFrom, isOpen}
 use Rattle.table.proofs.Laws.Tied.{missing-tied}
 use Rattle.table.proofs.Laws.Judged.{yes-tied, differ-tied, once-tied}
-use Rattle.roles.specs.Marked.{recordBy}
-use Rattle.roles.proofs.Laws.Marked.{record-ready}
-use Rattle.hypothesis.specs.Rules.{hypothesis, Ruled}
-use Rattle.hypothesis.proofs.Laws.Tied.{Covers, covers-shaped, RepsOf, reps-tied, ruled-tied, hypothesis-tied}
-use Rattle.pass.specs.Pass.{holeBy}
-use Rattle.observe.proofs.Laws.Parts.{and-assoc}
-use Rattle.observe.specs.Given.{given, rolesFit, fewFit, tableFits, questionFits}
+use Rattle.sound_roles.specs.Marked.{recordBy}
+use Rattle.sound_roles.proofs.Laws.Marked.{record-ready}
+use Rattle.table_verdict.specs.Rules.{hypothesis, Ruled}
+use Rattle.table_verdict.proofs.Laws.Tied.{Covers, covers-shaped, RepsOf, reps-tied, ruled-tied, hypothesis-tied}
+use Rattle.bank_t1.specs.Pass.{holeBy}
+use Rattle.sound_parts.proofs.Laws.Parts.{and-assoc}
+use Rattle.sound_parts.specs.Given.{given, rolesFit, fewFit, tableFits, questionFits}
 use Rattle.sound.specs.Working.{Arrays, Working, preparedFit, judgedFit, handFits}
 use Rattle.sound.proofs.Laws.Prepared.{two, three, four}
 

@@ -18,8 +18,8 @@ use Rattle.model.proofs.Laws.Tests.{and-left, and-right, all-getD}
 use Rattle.model.proofs.Laws.ReflectRows.{rows-of}
 use Rattle.model.proofs.Laws.ReflectLists.{record-of}
 use Rattle.bank.proofs.Laws.Words.{used-of, answer-in}
-use Rattle.columns.specs.Columns.{Answered, Contexts, Used}
-use Rattle.observe.specs.Given.{given, rolesFit}
+use Rattle.table_columns.specs.Columns.{Answered, Contexts, Used}
+use Rattle.sound_parts.specs.Given.{given, rolesFit}
 use Rattle.sound.specs.Working.{Arrays}
 
 -- the second and the third of four or of five tests

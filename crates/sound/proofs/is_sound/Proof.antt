@@ -7,8 +7,8 @@ use borrow.Author.Needs.{needs}
 use lib.Dec.{eqb}
 use Rattle.model.specs.Sound.{isT1}
 use Rattle.model.proofs.Laws.Tests.{and-right}
-use Rattle.roles.proofs.Laws.Scan.{stops, goes-on}
-use Rattle.observe.specs.Given.{given, rolesFit}
+use Rattle.sound_roles.proofs.Laws.Scan.{stops, goes-on}
+use Rattle.sound_parts.specs.Given.{given, rolesFit}
 use Rattle.sound.proofs.Laws.Judged.{sound-parts}
 use Rattle.sound.proofs.Laws.Prepared.{t-one, s-in-t, t-used}
 use Rattle.sound.proofs.is_sound.Statement.{statement}

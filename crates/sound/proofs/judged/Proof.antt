@@ -7,8 +7,8 @@ use borrow.Author.Needs.{needs}
 use lib.Dec.{eqb}
 use Rattle.model.specs.Table.{Tables, isMissing}
 use Rattle.model.specs.Sound.{contextsFew, isT5, isT6, isT7}
-use Rattle.roles.proofs.Laws.Scan.{stops, goes-on}
-use Rattle.observe.specs.Given.{given, tableFits}
+use Rattle.sound_roles.proofs.Laws.Scan.{stops, goes-on}
+use Rattle.sound_parts.specs.Given.{given, tableFits}
 use Rattle.sound.proofs.Laws.Judged.{missing-is, table-is, question-is, ruled, hand-is}
 use Rattle.sound.proofs.judged.Statement.{statement}
 use Rattle.sound.proofs.judged.Tie as tie

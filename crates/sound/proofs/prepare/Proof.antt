@@ -4,7 +4,7 @@ use mathlib.Core.Bool.{true, false, true≢false}
 use borrow.Author.Tests.{not-true, not-false}
 use borrow.Author.Needs.{needs}
 use Rattle.model.proofs.Laws.Tests.{true-both}
-use Rattle.roles.proofs.Laws.Scan.{stops, goes-on}
+use Rattle.sound_roles.proofs.Laws.Scan.{stops, goes-on}
 use Rattle.sound.proofs.Laws.Prepared.{t1-answered, t-used, c-contexts}
 use Rattle.sound.proofs.prepare.Statement.{statement}
 use Rattle.sound.proofs.prepare.Tie as tie

@@ -2,7 +2,7 @@
 use borrow.Author.Needs.{needs}
 use Rattle.model.specs.Entry.{tablesOf}
 use Rattle.model.proofs.Laws.Step.{none-advance}
-use Rattle.found.proofs.Laws.Advanced.{Ends, ends-by}
+use Rattle.step_found.proofs.Laws.Advanced.{Ends, ends-by}
 use Rattle.step.proofs.advance.Statement.{statement}
 use Rattle.step.proofs.advance.Tie as tie
 

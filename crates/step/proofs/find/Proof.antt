@@ -10,7 +10,7 @@ use Rattle.step.proofs.find.Statement.{statement}
 use Rattle.step.proofs.find.Tie as tie
 use Rattle.step.proofs.find.Reads as reads
 use Rattle.step.proofs.find.Lts as lts
-use Rattle.hand.proofs.find.Reads as find-reads
+use Rattle.step_search.proofs.find.Reads as find-reads
 
 abbrev Start : Type 0
 Start = lts.Start (find-reads.Asked, find-reads.Learnt) reads.Pre reads.Post

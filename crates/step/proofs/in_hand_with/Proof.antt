@@ -1,6 +1,6 @@
 -- `step::in_hand_with` meets its contract: the search ends where the definition's ends, and the step is what that end asks for.
 use borrow.Author.Needs.{needs}
-use Rattle.found.proofs.Laws.Searched.{ended-hand}
+use Rattle.step_found.proofs.Laws.Searched.{ended-hand}
 use Rattle.step.proofs.in_hand_with.Statement.{statement}
 use Rattle.step.proofs.in_hand_with.Tie as tie
 

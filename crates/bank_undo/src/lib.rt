@@ -1,0 +1,32 @@
+// Refused means untouched (§5.3): the rows past the used ones belong to the host, so what they held is saved before a step and put back
+// where the step runs short.
+ghost use Prim.Native.Nat.{_+_, _*_, _≤_};
+ghost use lib.ListN.{length};
+ghost use Rattle.bank_undo.specs.Saved.{Saved, PutBack};
+use bank::rows;
+
+// Saves the rows from `used` on, and no others: the first of them at the front of `saved`.
+pub fn save(words: &[u32], used: u16, saved: &mut [u32])
+    requires { ⌜ length (now words) ≤ 6 * used + length (now saved) ⌝ }
+    ensures { λ _. ⌜ Saved (now (words .entry)) used (now (saved .exit)) ⌝ }
+{
+    let first = rows::WIDTH * used as usize;
+    let mut i = first;
+    while i < words.len() {
+        saved[i - first] = words[i];
+        i += 1;
+    }
+}
+
+// Puts them back.
+pub fn restore(words: &mut [u32], used: u16, saved: &[u32])
+    requires { ⌜ (6 * used ≤ length (now words)) × (length (now words) ≤ 6 * used + length (now saved)) ⌝ }
+    ensures { λ _. ⌜ PutBack (now (words .entry)) used (now (saved .entry)) (now (words .exit)) ⌝ }
+{
+    let start = rows::WIDTH * used as usize;
+    let mut at = start;
+    while at < words.len() {
+        words[at] = saved[at - start];
+        at += 1;
+    }
+}

@@ -1,0 +1,88 @@
+// Start (§3.2), by value: 18, 17, then row 0 is the hole and the lists are those of a run that has learnt nothing. With it stands what
+// every call that changes a run returns.
+ghost use mathlib.Core.Path.{_≡_};
+ghost use Prim.Native.Nat.{_≤_};
+ghost use lib.ListN.{length};
+ghost use Rattle.model.specs.Base.{over};
+ghost use Rattle.model.specs.Calls.{started};
+ghost use Rattle.model.specs.Entry.{zeroLists, listsOf, refused};
+ghost use Rattle.call.specs.Calls.{StartAs};
+use bank::rows;
+use model::Lists;
+use model::Row;
+use model::Seen;
+
+// What a call returns, and the lists that it leaves.
+pub struct Done {
+    pub seen: Seen,
+    pub lists: Lists,
+}
+
+// A refusal: its number, and the lists as they were.
+pub fn refuse(number: u8, lists: Lists) -> Done
+    ensures { λ r. ⌜ (r .seen ≡ refused number) × (r .lists ≡ lists) ⌝ }
+{
+    Done {
+        seen: sound_parts::refusal(number),
+        lists: lists,
+    }
+}
+
+// The alphabet at the front of an array, zeros behind it.
+fn spread(counts: &[u8]) -> [u8; 64]
+    requires { ⌜ length (now counts) ≤ 64 ⌝ }
+    ensures { λ r. ⌜ r ≡ over (now (counts .entry)) (zeroLists .counts) ⌝ }
+{
+    let mut wide = [0u8; 64];
+    let mut a = 0;
+    while a < counts.len() {
+        wide[a] = counts[a];
+        a += 1;
+    }
+    wide
+}
+
+// The lists of a run that has learnt nothing: row 0 is used, C is the hole.
+fn fresh(counts: &[u8]) -> Lists
+    requires { ⌜ length (now counts) ≤ 64 ⌝ }
+    ensures { λ r. ⌜ r ≡ listsOf zeroLists (started 1 (now (counts .entry))) ⌝ }
+{
+    Lists {
+        letters: counts.len() as u8,
+        counts: spread(counts),
+        used: 1,
+        states: 0,
+        s: [0; 32],
+        rules: 0,
+        t: [0; 256],
+        contexts: 1,
+        c: [0; 289],
+        hand: 0,
+        asked: 0,
+        accepted: 0,
+    }
+}
+
+// Start: 18, 17; the other rows stay.
+pub fn start(words: &mut [u32], lists: Lists, counts: &[u8]) -> Done
+    ensures { λ r. ⌜ StartAs (now (words .entry)) (now (counts .entry)) lists r (now (words .exit)) ⌝ }
+{
+    if !sound_parts::size_fits(words) {
+        return refuse(18, lists);
+    }
+    if !bank_t1::alphabet_fits(counts) {
+        return refuse(17, lists);
+    }
+    rows::write_row(words, Row(0), 255, [0, 0, 0, 0]);
+    Done {
+        seen: Seen {
+            number: 0,
+            phase: 0,
+            row: 0,
+            states: 0,
+            rules: 0,
+            contexts: 1,
+        },
+        lists: fresh(counts),
+    }
+}

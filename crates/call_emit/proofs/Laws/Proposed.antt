@@ -1,0 +1,75 @@
+-- The proposal of sound tables with no question open: the finals and the flat rules that were written are the proposed automaton's.
+-- No answer is missing, so the hypothesis by representatives is the proposal, and every state's representative is a used row.
+use mathlib.Core.Path.{_≡_, sym, ap, _∙_}
+use mathlib.Core.Bool.{true, false, _&&_}
+use mathlib.Core.List.{List}
+use Prim.Native.Nat.{ℕ, _*_, _<_}
+use native.Mathlib.Omega.{arith}
+use lib.Dec.{eqb}
+use lib.ListN.{getD, take}
+use lib.Seq.{length-take-le, getD-take}
+use Rattle.model.specs.Automata.{Rule}
+use Rattle.model.specs.Table.{Tables, finalsOf, isMissing, automatonOf}
+use Rattle.model.specs.Sound.{isSound, contextsFew, isT5, isT6, isT7, isT8}
+use Rattle.model.specs.Entry.{storeOf, answersIn, tablesOf}
+use Rattle.model.specs.declared.Lists.{Lists}
+use Rattle.model.proofs.Laws.Tests.{and-left, and-right}
+use Rattle.model.proofs.Laws.Lists.{at-place}
+use Rattle.model.proofs.Laws.ReflectTable.{idle-of, known-back}
+use Rattle.bank.proofs.Laws.Words.{used-of}
+use Rattle.table_verdict.specs.Rules.{ruleBy, rulesBy, Ruled}
+use Rattle.list.specs.Flat.{flatRulesIn, flatRules, flatAutomaton}
+use Rattle.list.proofs.Flat.{flat-part, flat-each}
+use Rattle.sound.specs.Working.{Arrays, Working, preparedFit, judgedFit}
+use Rattle.sound.proofs.Laws.Judged.{ruled, hypothesis-is, sound-parts}
+use Rattle.call_emit.specs.Proposal.{Flat}
+
+module _ {ws : List ℕ} (l : Lists) {holes head next mix table places reps : List ℕ} (a : Arrays (l .s) (l .states) (l .t) (l .rules) (l .c) (l .contexts))
+    (w : Working ws (take (l .letters) (l .counts)) (l .used) (l .s) (l .states) (l .t) (l .rules) (l .c) (l .contexts) holes head next mix table places reps)
+    (sound : isSound (tablesOf ws l) ≡ true) (idle : l .asked ≡ 0) where
+  abbrev X : Tables
+  X = tablesOf ws l
+
+  abbrev ns : List ℕ
+  ns = take (l .letters) (l .counts)
+
+  parts : preparedFit X && judgedFit X ≡ true
+  parts = sound-parts X ∙ sound
+
+  prepared : preparedFit X ≡ true
+  prepared = and-left (preparedFit X) (judgedFit X) parts
+
+  judged : judgedFit X ≡ true
+  judged = and-right (preparedFit X) (judgedFit X) parts
+
+  table-fits : contextsFew X && (isT5 X && isT6 X) ≡ true
+  table-fits = and-left (contextsFew X && (isT5 X && isT6 X)) (isT7 X && isT8 X) judged
+
+  known : isMissing X ≡ false
+  known = known-back X (idle-of X idle (and-right (isT7 X) (isT8 X) (and-right (contextsFew X && (isT5 X && isT6 X)) (isT7 X && isT8 X) judged)) .1)
+
+  pub rules-hold : Ruled (storeOf ws (take (l .letters) (l .counts)) (l .used)) (take (l .states) (l .s)) (take (l .rules) (l .t)) reps
+  rules-hold = ruled a w prepared (l .hand) (l .asked) (eqb (l .accepted) 1) table-fits known
+
+  pub reps-used : (i : ℕ) → i < l .states → getD (l .s) i 0 < l .used
+  reps-used i h =
+      let e = length-take-le (l .states) (l .s) (omega (arith, a .s-long, a .few-s)) in
+      let d = getD-take (l .states) (l .s) i 0 h in
+      let m = at-place (take (l .states) (l .s)) i (omega (arith, e, h)) in
+      let r = rules-hold .row (getD (take (l .states) (l .s)) i 0) (rules-hold .among (getD (take (l .states) (l .s)) i 0) m) in
+      omega (arith, d, r .1, used-of ws ns (l .used))
+
+  rules-are : (us : List ℕ) → Flat (storeOf ws (take (l .letters) (l .counts)) (l .used)) (take (l .states) (l .s)) (l .t) reps (l .rules) us →
+      flatRules (take (l .letters) (l .counts)) (take (6 * l .rules) us) ≡ rulesBy (storeOf ws (take (l .letters) (l .counts)) (l .used)) (take (l .states) (l .s)) (take (l .rules) (l .t)) reps
+  rules-are us f =
+      let e = length-take-le (l .rules) (l .t) (omega (arith, a .t-long, a .few-t)) in
+      let rule : ℕ → Rule = ruleBy (storeOf ws ns (l .used)) (take (l .states) (l .s)) reps in
+      flat-part (l .rules) ns us (omega (arith, f .long, a .few-t)) ∙ ap (λ (n : ℕ). flatRulesIn n ns us) (sym e) ∙
+      flat-each rule ns (take (l .rules) (l .t)) us (λ k h. let g : k < l .rules = omega (arith, e, h) in f .rule k g ∙ sym (ap rule (getD-take (l .rules) (l .t) k 0 g)))
+
+  pub proposal-is : (fs us : List ℕ) → take (l .states) fs ≡ finalsOf (answersIn (l .used) ws) (take (l .states) (l .s)) →
+      Flat (storeOf ws (take (l .letters) (l .counts)) (l .used)) (take (l .states) (l .s)) (l .t) reps (l .rules) us →
+      flatAutomaton (take (l .letters) (l .counts)) (take (l .states) fs) (take (6 * l .rules) us) ≡ automatonOf (tablesOf ws l)
+  proposal-is fs us e f =
+      let r = rules-are us f in
+      (λ i. record { counts = ns; finals = e i; rules = r i }) ∙ hypothesis-is a w prepared (l .hand) (l .asked) (eqb (l .accepted) 1) table-fits known

@@ -1,0 +1,265 @@
+// Emitting (§3.7), by value: 18, 30, 31, 20, then the list of the proposed automaton (§6.1); the bytes past it stay.
+ghost use mathlib.Core.Path.{_≡_};
+ghost use mathlib.Core.Bool.{true};
+ghost use Prim.Native.Nat.{ℕ, _+_, _*_, _<_, _≤_};
+ghost use lib.ListN.{length, getD, take};
+ghost use Rattle.model.specs.Table.{finalsOf};
+ghost use Rattle.model.specs.Sound.{isSound};
+ghost use Rattle.model.specs.Entry.{storeOf, answersIn, sizeFits, listsFit, tablesOf, emitSeen, emitOut};
+ghost use Rattle.bank.specs.Rows.{Within};
+ghost use Rattle.bank.specs.Ready.{Ready};
+ghost use Rattle.table_verdict.specs.Rules.{ruleBy, Ruled};
+ghost use Rattle.list.specs.Flat.{flatRule, flatAutomaton, Short};
+ghost use Rattle.sound.specs.Working.{Working};
+ghost use Rattle.call_emit.specs.Proposal.{finalByte, Flat, SixAt, listedSeen, listedOut};
+use bank::rows;
+use model::Emitted;
+use model::Lists;
+use model::Row;
+
+// 1 for a state that is final, by its representative.
+fn final_byte(words: &[u32], rep: Row) -> u8
+    requires { ⌜ Within (now words) (rep .0) ⌝ }
+    ensures { λ r. ⌜ r ≡ finalByte (now (words .entry)) (rep .0) ⌝ }
+{
+    if rows::answer_of(words, rep) == 2 {
+        return 1;
+    }
+    0
+}
+
+// A final byte for each state.
+fn write_finals(words: &[u32], used: u16, s: &[u16; 32], states: usize, finals: &mut [u8; 32])
+    requires { ⌜ (6 * used ≤ length (now words)) × (length (now s) ≡ 32) × (states ≤ 32) × ((i : ℕ) → i < states → getD (now s) i 0 < used) × (length (now finals) ≡ 32) ⌝ }
+    ensures { λ _. ⌜ (take states (now (finals .exit)) ≡ finalsOf (answersIn used (now (words .entry))) (take states (now (s .entry)))) × (length (now (finals .exit)) ≡ 32) ⌝ }
+{
+    let mut q = 0;
+    while q < states {
+        let byte = final_byte(words, Row(s[q]));
+        finals[q] = byte;
+        q += 1;
+    }
+}
+
+// The rule of a transition: symbol, child states, target.
+fn rule_bytes(
+    words: &[u32],
+    counts: &[u8],
+    used: u16,
+    holes: &[u8],
+    head: &[u16],
+    next: &[u16],
+    mix: &[u32; 5],
+    s: &[u16; 32],
+    states: usize,
+    t: &[u16; 256],
+    rules: usize,
+    reps: &[u16],
+    k: usize,
+) -> [u8; 6]
+    requires { ⌜ Ready (now words) (now counts) used (now holes) (now head) (now next) (now mix) × Ruled (storeOf (now words) (now counts) used) (take states (now s)) (take rules (now t)) (now reps) × (length (now s) ≡ 32) × (states ≤ 32) × (length (now t) ≡ 256) × (rules ≤ 256) × (k < rules) ⌝ }
+    ensures { λ r. ⌜ (length r ≡ 6) × (flatRule (now (counts .entry)) r ≡ ruleBy (storeOf (now (words .entry)) (now (counts .entry)) used) (take states (now (s .entry))) (now (reps .entry)) (getD (now (t .entry)) k 0)) ⌝ }
+{
+    let row = Row(t[k]);
+    let symbol = rows::symbol_of(words, row);
+    let count = counts[symbol as usize] as usize;
+    let mut bytes = [0u8; 6];
+    bytes[0] = symbol as u8;
+    let mut i = 0;
+    while i < count {
+        let kid = rows::kid_of(words, row, i) as u16;
+        let state = run_lists::place_of(s, states, kid);
+        bytes[1 + i] = state as u8;
+        i += 1;
+    }
+    let target = run_lists::place_of(s, states, reps[row.0 as usize]);
+    bytes[5] = target as u8;
+    bytes
+}
+
+// Six bytes put at a place.
+fn put_six(flat: &mut [u8; 1536], at: usize, bytes: [u8; 6])
+    requires { ⌜ (length (now flat) ≡ 1536) × (at + 6 ≤ 1536) ⌝ }
+    ensures { λ _. ⌜ SixAt (now (flat .entry)) at bytes (now (flat .exit)) ⌝ }
+{
+    flat[at] = bytes[0];
+    flat[at + 1] = bytes[1];
+    flat[at + 2] = bytes[2];
+    flat[at + 3] = bytes[3];
+    flat[at + 4] = bytes[4];
+    flat[at + 5] = bytes[5];
+}
+
+// The rules in T's order.
+fn write_rules(
+    words: &[u32],
+    counts: &[u8],
+    used: u16,
+    holes: &[u8],
+    head: &[u16],
+    next: &[u16],
+    mix: &[u32; 5],
+    s: &[u16; 32],
+    states: usize,
+    t: &[u16; 256],
+    rules: usize,
+    reps: &[u16],
+    flat: &mut [u8; 1536],
+)
+    requires { ⌜ Ready (now words) (now counts) used (now holes) (now head) (now next) (now mix) × Ruled (storeOf (now words) (now counts) used) (take states (now s)) (take rules (now t)) (now reps) × (length (now s) ≡ 32) × (states ≤ 32) × (length (now t) ≡ 256) × (rules ≤ 256) × (length (now flat) ≡ 1536) ⌝ }
+    ensures { λ _. ⌜ Flat (storeOf (now (words .entry)) (now (counts .entry)) used) (take states (now (s .entry))) (now (t .entry)) (now (reps .entry)) rules (now (flat .exit)) ⌝ }
+{
+    let mut k = 0;
+    while k < rules {
+        let bytes = rule_bytes(
+            words,
+            counts,
+            used,
+            holes,
+            head,
+            next,
+            mix,
+            s,
+            states,
+            t,
+            rules,
+            reps,
+            k,
+        );
+        put_six(flat, 6 * k, bytes);
+        k += 1;
+    }
+}
+
+// A refusal: its number and nothing else.
+fn refuse(number: u8) -> Emitted
+    ensures { λ r. ⌜ (r .number ≡ number) × (r .size ≡ 0) ⌝ }
+{
+    Emitted {
+        number: number,
+        size: 0,
+    }
+}
+
+// The list of an automaton whose rules are given flat: 20 where it does not fit, or its bytes.
+fn write_listed(counts: &[u8], finals: &[u8], rules: &[u8], out: &mut [u8]) -> Emitted
+    requires { ⌜ Short (now counts) (now finals) (now rules) ⌝ }
+    ensures { λ r. ⌜ r ≡ listedSeen (flatAutomaton (now (counts .entry)) (now (finals .entry)) (now (rules .entry))) (now (out .entry)) ⌝ }
+    ensures bytes { λ r. ⌜ now (out .exit) ≡ listedOut (flatAutomaton (now (counts .entry)) (now (finals .entry)) (now (rules .entry))) (now (out .entry)) ⌝ }
+{
+    let size = list::list_size(counts, finals, rules);
+    if out.len() < size as usize {
+        return refuse(20);
+    }
+    let written = list::write_list(counts, finals, rules, out);
+    Emitted {
+        number: 0,
+        size: written,
+    }
+}
+
+// The list of the proposed automaton of sound tables with no question open: 20, or its bytes.
+fn emit_proposed(
+    words: &[u32],
+    lists: Lists,
+    holes: &[u8],
+    head: &[u16],
+    next: &[u16],
+    mix: &[u32; 5],
+    table: &[u8],
+    places: &[u16; 32],
+    reps: &[u16],
+    out: &mut [u8],
+) -> Emitted
+    requires { ⌜ (sizeFits (now words) ≡ true) × (listsFit lists ≡ true) × (isSound (tablesOf (now words) lists) ≡ true) × (lists .asked ≡ 0) × Working (now words) (take (lists .letters) (lists .counts)) (lists .used) (lists .s) (lists .states) (lists .t) (lists .rules) (lists .c) (lists .contexts) (now holes) (now head) (now next) (now mix) (now table) (now places) (now reps) ⌝ }
+    ensures { λ r. ⌜ r ≡ emitSeen (now (words .entry)) lists (now (out .entry)) ⌝ }
+    ensures bytes { λ r. ⌜ now (out .exit) ≡ emitOut (now (words .entry)) lists (now (out .entry)) ⌝ }
+{
+    let letters = lists.letters as usize;
+    let counts = lists.counts;
+    let s = lists.s;
+    let t = lists.t;
+    let states = lists.states as usize;
+    let rules = lists.rules as usize;
+    let mut finals = [0u8; 32];
+    let mut flat = [0u8; 1536];
+    write_finals(words, lists.used, &s, states, &mut finals);
+    write_rules(
+        words,
+        &counts[..letters],
+        lists.used,
+        holes,
+        head,
+        next,
+        mix,
+        &s,
+        states,
+        &t,
+        rules,
+        reps,
+        &mut flat,
+    );
+    write_listed(
+        &counts[..letters],
+        &finals[..states],
+        &flat[..6 * rules],
+        out,
+    )
+}
+
+// Emitting from tables of a size that fits, in lists that fit.
+fn emit_within(words: &[u32], lists: Lists, out: &mut [u8]) -> Emitted
+    requires { ⌜ (sizeFits (now words) ≡ true) × (listsFit lists ≡ true) ⌝ }
+    ensures { λ r. ⌜ r ≡ emitSeen (now (words .entry)) lists (now (out .entry)) ⌝ }
+    ensures bytes { λ r. ⌜ now (out .exit) ≡ emitOut (now (words .entry)) lists (now (out .entry)) ⌝ }
+{
+    let mut holes = [0u8; 16384];
+    let mut head = [0u16; 16384];
+    let mut next = [0u16; 16384];
+    let mut mix = [0u32; 5];
+    let mut table = [0u8; 73984];
+    let mut places = [0u16; 32];
+    let mut reps = [0u16; 16384];
+    if !sound::lists_sound(
+        words,
+        lists,
+        &mut holes,
+        &mut head,
+        &mut next,
+        &mut mix,
+        &mut table,
+        &mut places,
+        &mut reps,
+    ) {
+        return refuse(30);
+    }
+    if lists.asked != 0 {
+        return refuse(31);
+    }
+    emit_proposed(
+        words,
+        lists,
+        &holes,
+        &head,
+        &next,
+        &mix,
+        &table,
+        &places,
+        &reps,
+        out,
+    )
+}
+
+// Emitting: 18, 30, 31, 20, then the bytes and their count.
+pub fn emit(words: &[u32], lists: Lists, out: &mut [u8]) -> Emitted
+    ensures { λ r. ⌜ r ≡ emitSeen (now (words .entry)) lists (now (out .entry)) ⌝ }
+    ensures bytes { λ r. ⌜ now (out .exit) ≡ emitOut (now (words .entry)) lists (now (out .entry)) ⌝ }
+{
+    if !sound_parts::size_fits(words) {
+        return refuse(18);
+    }
+    if !sound_parts::lists_fit(lists) {
+        return refuse(30);
+    }
+    emit_within(words, lists, out)
+}

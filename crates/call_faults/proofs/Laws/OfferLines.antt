@@ -1,0 +1,171 @@
+-- An offer's own lines (§5.3), each by the tests made before it; and what sound tables with no question open give to its tests.
+-- Each line that does not apply leaves the rest to decide; with no question open no answer is missing, so the hypothesis is the automaton proposed.
+use mathlib.Core.Path.{_≡_, refl, sym, ap, _∙_}
+use mathlib.Core.Bool.{Bool, true, false, _&&_, not, cond, Bool·beq, true≢false}
+use mathlib.Core.List.{List, [], _∷_}
+use Prim.Native.Nat.{ℕ, zero, suc, _+_, _≤_, _<_}
+use native.Mathlib.Omega.{arith}
+use borrow.Author.Tests.{eq-eqb, ne-eqb, le-leb, lt-leb}
+use lib.Dec.{eqb}
+use lib.ListN.{getD, take, drop, length-drop}
+use Rattle.model.specs.Store.{Store, used, countOf, padded, findRow}
+use Rattle.model.specs.Base.{top}
+use Rattle.model.specs.Terms.{orElse, unless, recordFault, knownFrom, knownRow}
+use Rattle.model.specs.Automata.{acceptsList}
+use Rattle.model.specs.Table.{Tables, answerAt, isMissing}
+use Rattle.model.specs.Sound.{contextsFew, isT5, isT6, isT7, isT8, isSound}
+use Rattle.model.specs.Calls.{markFits, contradicts, verdictIs, offerFault}
+use Rattle.model.specs.Entry.{storeOf, answersIn, tablesOf}
+use Rattle.model.specs.declared.Lists.{Lists}
+use Rattle.model.proofs.Laws.Tests.{and-left, and-right}
+use Rattle.model.proofs.Laws.Rows.{found}
+use Rattle.model.proofs.Laws.ReflectTable.{idle-of, known-back}
+use Rattle.bank.specs.Ready.{Ready}
+use Rattle.bank.proofs.Laws.Chains.{by-equal}
+use Rattle.bank.proofs.Laws.Words.{used-of}
+use Rattle.table_verdict.specs.Rules.{hypothesis, Ruled}
+use Rattle.sound.specs.Working.{Arrays, Working, preparedFit, judgedFit}
+use Rattle.sound.proofs.Laws.Judged.{sound-parts, ruled, hypothesis-is}
+use Rattle.step_end.specs.Stepping.{countsIn}
+use Rattle.call_faults.specs.Lines.{Tested}
+
+-- THE LINES
+module _ (ws : List ℕ) (l : Lists) (xs : List ℕ) (m : ℕ) where
+  abbrev X : Tables
+  X = tablesOf ws l
+
+  abbrev lines : (asks-none accepted : Bool) → (fault : ℕ) → (fits same against : Bool) → ℕ
+  lines a z f b s g = orElse (unless (not (not a) && not z) 31) (orElse f (orElse (unless b 16) (orElse (unless (not s) 32) (unless (not g) 33))))
+
+  abbrev fault : ℕ
+  fault = recordFault (countsIn l) xs
+
+  abbrev stored : ℕ
+  stored = answerAt (answersIn (l .used) ws) (knownRow (storeOf ws (countsIn l) (l .used)) xs)
+
+  pub line-asking : (l .asked ≡ 0 → ⊥) → 31 ≡ offerFault (tablesOf ws l) xs m
+  line-asking n = sym (ap (λ (a : Bool). lines a (eqb (l .accepted) 1) fault (markFits m) (verdictIs X xs m) (contradicts stored m)) (ne-eqb (l .asked) 0 n))
+
+  module _ (a : l .asked ≡ 0) where
+    pub line-accepted : l .accepted ≡ 1 → 31 ≡ offerFault (tablesOf ws l) xs m
+    line-accepted e = sym (λ i. lines (eq-eqb (l .asked) 0 a i) (eq-eqb (l .accepted) 1 e i) fault (markFits m) (verdictIs X xs m) (contradicts stored m))
+
+    module _ (z : l .accepted ≡ 1 → ⊥) where
+      proposing : (f : ℕ) (b s g : Bool) → lines (eqb (l .asked) 0) (eqb (l .accepted) 1) f b s g ≡ lines true false f b s g
+      proposing f b s g = λ i. lines (eq-eqb (l .asked) 0 a i) (ne-eqb (l .accepted) 1 z i) f b s g
+
+      pub line-record : (n : ℕ) → n ≡ recordFault (countsIn l) xs → (n ≡ 0 → ⊥) → n ≡ offerFault (tablesOf ws l) xs m
+      line-record n e d =
+          let rest : ℕ = orElse (unless (markFits m) 16) (orElse (unless (not (verdictIs X xs m)) 32) (unless (not (contradicts stored m)) 33)) in
+          sym (proposing fault (markFits m) (verdictIs X xs m) (contradicts stored m) ∙ (λ i. orElse (sym e i) rest) ∙ ap (λ (b : Bool). cond b rest n) (ne-eqb n 0 d))
+
+      module _ (f : recordFault (countsIn l) xs ≡ 0) where
+        pub line-mark : 1 < m → 16 ≡ offerFault (tablesOf ws l) xs m
+        line-mark h = sym (proposing fault (markFits m) (verdictIs X xs m) (contradicts stored m) ∙ (λ i. lines true false (f i) (lt-leb m 1 h i) (verdictIs X xs m) (contradicts stored m)))
+
+  -- past the mark: the verdict, then what is stored
+  module _ (q : Tested l xs m) where
+    fitting : (s g : Bool) → lines (eqb (l .asked) 0) (eqb (l .accepted) 1) fault (markFits m) s g ≡ orElse (unless (not s) 32) (unless (not g) 33)
+    fitting s g = proposing (q .idle) (q .running) fault (markFits m) s g ∙ (λ i. lines true false (q .faultless i) (le-leb m 1 (q .mark) i) s g)
+
+    pub line-same : verdictIs (tablesOf ws l) xs m ≡ true → 32 ≡ offerFault (tablesOf ws l) xs m
+    line-same e = sym (fitting (verdictIs X xs m) (contradicts stored m) ∙ ap (λ (s : Bool). orElse (unless (not s) 32) (unless (not (contradicts stored m)) 33)) e)
+
+    module _ (e : verdictIs (tablesOf ws l) xs m ≡ false) (v : ℕ) (g : v ≡ answerAt (answersIn (l .used) ws) (knownRow (storeOf ws (countsIn l) (l .used)) xs)) where
+      last : unless (not (contradicts v m)) 33 ≡ offerFault (tablesOf ws l) xs m
+      last = sym (fitting (verdictIs X xs m) (contradicts stored m) ∙ λ i. orElse (unless (not (e i)) 32) (unless (not (contradicts (sym g i) m)) 33))
+
+      pub line-unknown : v ≡ 0 → 0 ≡ offerFault (tablesOf ws l) xs m
+      line-unknown p = sym (ap (λ (b : Bool). unless (not (not b && not (eqb v (m + 1)))) 33) (eq-eqb v 0 p)) ∙ last
+
+      module _ (n : v ≡ 0 → ⊥) where
+        pub line-known : v ≡ m + 1 → 0 ≡ offerFault (tablesOf ws l) xs m
+        line-known p = sym (λ i. unless (not (not (ne-eqb v 0 n i) && not (eq-eqb v (m + 1) p i))) 33) ∙ last
+
+        pub line-against : (v ≡ m + 1 → ⊥) → 33 ≡ offerFault (tablesOf ws l) xs m
+        line-against p = sym (λ i. unless (not (not (ne-eqb v 0 n i) && not (ne-eqb v (m + 1) p i))) 33) ∙ last
+
+-- THE VERDICT against the mark
+mark-is : (b : Bool) (m : ℕ) → m ≤ 1 → Bool·beq b (eqb m 1) ≡ true → eqb (cond b 1 0) m ≡ true
+mark-is true zero h e = absurd (true≢false (sym e))
+mark-is false zero h e = refl
+mark-is true (suc zero) h e = refl
+mark-is false (suc zero) h e = absurd (true≢false (sym e))
+mark-is b (suc (suc m)) h e = absurd (omega arith)
+
+mark-other : (b : Bool) (m : ℕ) → m ≤ 1 → Bool·beq b (eqb m 1) ≡ false → eqb (cond b 1 0) m ≡ false
+mark-other true zero h e = refl
+mark-other false zero h e = absurd (true≢false e)
+mark-other true (suc zero) h e = absurd (true≢false e)
+mark-other false (suc zero) h e = refl
+mark-other b (suc (suc m)) h e = absurd (omega arith)
+
+-- THE ROW OF A LISTED RECORD is a used one or row 0
+find-within : (x : Store) → 1 ≤ used x → (a : ℕ) (ks : List ℕ) → findRow x a ks < used x
+find-within x s a ks =
+    by-equal (findRow x a ks) 0 (λ e. omega (arith, e))
+    (λ n. let f = found a (padded ks) 1 (drop 1 (x .nodes)) n in let j : findRow x a ks ≡ 1 + f .0 = f .2 in omega (arith, f .1, j, length-drop 1 (x .nodes)))
+
+either-within : (b : Bool) (i j n : ℕ) → i < n → j < n → cond b i j < n
+either-within true i j n p q = p
+either-within false i j n p q = q
+
+known-within : (x : Store) → 1 ≤ used x → (xs is : List ℕ) → getD is 0 0 < used x → knownFrom x xs is < used x
+unfolding knownFrom
+known-within x s [] [] h = h
+known-within x s [] (i ∷ is) h = h
+known-within x s (a ∷ xs) is h =
+    let ks : List ℕ = top (countOf x a) is in
+    either-within (eqb (findRow x a ks) 0) 0 (knownFrom x xs (findRow x a ks ∷ drop (countOf x a) is)) (used x) s
+    (known-within x s xs (findRow x a ks ∷ drop (countOf x a) is) (find-within x s a ks))
+
+pub known-row-within : (ws ns : List ℕ) (n : ℕ) {hs he ne mx : List ℕ} → Ready ws ns n hs he ne mx → (xs : List ℕ) → knownRow (storeOf ws ns n) xs < n
+known-row-within ws ns n r xs = omega (arith, known-within (storeOf ws ns n) (r .good .start) xs [] (r .good .start), used-of ws ns n)
+
+-- SOUND TABLES with no question open: their rules, their hypothesis, and its verdict
+module _ (ws : List ℕ) (l : Lists) {holes head next mix table places reps : List ℕ} (a : Arrays (l .s) (l .states) (l .t) (l .rules) (l .c) (l .contexts))
+    (w : Working ws (countsIn l) (l .used) (l .s) (l .states) (l .t) (l .rules) (l .c) (l .contexts) holes head next mix table places reps) (e : isSound (tablesOf ws l) ≡ true)
+    (z : l .asked ≡ 0) where
+  abbrev tested : Tables
+  tested = tablesOf ws l
+
+  abbrev middle : Bool
+  middle = contextsFew tested && (isT5 tested && isT6 tested)
+
+  both : preparedFit tested && judgedFit tested ≡ true
+  both = sound-parts tested ∙ e
+
+  prepared : preparedFit tested ≡ true
+  prepared = and-left (preparedFit tested) (judgedFit tested) both
+
+  judged : judgedFit tested ≡ true
+  judged = and-right (preparedFit tested) (judgedFit tested) both
+
+  tables-fit : contextsFew tested && (isT5 tested && isT6 tested) ≡ true
+  tables-fit = and-left middle (isT7 tested && isT8 tested) judged
+
+  none-missing : isMissing tested ≡ false
+  none-missing = known-back tested (idle-of tested z (and-right (isT7 tested) (isT8 tested) (and-right middle (isT7 tested && isT8 tested) judged)) .1)
+
+  pub offer-ruled : Ruled (storeOf ws (countsIn l) (l .used)) (take (l .states) (l .s)) (take (l .rules) (l .t)) reps
+  offer-ruled = ruled a w prepared (l .hand) (l .asked) (eqb (l .accepted) 1) tables-fit none-missing
+
+  abbrev guess : Bool → ℕ → Bool
+  guess b m = eqb (cond b 1 0) m
+
+  module _ (xs : List ℕ) (m : ℕ) (y : Bool) (h : m ≤ 1) (p : y ≡ acceptsList (hypothesis ws (countsIn l) (l .used) (l .s) (l .states) (l .t) (l .rules) reps) xs) where
+    verdict-by : verdictIs (tablesOf ws l) xs m ≡ eqb (cond y 1 0) m
+    verdict-by = λ i. guess ((ap (λ A. acceptsList A xs) (sym (hypothesis-is a w prepared (l .hand) (l .asked) (eqb (l .accepted) 1) tables-fit none-missing)) ∙ sym p) i) m
+
+    verdict-same : Bool·beq y (eqb m 1) ≡ true → verdictIs (tablesOf ws l) xs m ≡ true
+    verdict-same q = verdict-by ∙ mark-is y m h q
+
+    verdict-other : Bool·beq y (eqb m 1) ≡ false → verdictIs (tablesOf ws l) xs m ≡ false
+    verdict-other q = verdict-by ∙ mark-other y m h q
+
+    pub verdict-told : Bool·beq y (eqb m 1) ≡ verdictIs (tablesOf ws l) xs m
+    verdict-told = go (Bool·beq y (eqb m 1)) refl
+      where
+        go : (b : Bool) → Bool·beq y (eqb m 1) ≡ b → b ≡ verdictIs (tablesOf ws l) xs m
+        go true q = sym (verdict-same q)
+        go false q = sym (verdict-other q)

@@ -1,0 +1,131 @@
+// The lines that refuse an offer to sound tables (§5.3): 31, 11 to 16, 32, 33, the first that applies.
+ghost use mathlib.Core.Path.{_≡_};
+ghost use mathlib.Core.Bool.{true};
+ghost use Rattle.model.specs.Calls.{offerFault, verdictIs};
+ghost use Rattle.model.specs.Sound.{isSound};
+ghost use Rattle.model.specs.Entry.{sizeFits, listsFit, tablesOf};
+ghost use Rattle.sound.specs.Working.{Working};
+ghost use Rattle.step_end.specs.Stepping.{countsIn};
+ghost use Rattle.call_faults.specs.Lines.{InputFault, Tested};
+use bank::rows;
+use model::Lists;
+
+// The number of the first line that refuses an offer without a look at the tables, 31 or 11 to 16; 0 for none.
+fn input_fault(lists: Lists, symbols: &[u8], mark: u8) -> u8
+    requires { ⌜ listsFit lists ≡ true ⌝ }
+    ensures { λ r. ⌜ InputFault lists (now (symbols .entry)) mark r ⌝ }
+{
+    if lists.asked != 0 {
+        return 31;
+    }
+    if lists.accepted == 1 {
+        return 31;
+    }
+    let letters = lists.letters as usize;
+    let counts = lists.counts;
+    let line = bank_listed::record_fault(&counts[..letters], symbols);
+    if line != 0 {
+        return line;
+    }
+    if 1 < mark {
+        return 16;
+    }
+    0
+}
+
+// Whether the mark is the verdict of the hypothesis, on an offer that no line before 32 refuses.
+fn verdict_is(
+    words: &[u32],
+    lists: Lists,
+    symbols: &[u8],
+    mark: u8,
+    holes: &[u8],
+    head: &[u16],
+    next: &[u16],
+    mix: &[u32; 5],
+    table: &[u8],
+    places: &[u16; 32],
+    reps: &[u16],
+) -> bool
+    requires { ⌜ (listsFit lists ≡ true) × (isSound (tablesOf (now words) lists) ≡ true) × Working (now words) (countsIn lists) (lists .used) (lists .s) (lists .states) (lists .t) (lists .rules) (lists .c) (lists .contexts) (now holes) (now head) (now next) (now mix) (now table) (now places) (now reps) × Tested lists (now symbols) mark ⌝ }
+    ensures { λ r. ⌜ r ≡ verdictIs (tablesOf (now (words .entry)) lists) (now (symbols .entry)) mark ⌝ }
+{
+    let letters = lists.letters as usize;
+    let counts = lists.counts;
+    let s = lists.s;
+    let t = lists.t;
+    let yes = table_verdict::accepts_list(
+        words,
+        &counts[..letters],
+        lists.used,
+        holes,
+        head,
+        next,
+        mix,
+        &s,
+        lists.states as usize,
+        &t,
+        lists.rules as usize,
+        reps,
+        symbols,
+    );
+    yes == (mark == 1)
+}
+
+// The number of the first line that refuses an offer to sound tables; 0 for none.
+pub fn fault_of(
+    words: &[u32],
+    lists: Lists,
+    symbols: &[u8],
+    mark: u8,
+    holes: &[u8],
+    head: &[u16],
+    next: &[u16],
+    mix: &[u32; 5],
+    table: &[u8],
+    places: &[u16; 32],
+    reps: &[u16],
+) -> u8
+    requires { ⌜ (sizeFits (now words) ≡ true) × (listsFit lists ≡ true) × (isSound (tablesOf (now words) lists) ≡ true) × Working (now words) (countsIn lists) (lists .used) (lists .s) (lists .states) (lists .t) (lists .rules) (lists .c) (lists .contexts) (now holes) (now head) (now next) (now mix) (now table) (now places) (now reps) ⌝ }
+    ensures { λ r. ⌜ r ≡ offerFault (tablesOf (now (words .entry)) lists) (now (symbols .entry)) mark ⌝ }
+{
+    let fault = input_fault(lists, symbols, mark);
+    if fault != 0 {
+        return fault;
+    }
+    if verdict_is(
+        words,
+        lists,
+        symbols,
+        mark,
+        holes,
+        head,
+        next,
+        mix,
+        table,
+        places,
+        reps,
+    ) {
+        return 32;
+    }
+    let letters = lists.letters as usize;
+    let counts = lists.counts;
+    let row = bank_listed::known_row(
+        words,
+        &counts[..letters],
+        lists.used,
+        holes,
+        head,
+        next,
+        mix,
+        symbols,
+    );
+    let answer = rows::answer_of(words, row);
+    if answer == 0 {
+        return 0;
+    }
+    if answer == mark as u32 + 1 {
+        return 0;
+    }
+    33
+}

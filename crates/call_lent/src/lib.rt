@@ -1,0 +1,161 @@
+// An answer or an offer to tables of a size that fits, in the room lent: 30, the lines of its own (§5.3), then what it comes to.
+ghost use mathlib.Core.Path.{_≡_};
+ghost use mathlib.Core.Bool.{true};
+ghost use Prim.Native.Nat.{_+_, _*_, _≤_};
+ghost use lib.ListN.{length};
+ghost use Rattle.model.specs.Calls.{answers, offers};
+ghost use Rattle.model.specs.Entry.{sizeFits, listsFit};
+ghost use Rattle.sound.specs.Working.{Room};
+ghost use Rattle.call.specs.Calls.{CallAs};
+ghost use Rattle.call_lent.specs.Said.{callOf};
+use call::Done;
+use model::Lists;
+
+// What the archive said: an answer to the open question, or its mark for the record offered.
+pub enum Said {
+    Answer(u8),
+    Offer(u8),
+}
+
+// An answer to tables of a size that fits, in lists that fit, with room to work in and to save the rows in.
+fn answer_in(
+    words: &mut [u32],
+    lists: Lists,
+    mark: u8,
+    saved: &mut [u32],
+    holes: &mut [u8],
+    head: &mut [u16],
+    next: &mut [u16],
+    mix: &mut [u32; 5],
+    table: &mut [u8],
+    places: &mut [u16; 32],
+    reps: &mut [u16],
+) -> Done
+    requires { ⌜ (sizeFits (now words) ≡ true) × (listsFit lists ≡ true) × (length (now words) ≤ 6 * lists .used + length (now saved)) × Room (now words) (lists .rules) (now holes) (now head) (now next) (now mix) (now table) (now places) (now reps) × (289 * (lists .rules + 1) ≤ length (now table)) ⌝ }
+    ensures { λ r. ⌜ CallAs (now (words .entry)) lists (answers mark) r (now (words .exit)) ⌝ }
+{
+    if !sound::lists_sound(words, lists, holes, head, next, mix, table, places, reps) {
+        return call::refuse(30, lists);
+    }
+    if lists.asked == 0 {
+        return call::refuse(31, lists);
+    }
+    if 1 < mark {
+        return call::refuse(16, lists);
+    }
+    call_take::take_answer(
+        words,
+        lists,
+        mark,
+        saved,
+        holes,
+        head,
+        next,
+        mix,
+        table,
+        places,
+        reps,
+    )
+}
+
+// An offer to tables of a size that fits, in lists that fit, with room to work in and to save the rows in.
+fn offer_in(
+    words: &mut [u32],
+    lists: Lists,
+    symbols: &[u8],
+    mark: u8,
+    saved: &mut [u32],
+    holes: &mut [u8],
+    head: &mut [u16],
+    next: &mut [u16],
+    mix: &mut [u32; 5],
+    table: &mut [u8],
+    places: &mut [u16; 32],
+    reps: &mut [u16],
+) -> Done
+    requires { ⌜ (sizeFits (now words) ≡ true) × (listsFit lists ≡ true) × (length (now words) ≤ 6 * lists .used + length (now saved)) × Room (now words) (lists .rules) (now holes) (now head) (now next) (now mix) (now table) (now places) (now reps) × (289 * (lists .rules + 1) ≤ length (now table)) ⌝ }
+    ensures { λ r. ⌜ CallAs (now (words .entry)) lists (offers (now (symbols .entry)) mark) r (now (words .exit)) ⌝ }
+{
+    if !sound::lists_sound(words, lists, holes, head, next, mix, table, places, reps) {
+        return call::refuse(30, lists);
+    }
+    let fault = call_faults::fault_of(
+        words,
+        lists,
+        symbols,
+        mark,
+        holes,
+        head,
+        next,
+        mix,
+        table,
+        places,
+        reps,
+    );
+    if fault != 0 {
+        return call::refuse(fault, lists);
+    }
+    call_take::take_offer(
+        words,
+        lists,
+        symbols,
+        mark,
+        saved,
+        holes,
+        head,
+        next,
+        mix,
+        table,
+        places,
+        reps,
+    )
+}
+
+// The call on tables of a size that fits, in lists that fit, in the room lent.
+pub fn call_in(
+    words: &mut [u32],
+    lists: Lists,
+    symbols: &[u8],
+    said: Said,
+    saved: &mut [u32],
+    holes: &mut [u8],
+    head: &mut [u16],
+    next: &mut [u16],
+    mix: &mut [u32; 5],
+    table: &mut [u8],
+    places: &mut [u16; 32],
+    reps: &mut [u16],
+) -> Done
+    requires { ⌜ (sizeFits (now words) ≡ true) × (listsFit lists ≡ true) × (length (now words) ≤ 6 * lists .used + length (now saved)) × Room (now words) (lists .rules) (now holes) (now head) (now next) (now mix) (now table) (now places) (now reps) × (289 * (lists .rules + 1) ≤ length (now table)) ⌝ }
+    ensures { λ r. ⌜ CallAs (now (words .entry)) lists (callOf said (now (symbols .entry))) r (now (words .exit)) ⌝ }
+{
+    match said {
+        Said::Answer(mark) => answer_in(
+            words,
+            lists,
+            mark,
+            saved,
+            holes,
+            head,
+            next,
+            mix,
+            table,
+            places,
+            reps,
+        ),
+        Said::Offer(mark) => offer_in(
+            words,
+            lists,
+            symbols,
+            mark,
+            saved,
+            holes,
+            head,
+            next,
+            mix,
+            table,
+            places,
+            reps,
+        ),
+    }
+}

@@ -1,0 +1,128 @@
+// Looking (§3.3), on any words and any lists: 18, 30, then the phase, the open row and the counts.
+ghost use mathlib.Core.Path.{_≡_};
+ghost use mathlib.Core.Bool.{true};
+ghost use Prim.Native.Nat.{_*_, _<_, _≤_};
+ghost use lib.ListN.{length};
+ghost use Rattle.model.specs.Calls.{looks, look as lookOf};
+ghost use Rattle.model.specs.Entry.{sizeFits, listsFit, tablesOf, seenOf, callSeen};
+use bank::rows;
+use model::Lists;
+use model::Seen;
+
+// Small room: for so many rows, and for fewer transitions than so many; a row of the table of answers is as long as C can be.
+const FEW_ROWS: usize = 1024;
+
+const FEW_RULES: usize = 64;
+
+const CONTEXTS: usize = 289;
+
+// What looking tells of lists that are within their arrays.
+pub fn told(words: &[u32], lists: Lists) -> Seen
+    requires { ⌜ listsFit lists ≡ true ⌝ }
+    ensures { λ r. ⌜ r ≡ seenOf (lookOf (tablesOf (now (words .entry)) lists)) ⌝ }
+{
+    let mut phase = 0;
+    if lists.asked != 0 {
+        phase = 1;
+    }
+    if lists.accepted == 1 {
+        phase = 2;
+    }
+    Seen {
+        number: 0,
+        phase: phase,
+        row: lists.asked,
+        states: lists.states,
+        rules: lists.rules,
+        contexts: lists.contexts,
+    }
+}
+
+// Looking in small room: few rows, and few transitions.
+fn look_few(words: &[u32], lists: Lists) -> Seen
+    requires { ⌜ (sizeFits (now words) ≡ true) × (listsFit lists ≡ true) × (length (now words) ≤ 6144) × (lists .rules < 64) ⌝ }
+    ensures { λ r. ⌜ r ≡ callSeen (now (words .entry)) lists looks ⌝ }
+{
+    let mut holes = [0u8; FEW_ROWS];
+    let mut head = [0u16; FEW_ROWS];
+    let mut next = [0u16; FEW_ROWS];
+    let mut mix = [0u32; 5];
+    let mut table = [0u8; CONTEXTS * FEW_RULES];
+    let mut places = [0u16; 32];
+    let mut reps = [0u16; FEW_ROWS];
+    if !sound::lists_sound(
+        words,
+        lists,
+        &mut holes,
+        &mut head,
+        &mut next,
+        &mut mix,
+        &mut table,
+        &mut places,
+        &mut reps,
+    ) {
+        return sound_parts::refusal(30);
+    }
+    told(words, lists)
+}
+
+// Looking in room for all that may be lent.
+fn look_wide(words: &[u32], lists: Lists) -> Seen
+    requires { ⌜ (sizeFits (now words) ≡ true) × (listsFit lists ≡ true) ⌝ }
+    ensures { λ r. ⌜ r ≡ callSeen (now (words .entry)) lists looks ⌝ }
+{
+    let mut holes = [0u8; 16384];
+    let mut head = [0u16; 16384];
+    let mut next = [0u16; 16384];
+    let mut mix = [0u32; 5];
+    let mut table = [0u8; 73984];
+    let mut places = [0u16; 32];
+    let mut reps = [0u16; 16384];
+    if !sound::lists_sound(
+        words,
+        lists,
+        &mut holes,
+        &mut head,
+        &mut next,
+        &mut mix,
+        &mut table,
+        &mut places,
+        &mut reps,
+    ) {
+        return sound_parts::refusal(30);
+    }
+    told(words, lists)
+}
+
+// Whether small room is enough for the used rows, and they are lent.
+fn is_small(used: u16, rules: u16, size: usize) -> bool
+    ensures { λ r. ⌜ (r ≡ true → (1 ≤ used) × (used ≤ 1024) × (6 * used ≤ size) × (rules < 64)) ⌝ }
+{
+    if used == 0 {
+        return false;
+    }
+    if FEW_ROWS < used as usize {
+        return false;
+    }
+    if size < rows::WIDTH * used as usize {
+        return false;
+    }
+    (rules as usize) < FEW_RULES
+}
+
+// Looking: 18, 30, then what looking tells; on a small table over the used rows alone.
+pub fn look(words: &[u32], lists: Lists) -> Seen
+    ensures { λ r. ⌜ r ≡ callSeen (now (words .entry)) lists looks ⌝ }
+{
+    if !sound_parts::size_fits(words) {
+        return sound_parts::refusal(18);
+    }
+    if !sound_parts::lists_fit(lists) {
+        return sound_parts::refusal(30);
+    }
+    if is_small(lists.used, lists.rules, words.len()) {
+        let most = rows::WIDTH * lists.used as usize;
+        return look_few(&words[..most], lists);
+    }
+    look_wide(words, lists)
+}

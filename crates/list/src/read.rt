@@ -1,0 +1,184 @@
+// The reader (§6.2): the count of rules of bytes that are a list, or 21.
+ghost use mathlib.Core.Path.{_≡_};
+ghost use mathlib.Core.Bool.{true};
+ghost use Rattle.model.specs.Base.{among};
+ghost use Rattle.model.specs.Sound.{alphabetFits};
+ghost use Rattle.model.specs.Listing.{ruleIn, ruleBodyFits, finalsFit, broken, readFinals};
+ghost use Rattle.model.specs.Entry.{loadedBy, loadSeen};
+ghost use Rattle.list.specs.Blocks.{allBelow, keyOf, isNew, readRules};
+use crate::blocks::body;
+use crate::blocks::byte_at;
+use crate::blocks::is_block;
+use crate::blocks::rest;
+use model::Emitted;
+
+// Whether each byte is below a bound.
+fn all_below(bytes: &[u8], bound: usize) -> bool
+    ensures { λ r. ⌜ r ≡ allBelow bound (now (bytes .entry)) ⌝ }
+{
+    let mut i = 0;
+    while i < bytes.len() {
+        if bound <= byte_at(bytes, i) {
+            return false;
+        }
+        i += 1;
+    }
+    true
+}
+
+// Whether the body of kind 1 is an alphabet: 1 to 64 symbols of at most 4 children.
+fn alphabet_fits(counts: &[u8]) -> bool
+    ensures { λ r. ⌜ r ≡ alphabetFits (now (counts .entry)) ⌝ }
+{
+    if counts.len() < 1 {
+        return false;
+    }
+    if 64 < counts.len() {
+        return false;
+    }
+    all_below(counts, 5)
+}
+
+// Whether the body of kind 2 is at most 32 states, each 0 or 1.
+fn finals_fit(finals: &[u8]) -> bool
+    ensures { λ r. ⌜ r ≡ finalsFit (now (finals .entry)) ⌝ }
+{
+    if 32 < finals.len() {
+        return false;
+    }
+    all_below(finals, 2)
+}
+
+// Whether the body of kind 3 is a known symbol, as many known states as it has children, and a known target.
+fn rule_fits(counts: &[u8], states: usize, body: &[u8]) -> bool
+    ensures { λ r. ⌜ r ≡ ruleBodyFits (now (counts .entry)) states (now (body .entry)) ⌝ }
+{
+    if body.len() < 2 {
+        return false;
+    }
+    let symbol = byte_at(body, 0);
+    if counts.len() <= symbol {
+        return false;
+    }
+    if byte_at(counts, symbol) != body.len() - 2 {
+        return false;
+    }
+    all_below(&body[1..], states)
+}
+
+// The child states in a rule's body: all but its first byte and its last.
+pub fn states_in(body: &[u8]) -> &[u8]
+    ensures { λ r. ⌜ now r ≡ ruleIn (now (body .entry)) .states ⌝ }
+{
+    if body.len() < 2 {
+        return &body[0..0];
+    }
+    let end = body.len() - 1;
+    &body[1..end]
+}
+
+// One number for the left side of the rule in a body: among rules that fit, no two left sides have the same.
+fn key_of(body: &[u8]) -> usize
+    ensures { λ r. ⌜ r ≡ keyOf (ruleIn (now (body .entry))) ⌝ }
+{
+    let states = states_in(body);
+    byte_at(body, 0)
+        + 64 * byte_at(states, 0)
+        + 2048 * byte_at(states, 1)
+        + 65536 * byte_at(states, 2)
+        + 2097152 * byte_at(states, 3)
+}
+
+// Whether a number is among others.
+fn has_key(keys: &[usize], key: usize) -> bool
+    ensures { λ r. ⌜ r ≡ among key (now (keys .entry)) ⌝ }
+{
+    let mut i = 0;
+    while i < keys.len() {
+        if keys[i] == key {
+            return true;
+        }
+        i += 1;
+    }
+    false
+}
+
+// What loading returns of bytes that are no list.
+fn refused() -> Emitted
+    ensures { λ r. ⌜ r ≡ loadedBy broken ⌝ }
+{
+    Emitted {
+        number: 21,
+        size: 0,
+    }
+}
+
+// Whether the next block is a rule that fits, with a left side whose number none of those before it has.
+fn is_rule(counts: &[u8], states: usize, keys: &[usize], at: &[u8]) -> bool
+    ensures { λ r. ⌜ r ≡ isNew (now (counts .entry)) states (now (keys .entry)) (now (at .entry)) ⌝ }
+{
+    if !is_block(at, 3) {
+        return false;
+    }
+    let found = body(at);
+    if !rule_fits(counts, states, found) {
+        return false;
+    }
+    !has_key(keys, key_of(found))
+}
+
+// The rules up to the end of the bytes, each held against the numbers of the left sides before it.
+fn read_rules(counts: &[u8], finals: &[u8], bytes: &[u8]) -> Emitted
+    requires { ⌜ (alphabetFits (now counts) ≡ true) × (finalsFit (now finals) ≡ true) ⌝ }
+    ensures { λ r. ⌜ r ≡ loadedBy (readRules (now (counts .entry)) (now (finals .entry)) (now (bytes .entry))) ⌝ }
+{
+    let states = finals.len();
+    let mut keys = [0usize; 256];
+    let mut at = bytes;
+    let mut count: usize = 0;
+    while 0 < at.len() {
+        if 256 <= count {
+            return refused();
+        }
+        if !is_rule(counts, states, &keys[..count], at) {
+            return refused();
+        }
+        keys[count] = key_of(body(at));
+        let next = rest(at);
+        at = next;
+        count += 1;
+    }
+    Emitted {
+        number: 0,
+        size: count as u32,
+    }
+}
+
+// The states at the head of the bytes, and the rules behind them.
+fn read_finals(counts: &[u8], bytes: &[u8]) -> Emitted
+    requires { ⌜ alphabetFits (now counts) ≡ true ⌝ }
+    ensures { λ r. ⌜ r ≡ loadedBy (readFinals (now (counts .entry)) (now (bytes .entry))) ⌝ }
+{
+    if !is_block(bytes, 2) {
+        return refused();
+    }
+    let finals = body(bytes);
+    if !finals_fit(finals) {
+        return refused();
+    }
+    read_rules(counts, finals, rest(bytes))
+}
+
+// Load (§3.8): the count of rules of bytes that are a list (§6.2), and 21 for all others.
+pub fn load(bytes: &[u8]) -> Emitted
+    ensures { λ r. ⌜ r ≡ loadSeen (now (bytes .entry)) ⌝ }
+{
+    if !is_block(bytes, 1) {
+        return refused();
+    }
+    let counts = body(bytes);
+    if !alphabet_fits(counts) {
+        return refused();
+    }
+    read_finals(counts, rest(bytes))
+}

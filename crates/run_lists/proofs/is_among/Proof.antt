@@ -1,0 +1,65 @@
+-- `run_lists::is_among` meets its contract: it was found, or what is left of the list decides.
+use mathlib.Core.Path.{_≡_, refl, sym, ap, _∙_}
+use mathlib.Core.Logic.{⊎-elim}
+use mathlib.Core.Bool.{Bool, _||_}
+use Prim.Native.Nat.{_+_, _-_, _≤_}
+use native.Mathlib.Omega.{arith}
+use borrow.Author.Needs.{needs}
+use lib.ListN.{take}
+use Rattle.model.specs.Base.{among}
+use Rattle.model.proofs.Laws.Tests.{or-right, or-false}
+use Rattle.run_lists.proofs.Laws.{rest, among-here, among-later, among-end}
+use Rattle.run_lists.proofs.is_among.Statement.{statement}
+use Rattle.run_lists.proofs.is_among.Tie as tie
+
+abbrev Inv-loop : tie.InvT-loop
+Inv-loop xs n x found₀ i₀ found i = (i ≤ n) × (among x (take n xs) ≡ found || among x (rest xs n i))
+
+abbrev μ-loop : tie.MeasureT-loop
+μ-loop xs n x found₀ i₀ found i = n - i
+
+loop-holds : tie.Need-loop-holds Inv-loop μ-loop
+loop-holds c = (omega arith, refl)
+
+mul-if1 : tie.Need-mul-if1 Inv-loop μ-loop
+mul-if1 c = search needs
+
+shared-slice-read-if1 : tie.Need-shared-slice-read-if1 Inv-loop μ-loop
+shared-slice-read-if1 c = search needs
+
+add-i : tie.Need-add-i Inv-loop μ-loop
+add-i c = search needs
+
+loop-less : tie.Need-loop-less Inv-loop μ-loop
+loop-less c = search needs
+
+loop-again : tie.Need-loop-again Inv-loop μ-loop
+loop-again c =
+    let s = c .before .before .before .before in
+    let l = c .before .before .before .loop in (
+      omega arith,
+      ⊎-elim
+          (λ w. l .inv .1 ∙ ap (λ (b : Bool). l .found || b) (among-here (s .args .xs .now) (s .args .n) (l .i) (omega arith) (s .pre) (s .args .x) (w .0 .taken)) ∙ or-right (l .found) refl ∙ sym (ap (λ (b : Bool). b || among (s .args .x) (rest (s .args .xs .now) (s .args .n) (l .i + 1))) (w .1)))
+          (λ w. l .inv .1 ∙ ap (λ (b : Bool). l .found || b) (among-later (s .args .xs .now) (s .args .n) (l .i) (omega arith) (s .pre) (s .args .x) (w .0 .left)) ∙ sym (ap (λ (b : Bool). b || among (s .args .x) (rest (s .args .xs .now) (s .args .n) (l .i + 1))) (w .1)))
+          (c .if1 .came),
+    )
+
+returns : tie.Need-returns Inv-loop μ-loop
+returns c =
+    let s = c .before .before in
+    let l = c .before .loop in
+    sym (l .inv .1 ∙ ap (λ (b : Bool). l .found || b) (among-end (s .args .xs .now) (s .args .n) (l .i) (omega arith) (s .pre) (s .args .x)) ∙ or-false (l .found))
+
+pub is-among-spec : {M : Type 1} → statement M
+is-among-spec =
+    tie.close
+    (tie.spec
+    Inv-loop
+    μ-loop
+    loop-holds
+    mul-if1
+    shared-slice-read-if1
+    add-i
+    loop-less
+    loop-again
+    returns)

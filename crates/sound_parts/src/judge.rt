@@ -1,0 +1,152 @@
+// T2 to T8 (§2.3) in parts, over a record table that T1 has passed.
+ghost use mathlib.Core.Path.{_≡_};
+ghost use mathlib.Core.Bool.{true, false};
+ghost use Prim.Native.Nat.{_*_, _≤_, _<_};
+ghost use lib.ListN.{length, take};
+ghost use Rattle.model.specs.Base.{allAmong};
+ghost use Rattle.bank.specs.Ready.{Ready};
+ghost use Rattle.table.specs.Answers.{Sized, gapFrom, isOpen, Placing, Placed};
+ghost use Rattle.sound_parts.specs.Given.{given, rolesFit, fewFit, tableFits, questionFits};
+use bank::rows;
+use model::Row;
+use table::Gap;
+use table::judge;
+
+// T2, T3, and T4 but for its last clause.
+pub fn roles_fit(
+    words: &[u32],
+    counts: &[u8],
+    used: u16,
+    holes: &[u8],
+    head: &[u16],
+    next: &[u16],
+    mix: &[u32; 5],
+    s: &[u16; 32],
+    states: usize,
+    t: &[u16; 256],
+    rules: usize,
+    c: &[u16; 289],
+    contexts: usize,
+) -> bool
+    requires { ⌜ Ready (now words) (now counts) used (now holes) (now head) (now next) (now mix) × (length (now s) ≡ 32) × (states ≤ 32) × (length (now t) ≡ 256) × (rules ≤ 256) × (length (now c) ≡ 289) × (contexts ≤ 289) ⌝ }
+    ensures { λ r. ⌜ r ≡ rolesFit (given (now (words .entry)) (now (counts .entry)) used (now (s .entry)) states (now (t .entry)) rules (now (c .entry)) contexts 0 0 false) ⌝ }
+{
+    if !sound_roles::transitions::t2(
+        words,
+        counts,
+        used,
+        holes,
+        head,
+        next,
+        mix,
+        t,
+        rules,
+        s,
+        states,
+    ) {
+        return false;
+    }
+    if !sound_roles::t3(s, states, t, rules) {
+        return false;
+    }
+    sound_roles::contexts_fit(used, holes, states + rules, c, contexts)
+}
+
+// The places of S in T.
+pub fn find_places(
+    s: &[u16; 32],
+    states: usize,
+    t: &[u16; 256],
+    rules: usize,
+    places: &mut [u16; 32],
+)
+    requires { ⌜ (length (now s) ≡ 32) × (states ≤ 32) × (length (now t) ≡ 256) × (rules ≤ 256) × (length (now places) ≡ 32) × (allAmong (take states (now s)) (take rules (now t)) ≡ true) ⌝ }
+    ensures { λ _. ⌜ Placing (now (places .exit)) states rules × Placed (now (t .entry)) rules (now (s .entry)) states (now (places .exit)) ⌝ }
+{
+    let mut i = 0;
+    while i < states {
+        let at = run_lists::place_of(t, rules, s[i]);
+        places[i] = at as u16;
+        i += 1;
+    }
+}
+
+// Whether an answer of a transition at a context is missing.
+pub fn is_missing(table: &[u8], rules: usize, contexts: usize) -> bool
+    requires { ⌜ Sized (now table) rules contexts ⌝ }
+    ensures { λ r. ⌜ r ≡ isOpen (gapFrom (now (table .entry)) contexts 0 rules) ⌝ }
+{
+    match table::first_unknown(table, rules, contexts) {
+        Gap::Closed => false,
+        Gap::At(_, _) => true,
+    }
+}
+
+// T4's last clause: how many contexts there may be.
+fn few_fit(states: usize, rules: usize, contexts: usize, missing: bool) -> bool
+    requires { ⌜ (states ≤ 32) × (rules ≤ 256) ⌝ }
+    ensures { λ r. ⌜ r ≡ fewFit states rules contexts missing ⌝ }
+{
+    if missing {
+        return true;
+    }
+    if states + rules == 0 {
+        return contexts <= 1;
+    }
+    contexts <= states + rules
+}
+
+// T4's last clause, T5 and T6.
+pub fn table_fits(
+    table: &[u8],
+    places: &[u16; 32],
+    states: usize,
+    rules: usize,
+    contexts: usize,
+    missing: bool,
+) -> bool
+    requires { ⌜ Sized (now table) rules contexts × Placing (now places) states rules ⌝ }
+    ensures { λ r. ⌜ r ≡ tableFits (now (table .entry)) (now (places .entry)) states rules contexts missing ⌝ }
+{
+    if !few_fit(states, rules, contexts, missing) {
+        return false;
+    }
+    if !judge::all_differ(table, rules, contexts, places, states) {
+        return false;
+    }
+    if !judge::all_yes(table, rules, contexts) {
+        return false;
+    }
+    if missing {
+        return true;
+    }
+    judge::all_once(table, rules, contexts, places, states)
+}
+
+// T8: the open question, or none.
+pub fn question_fits(
+    words: &[u32],
+    used: u16,
+    holes: &[u8],
+    hand: u16,
+    asked: u16,
+    accepted: u8,
+    missing: bool,
+) -> bool
+    requires { ⌜ (used ≤ length (now holes)) × (6 * used ≤ length (now words)) ⌝ }
+    ensures { λ r. ⌜ r ≡ questionFits (now (words .entry)) (now (holes .entry)) used hand asked accepted missing ⌝ }
+{
+    if asked == 0 {
+        if hand != 0 {
+            return false;
+        }
+        return !missing;
+    }
+    if !sound_roles::is_record(used, holes, Row(asked)) {
+        return false;
+    }
+    if rows::answer_of(words, Row(asked)) != 0 {
+        return false;
+    }
+    accepted != 1
+}

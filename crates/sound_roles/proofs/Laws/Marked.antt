@@ -1,0 +1,55 @@
+-- Over a record table that is ready the marks say which rows are records and contexts, and the tests by marks are those of T2 and T4.
+-- A mark says whether a used row has a hole; past the used rows both tests are false.
+use mathlib.Core.Path.{_≡_, refl, sym, ap, _∙_}
+use mathlib.Core.Bool.{Bool, true, false, _&&_, not}
+use mathlib.Core.List.{List}
+use Prim.Native.Nat.{ℕ, _≤_, _<_}
+use native.Mathlib.Omega.{arith}
+use borrow.Author.Tests.{ltb-true}
+use lib.Dec.{ltb}
+use lib.ListN.{length, getD, take}
+use lib.Seq.{getD-take, length-take-le}
+use Rattle.model.specs.Base.{all}
+use Rattle.model.specs.Store.{used, hasHole, isRecord, isContext}
+use Rattle.model.specs.Table.{Tables, size}
+use Rattle.model.specs.Sound.{contextsFit}
+use Rattle.model.specs.Entry.{storeOf}
+use Rattle.model.proofs.Laws.Tests.{all-getD}
+use Rattle.model.proofs.Laws.ReflectLists.{record-of}
+use Rattle.bank.specs.Ready.{Ready}
+use Rattle.bank_t1.specs.Pass.{holeBy}
+use Rattle.bank.proofs.Laws.Words.{used-of}
+use Rattle.bank_t1.proofs.Laws.T1.{hole-ready}
+use Rattle.sound_roles.specs.Marked.{recordBy, contextBy, recordsBy, contextsBy, contextsFitBy}
+
+module _ {ws ns : List ℕ} {n : ℕ} {hs head next mix : List ℕ} (r : Ready ws ns n hs head next mix) where
+  -- a test of a row's hole, behind the test that it is used
+  guarded : (f : Bool → Bool) (i : ℕ) → ltb i n && f (holeBy hs i) ≡ ltb i (used (storeOf ws ns n)) && f (hasHole (storeOf ws ns n) i)
+  guarded f i = go (ltb i n) refl ∙ ap (λ (m : ℕ). ltb i m && f (hasHole (storeOf ws ns n) i)) (sym (used-of ws ns n))
+    where
+      go : (b : Bool) → ltb i n ≡ b → b && f (holeBy hs i) ≡ b && f (hasHole (storeOf ws ns n) i)
+      go true e = ap f (hole-ready r i (ltb-true i n e))
+      go false e = refl
+
+  pub record-ready : (i : ℕ) → recordBy hs n i ≡ isRecord (storeOf ws ns n) i
+  record-ready = guarded not
+
+  pub context-ready : (i : ℕ) → contextBy hs n i ≡ isContext (storeOf ws ns n) i
+  context-ready = guarded (λ (b : Bool). b)
+
+  pub records-ready : (rows : List ℕ) → recordsBy hs n rows ≡ all (isRecord (storeOf ws ns n)) rows
+  records-ready rows = λ i. all (λ (k : ℕ). record-ready k i) rows
+
+  pub contexts-ready : (rows : List ℕ) → contextsBy hs n rows ≡ all (isContext (storeOf ws ns n)) rows
+  contexts-ready rows = λ i. all (λ (k : ℕ). context-ready k i) rows
+
+  -- the first m of a list that are records: each is a used row beyond row 0
+  pub record-at : (t : List ℕ) (m : ℕ) → m ≤ length t → all (isRecord (storeOf ws ns n)) (take m t) ≡ true → (k : ℕ) → k < m → (0 < getD t k 0) × (getD t k 0 < n)
+  record-at t m h e k l =
+      let z = length-take-le m t h in
+      let a = record-of (storeOf ws ns n) (getD (take m t) k 0) (all-getD (isRecord (storeOf ws ns n)) (take m t) k 0 e (omega arith)) in
+      let g = getD-take m t k 0 l in
+      (omega (arith, a .some), omega (arith, a .within, used-of ws ns n))
+
+  pub contexts-fit-ready : (x : Tables) → x .store ≡ storeOf ws ns n → contextsFitBy hs n (size x) (x .c) ≡ contextsFit x
+  contexts-fit-ready x e = rw (contexts-ready (x .c), e) refl

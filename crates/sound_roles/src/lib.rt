@@ -1,0 +1,98 @@
+// What S, T and C are made of (§2.3), over a record table that T1 has passed: T2, T3, and T4 but for its last clause.
+// Each function is equal to a definition over the marks of holes; proofs/Laws say that these are model's.
+ghost use mathlib.Core.Path.{_≡_};
+ghost use mathlib.Core.Bool.{_&&_};
+ghost use Prim.Native.Nat.{_+_, _<_, _≤_};
+ghost use lib.ListN.{length, take};
+ghost use Rattle.model.specs.Base.{noRepeats, allAmong};
+ghost use Rattle.sound_roles.specs.Marked.{recordBy, contextBy, recordsBy, contextsBy, contextsFitBy};
+use model::Row;
+
+pub mod transitions; // transitions.rt: T2
+
+// Whether a number is that of a used row without a hole.
+pub fn is_record(used: u16, holes: &[u8], row: Row) -> bool
+    requires { ⌜ used ≤ length (now holes) ⌝ }
+    ensures { λ r. ⌜ r ≡ recordBy (now (holes .entry)) used (row .0) ⌝ }
+{
+    let i = row.0;
+    if used <= i {
+        return false;
+    }
+    !bank_t1::has_hole(holes, row)
+}
+
+// Whether a number is that of a used row with a hole.
+pub fn is_context(used: u16, holes: &[u8], row: Row) -> bool
+    requires { ⌜ used ≤ length (now holes) ⌝ }
+    ensures { λ r. ⌜ r ≡ contextBy (now (holes .entry)) used (row .0) ⌝ }
+{
+    let i = row.0;
+    if used <= i {
+        return false;
+    }
+    bank_t1::has_hole(holes, row)
+}
+
+// Whether the first n of a list are all records.
+pub fn all_records(used: u16, holes: &[u8], xs: &[u16], n: usize) -> bool
+    requires { ⌜ (used ≤ length (now holes)) × (n ≤ length (now xs)) ⌝ }
+    ensures { λ r. ⌜ r ≡ recordsBy (now (holes .entry)) used (take n (now (xs .entry))) ⌝ }
+{
+    let mut i = 0;
+    while i < n {
+        let row = Row(xs[i]);
+        if !is_record(used, holes, row) {
+            return false;
+        }
+        i += 1;
+    }
+    true
+}
+
+// Whether the first n of a list are all contexts.
+pub fn all_contexts(used: u16, holes: &[u8], xs: &[u16], n: usize) -> bool
+    requires { ⌜ (used ≤ length (now holes)) × (n ≤ length (now xs)) ⌝ }
+    ensures { λ r. ⌜ r ≡ contextsBy (now (holes .entry)) used (take n (now (xs .entry))) ⌝ }
+{
+    let mut i = 0;
+    while i < n {
+        let row = Row(xs[i]);
+        if !is_context(used, holes, row) {
+            return false;
+        }
+        i += 1;
+    }
+    true
+}
+
+// T3 but for the length of S: none twice, all of them transitions.
+pub fn t3(s: &[u16], states: usize, t: &[u16], rules: usize) -> bool
+    requires { ⌜ (states ≤ length (now s)) × (rules ≤ length (now t)) ⌝ }
+    ensures { λ r. ⌜ r ≡ noRepeats (take states (now (s .entry))) && allAmong (take states (now (s .entry))) (take rules (now (t .entry))) ⌝ }
+{
+    if !run_lists::no_repeats(s, states) {
+        return false;
+    }
+    run_lists::all_among(s, states, t, rules)
+}
+
+// T4 but for its last clause: row 0 first, contexts, none twice, at most one more than S and T have members.
+pub fn contexts_fit(used: u16, holes: &[u8], size: usize, c: &[u16], n: usize) -> bool
+    requires { ⌜ (used ≤ length (now holes)) × (n ≤ length (now c)) × (size < 1000) ⌝ }
+    ensures { λ r. ⌜ r ≡ contextsFitBy (now (holes .entry)) used size (take n (now (c .entry))) ⌝ }
+{
+    if n == 0 {
+        return false;
+    }
+    if c[0] != 0 {
+        return false;
+    }
+    if !all_contexts(used, holes, c, n) {
+        return false;
+    }
+    if !run_lists::no_repeats(c, n) {
+        return false;
+    }
+    n <= 1 + size
+}

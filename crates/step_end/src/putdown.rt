@@ -1,0 +1,73 @@
+// The record in hand is put down (§4.1): the context around its spot is added, to C too if it is absent there.
+ghost use mathlib.Core.Path.{_≡_};
+ghost use Prim.Native.Nat.{_*_, _≤_, _<_};
+ghost use lib.ListN.{length};
+ghost use Rattle.model.specs.Limits.{mostContexts};
+ghost use Rattle.model.specs.Facts.{IsRecord, Fits};
+ghost use Rattle.model.specs.Steps.{putDown};
+ghost use Rattle.model.specs.Entry.{tablesOf};
+ghost use Rattle.bank.specs.Ready.{pathOf};
+ghost use Rattle.step_end.specs.Stepping.{Stepping, EndedAs, withContext};
+use crate::finish;
+use crate::finish::Stepped;
+use bank_fill::add;
+use bank_fill::add::Grown;
+use model::Lists;
+use model::Row;
+
+// The lists with a context, appended if it is absent, and nothing in hand.
+fn with_context(lists: Lists, context: Row, used: u16) -> Lists
+    requires { ⌜ lists .contexts < 289 ⌝ }
+    ensures { λ r. ⌜ r ≡ withContext lists (context .0) used ⌝ }
+{
+    let mut left = lists;
+    left.used = used;
+    left.hand = 0;
+    left.asked = 0;
+    left.accepted = 0;
+    let c = lists.c;
+    let n = lists.contexts;
+    if !run_lists::is_among(&c, n as usize, context.0) {
+        left.c[n as usize] = context.0;
+        left.contexts = n + 1;
+    }
+    left
+}
+
+// Put down along the way down from the record to its spot, then on as with nothing in hand; the table of answers is forgotten.
+pub fn put_down(
+    words: &mut [u32],
+    lists: Lists,
+    holes: &mut [u8],
+    head: &mut [u16],
+    next: &mut [u16],
+    mix: &[u32; 5],
+    table: &mut [u8],
+    down: &[u8],
+    hand: Row,
+) -> Stepped
+    requires { ⌜ Stepping (now words) lists (now holes) (now head) (now next) (now mix) × (mostContexts * lists .rules ≤ length (now table)) × (lists .used ≤ length (now down)) × (lists .contexts < 289) × IsRecord (tablesOf (now words) lists .store) (hand .0) × Fits (tablesOf (now words) lists .store) (pathOf (now down) (tablesOf (now words) lists .store) (hand .0)) ⌝ }
+    ensures { λ r. ⌜ EndedAs (now (words .entry)) lists (putDown (tablesOf (now (words .entry)) lists) (pathOf (now (down .entry)) (tablesOf (now (words .entry)) lists .store) (hand .0))) r (now (words .exit)) ⌝ }
+{
+    let letters = lists.letters as usize;
+    let counts = lists.counts;
+    match add::fill(
+        words,
+        &counts[..letters],
+        lists.used,
+        holes,
+        head,
+        next,
+        mix,
+        down,
+        hand,
+        Row(0),
+    ) {
+        Grown::Full => finish::short(34, lists),
+        Grown::At(context, n) => {
+            let left = with_context(lists, context, n);
+            table::forget(table, left.rules as usize);
+            finish::finish(words, left, holes, head, next, mix, table)
+        }
+    }
+}

@@ -1,0 +1,158 @@
+-- Where the search with a record in hand ended: the record then in hand, the row at its spot and the way down to it, as the next step needs them.
+-- The search ends at a record that the proposal gets wrong; the arrays made on the way hold the spot and the way down of every row.
+use mathlib.Core.Path.{_≡_, sym, ap, subst, _∙_}
+use mathlib.Core.List.{List}
+use Prim.Native.Nat.{ℕ, _≤_, _<_}
+use native.Mathlib.Omega.{arith}
+use lib.ListN.{length, getD}
+use Rattle.model.specs.Limits.{mostRows}
+use Rattle.model.specs.Base.{In}
+use Rattle.model.specs.Store.{Store, Spot, spotOf, fill}
+use Rattle.model.specs.Table.{Tables}
+use Rattle.model.specs.Steps.{atNewTransition, atUnknown, atDifference, search, opened, putDown, searched, advance}
+use Rattle.model.specs.Facts.{IsRecord, Fits}
+use Rattle.model.specs.TableFacts.{SearchEnd, ends-new, ends-unknown, ends-different}
+use Rattle.model.specs.Entry.{tablesOf}
+use Rattle.model.specs.declared.Lists.{Lists}
+use Rattle.model.specs.declared.Row.{Row}
+use Rattle.model.proofs.Laws.Search.{in-hand-ends}
+use Rattle.model.proofs.Laws.Unchanged.{full-of}
+use Rattle.model.proofs.Laws.Step.{held-advance}
+use Rattle.bank.specs.Ready.{pathOf}
+use Rattle.bank.proofs.Laws.Words.{used-of}
+use Rattle.step_search.specs.declared.Found.{Found}
+use Rattle.step_search.specs.Spots.{Descended, searchBy}
+use Rattle.step_search.proofs.Laws.Steps.{path-around, path-fits}
+use Rattle.step_search.proofs.Laws.Reps.{reps-rows}
+use Rattle.step_search.proofs.Laws.Descent.{down-rows, at-rows}
+use Rattle.step_end.specs.declared.finish.Stepped.{Stepped}
+use Rattle.step_end.specs.Stepping.{Stepping, InHand, countsIn}
+use Rattle.step_found.proofs.Laws.Advanced.{Ends, ends-by, handed}
+
+-- the record in hand and the row at its spot are records, and a representative is one of S
+record EndRows (x : Store) (h : ℕ) (p : Spot) : Type 0 where
+  pub record-row : IsRecord x h
+  pub spot-row : IsRecord x (p .row)
+
+module _ {x : Store} {w s t cs : List ℕ} {h : ℕ} {p : Spot} where
+  end-new : SearchEnd x w s t cs (atNewTransition h p) → EndRows x h p
+  end-new (ends-new a o n y) = record { record-row = a .record-row; spot-row = o .record-row }
+
+  end-unknown : {rep : ℕ} → SearchEnd x w s t cs (atUnknown h p rep) → EndRows x h p × In rep s
+  end-unknown (ends-unknown a o n m y z) = (record { record-row = a .record-row; spot-row = o .record-row }, m)
+
+  end-different : {rep j : ℕ} → SearchEnd x w s t cs (atDifference h p rep j) → EndRows x h p
+  end-different (ends-different a o n m y d u v) = record { record-row = a .record-row; spot-row = o .record-row }
+
+-- THE END OF THE SEARCH
+pub record Ending (ws : List ℕ) (l : Lists) (hs head next mix reps ds at ex : List ℕ) (f : Found) : Type 0 where
+  pub stepping : Stepping ws l hs head next mix
+  pub hand : InHand ws l reps
+  pub descended : Descended (tablesOf ws l .s) reps (tablesOf ws l .store) ds at ex (l .used)
+  pub end : searchBy (tablesOf ws l .s) reps (tablesOf ws l .store) f ≡
+      search (tablesOf ws l .store) (tablesOf ws l .answers) (tablesOf ws l .s) (tablesOf ws l .t) (tablesOf ws l .c) (l .hand)
+
+-- the record in hand then, and the row at its spot
+pub record Held (ws : List ℕ) (l : Lists) (ds at : List ℕ) (h : ℕ) : Type 0 where
+  pub record-row : IsRecord (tablesOf ws l .store) h
+  pub spot-row : IsRecord (tablesOf ws l .store) (getD at h 0)
+  pub low : h < l .used
+  pub spot-low : getD at h 0 < l .used
+  pub spot-small : getD at h 0 < mostRows
+  pub spot-is : getD at h 0 ≡ spotOf (tablesOf ws l .s) (tablesOf ws l .store) h .row
+  pub around : pathOf ds (tablesOf ws l .store) h ≡ spotOf (tablesOf ws l .s) (tablesOf ws l .store) h .around
+  pub fits : Fits (tablesOf ws l .store) (pathOf ds (tablesOf ws l .store) h)
+
+module _ {ws : List ℕ} {l : Lists} {hs head next mix reps ds at ex : List ℕ} {f : Found} (q : Ending ws l hs head next mix reps ds at ex f) where
+  ends-as : {g : Found} → f ≡ g → SearchEnd (tablesOf ws l .store) (tablesOf ws l .answers) (tablesOf ws l .s) (tablesOf ws l .t) (tablesOf ws l .c) (searchBy (tablesOf ws l .s) reps (tablesOf ws l .store) g)
+  ends-as {g} e =
+      let x : Tables = tablesOf ws l in
+      subst (SearchEnd (x .store) (x .answers) (x .s) (x .t) (x .c)) (sym (q .end) ∙ ap (searchBy (x .s) reps (x .store)) e)
+      (in-hand-ends (x .store) (x .answers) (x .s) (x .t) (x .c) (full-of x (q .hand .whole)) (l .hand) (q .hand .fits))
+
+  row-low : {i : ℕ} → IsRecord (tablesOf ws l .store) i → i < l .used
+  row-low {i} z = omega (arith, z .within, used-of ws (countsIn l) (l .used))
+
+  row-small : {i : ℕ} → IsRecord (tablesOf ws l .store) i → i < mostRows
+  row-small {i} z = omega (arith, row-low z, q .stepping .ready .finding .few)
+
+  held : (h : ℕ) → EndRows (tablesOf ws l .store) h (spotOf (tablesOf ws l .s) (tablesOf ws l .store) h) → Held ws l ds at h
+  held h z =
+      let n = used-of ws (countsIn l) (l .used) in
+      let g = q .stepping .ready .good in
+      let b = row-low (z .record-row) in
+      let e = q .descended .at-is h b in
+      let spot = subst (IsRecord (tablesOf ws l .store)) (sym e) (z .spot-row) in
+      record {
+        record-row = z .record-row;
+        spot-row = spot;
+        low = b;
+        spot-low = row-low spot;
+        spot-small = row-small spot;
+        spot-is = e;
+        around = path-around g (q .descended) (omega (arith, n)) h b;
+        fits = path-fits g (q .descended) (omega (arith, n)) h b (z .record-row);
+      }
+
+  -- entries that the arrays have
+  pub in-at : {h : ℕ} → Held ws l ds at h → h < length at
+  in-at z = omega (arith, z .low, at-rows ws (countsIn l) (l .used) (q .descended))
+
+  pub in-reps : {h : ℕ} → Held ws l ds at h → getD at h 0 < length reps
+  in-reps z = omega (arith, z .spot-low, reps-rows ws (countsIn l) (l .used) (q .hand .handling))
+
+  pub down-used : l .used ≤ length ds
+  down-used = down-rows ws (countsIn l) (l .used) (q .descended)
+
+  -- at a row that is no transition
+  module _ {h : Row} (e : f ≡ Found.NewTransition h) where
+    pub held-new : Held ws l ds at (h .0)
+    held-new = held (h .0) (end-new (ends-as e))
+
+    pub ended-new : (r : Stepped) (us : List ℕ) →
+        Ends ws l (searched (tablesOf ws l) (atNewTransition (h .0) (record { row = getD at (h .0) 0; around = pathOf ds (tablesOf ws l .store) (h .0) }))) r us →
+        Ends ws l (searched (tablesOf ws l) (searchBy (tablesOf ws l .s) reps (tablesOf ws l .store) f)) r us
+    ended-new r us d =
+        let x : Tables = tablesOf ws l in
+        let p : atNewTransition (h .0) (spotOf (x .s) (x .store) (h .0)) ≡ atNewTransition (h .0) (record { row = getD at (h .0) 0; around = pathOf ds (x .store) (h .0) }) =
+        λ i. atNewTransition (h .0) (record { row = sym (held-new .spot-is) i; around = sym (held-new .around) i }) in
+        ends-by (ap (λ (k : Found). searched x (searchBy (x .s) reps (x .store) k)) e ∙ ap (searched x) p) d
+
+  -- at an unknown answer
+  module _ {h : Row} (e : f ≡ Found.Unknown h) where
+    pub held-unknown : Held ws l ds at (h .0)
+    held-unknown = held (h .0) (end-unknown (ends-as e) .0)
+
+    pub rep-low : getD reps (getD at (h .0) 0) 0 < l .used
+    rep-low =
+        let o = q .stepping .orderly in
+        let i : ℕ = getD reps (spotOf (tablesOf ws l .s) (tablesOf ws l .store) (h .0) .row) 0 in
+        let z = row-low (o .row i (o .among i (end-unknown (ends-as e) .1))) in
+        subst (λ (j : ℕ). getD reps j 0 < l .used) (sym (held-unknown .spot-is)) z
+
+    pub ended-unknown : (r : Stepped) (us : List ℕ) →
+        Ends ws l (opened (handed ws l (h .0)) (fill (tablesOf ws l .store) (pathOf ds (tablesOf ws l .store) (h .0)) (getD reps (getD at (h .0) 0) 0))) r us →
+        Ends ws l (searched (tablesOf ws l) (searchBy (tablesOf ws l .s) reps (tablesOf ws l .store) f)) r us
+    ended-unknown r us d =
+        let x : Tables = tablesOf ws l in
+        ends-by
+        (ap (λ (k : Found). searched x (searchBy (x .s) reps (x .store) k)) e ∙
+        (λ i. opened (handed ws l (h .0)) (fill (x .store) (sym (held-unknown .around) i) (getD reps (sym (held-unknown .spot-is) i) 0))))
+        d
+
+  -- at an answer that differs
+  module _ {h : Row} (e : f ≡ Found.Difference h) where
+    pub held-different : Held ws l ds at (h .0)
+    held-different = held (h .0) (end-different (ends-as e))
+
+    pub ended-different : (r : Stepped) (us : List ℕ) → Ends ws l (putDown (tablesOf ws l) (pathOf ds (tablesOf ws l .store) (h .0))) r us →
+        Ends ws l (searched (tablesOf ws l) (searchBy (tablesOf ws l .s) reps (tablesOf ws l .store) f)) r us
+    ended-different r us d =
+        let x : Tables = tablesOf ws l in
+        ends-by (ap (λ (k : Found). searched x (searchBy (x .s) reps (x .store) k)) e ∙ ap (putDown x) (sym (held-different .around))) d
+
+-- the step with a record in hand is what the end of its search asks for
+pub ended-hand : (ws : List ℕ) (l : Lists) (reps : List ℕ) (f : Found) → (l .hand ≡ 0 → ⊥) →
+    searchBy (tablesOf ws l .s) reps (tablesOf ws l .store) f ≡ search (tablesOf ws l .store) (tablesOf ws l .answers) (tablesOf ws l .s) (tablesOf ws l .t) (tablesOf ws l .c) (l .hand) →
+    (r : Stepped) (us : List ℕ) → Ends ws l (searched (tablesOf ws l) (searchBy (tablesOf ws l .s) reps (tablesOf ws l .store) f)) r us → Ends ws l (advance (tablesOf ws l)) r us
+ended-hand ws l reps f n e r us d = ends-by (held-advance (tablesOf ws l) n ∙ ap (searched (tablesOf ws l)) (sym e)) d

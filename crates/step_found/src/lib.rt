@@ -1,0 +1,125 @@
+// What the search with a record in hand found (§4.1): a record to ask about, a transition that is missing, or answers that differ.
+// Each end mirrors its definition in model's Steps.
+ghost use mathlib.Core.Path.{_≡_};
+ghost use Prim.Native.Nat.{_+_, _*_, _≤_, _<_};
+ghost use lib.ListN.{length};
+ghost use Rattle.model.specs.Limits.{mostContexts};
+ghost use Rattle.model.specs.Facts.{IsRecord, Fits};
+ghost use Rattle.model.specs.Steps.{search, searched, atNewTransition, atUnknown};
+ghost use Rattle.model.specs.Entry.{tablesOf};
+ghost use Rattle.bank.specs.Ready.{pathOf};
+ghost use Rattle.step_search.specs.Spots.{Descended, searchBy};
+ghost use Rattle.step_end.specs.Stepping.{Stepping, InHand, EndedAs, withRule};
+use bank_fill::add;
+use bank_fill::add::Grown;
+use model::Lists;
+use model::Row;
+use step_end::finish;
+use step_end::finish::Stepped;
+use step_end::putdown;
+use step_search::Found;
+
+// The lists with a transition appended.
+fn with_rule(lists: Lists, row: Row) -> Lists
+    requires { ⌜ lists .rules < 256 ⌝ }
+    ensures { λ r. ⌜ r ≡ withRule lists (row .0) ⌝ }
+{
+    let mut left = lists;
+    let n = lists.rules;
+    left.t[n as usize] = row.0;
+    left.rules = n + 1;
+    left
+}
+
+// The row at the spot is no transition: it becomes one, and the record is put down.
+fn new_transition(
+    words: &mut [u32],
+    lists: Lists,
+    holes: &mut [u8],
+    head: &mut [u16],
+    next: &mut [u16],
+    mix: &[u32; 5],
+    table: &mut [u8],
+    down: &[u8],
+    hand: Row,
+    spot: Row,
+) -> Stepped
+    requires { ⌜ Stepping (now words) lists (now holes) (now head) (now next) (now mix) × (mostContexts * (lists .rules + 1) ≤ length (now table)) × (lists .used ≤ length (now down)) × (lists .contexts < 289) × IsRecord (tablesOf (now words) lists .store) (hand .0) × IsRecord (tablesOf (now words) lists .store) (spot .0) × Fits (tablesOf (now words) lists .store) (pathOf (now down) (tablesOf (now words) lists .store) (hand .0)) ⌝ }
+    ensures { λ r. ⌜ EndedAs (now (words .entry)) lists (searched (tablesOf (now (words .entry)) lists) (atNewTransition (hand .0) (record { row = spot .0; around = pathOf (now (down .entry)) (tablesOf (now (words .entry)) lists .store) (hand .0) }))) r (now (words .exit)) ⌝ }
+{
+    if lists.rules == 256 {
+        return finish::short(36, lists);
+    }
+    let left = with_rule(lists, spot);
+    putdown::put_down(words, left, holes, head, next, mix, table, down, hand)
+}
+
+// The answer with the representative in the spot's place is unknown: it is asked.
+fn ask_exchanged(
+    words: &mut [u32],
+    lists: Lists,
+    holes: &mut [u8],
+    head: &mut [u16],
+    next: &mut [u16],
+    mix: &[u32; 5],
+    down: &[u8],
+    hand: Row,
+    rep: Row,
+) -> Stepped
+    requires { ⌜ Stepping (now words) lists (now holes) (now head) (now next) (now mix) × (lists .used ≤ length (now down)) × IsRecord (tablesOf (now words) lists .store) (hand .0) × (rep .0 < lists .used) × Fits (tablesOf (now words) lists .store) (pathOf (now down) (tablesOf (now words) lists .store) (hand .0)) ⌝ }
+    ensures { λ r. ⌜ EndedAs (now (words .entry)) lists (searched (tablesOf (now (words .entry)) lists) (atUnknown (hand .0) (record { row = 0; around = pathOf (now (down .entry)) (tablesOf (now (words .entry)) lists .store) (hand .0) }) (rep .0))) r (now (words .exit)) ⌝ }
+{
+    let letters = lists.letters as usize;
+    let counts = lists.counts;
+    match add::fill(
+        words,
+        &counts[..letters],
+        lists.used,
+        holes,
+        head,
+        next,
+        mix,
+        down,
+        hand,
+        rep,
+    ) {
+        Grown::Full => finish::short(34, lists),
+        Grown::At(row, n) => Stepped {
+            number: 0,
+            lists: finish::asking(lists, hand.0, row, n),
+        },
+    }
+}
+
+// Where the search ended, the record is asked about or put down.
+pub fn ended_at(
+    words: &mut [u32],
+    lists: Lists,
+    holes: &mut [u8],
+    head: &mut [u16],
+    next: &mut [u16],
+    mix: &[u32; 5],
+    table: &mut [u8],
+    reps: &[u16],
+    down: &[u8],
+    at: &[u16],
+    exchanged: &[u16],
+    found: Found,
+) -> Stepped
+    requires { ⌜ Stepping (now words) lists (now holes) (now head) (now next) (now mix) × (mostContexts * (lists .rules + 1) ≤ length (now table)) × InHand (now words) lists (now reps) × Descended (tablesOf (now words) lists .s) (now reps) (tablesOf (now words) lists .store) (now down) (now at) (now exchanged) (lists .used) × (searchBy (tablesOf (now words) lists .s) (now reps) (tablesOf (now words) lists .store) found ≡ search (tablesOf (now words) lists .store) (tablesOf (now words) lists .answers) (tablesOf (now words) lists .s) (tablesOf (now words) lists .t) (tablesOf (now words) lists .c) (lists .hand)) ⌝ }
+    ensures { λ r. ⌜ EndedAs (now (words .entry)) lists (searched (tablesOf (now (words .entry)) lists) (searchBy (tablesOf (now (words .entry)) lists .s) (now (reps .entry)) (tablesOf (now (words .entry)) lists .store) found)) r (now (words .exit)) ⌝ }
+{
+    match found {
+        Found::NewTransition(h) => {
+            let spot = Row(at[h.0 as usize]);
+            new_transition(words, lists, holes, head, next, mix, table, down, h, spot)
+        }
+        Found::Unknown(h) => {
+            let rep = Row(reps[at[h.0 as usize] as usize]);
+            ask_exchanged(words, lists, holes, head, next, mix, down, h, rep)
+        }
+        Found::Difference(h) => {
+            putdown::put_down(words, lists, holes, head, next, mix, table, down, h)
+        }
+    }
+}

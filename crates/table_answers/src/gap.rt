@@ -1,0 +1,198 @@
+// The table of answers up to the first transition with a gap (§1.5), if there is one, with arrays as long as the used rows need.
+// A row lent without an unknown answer is right and stays; any other is read off its column again, and one that still has a gap ends it.
+ghost use mathlib.Core.Path.{_≡_};
+ghost use Prim.Native.Nat.{_+_, _<_, _≤_};
+ghost use lib.ListN.{length, getD};
+ghost use Rattle.model.specs.Base.{among};
+ghost use Rattle.model.specs.Entry.{storeOf, answersIn};
+ghost use Rattle.bank.specs.Ready.{Ready};
+ghost use Rattle.table.specs.Answers.{rowAt, Observed, KnownRows, ToGap};
+ghost use Rattle.table_columns.specs.Columns.{HoledRows, Answered, Contexts, Used};
+use crate::FEW;
+use crate::SOME;
+
+// The k-th row of the table, worked out again if it has an unknown answer, and else as it is: whether it has one then.
+fn update_row(
+    words: &[u32],
+    counts: &[u8],
+    used: u16,
+    holes: &[u8],
+    head: &[u16],
+    next: &[u16],
+    mix: &[u32; 5],
+    list: &[u16],
+    n: u16,
+    t: &[u16; 256],
+    rules: usize,
+    k: usize,
+    c: &[u16; 289],
+    contexts: usize,
+    filled: &mut [u16],
+    table: &mut [u8],
+) -> bool
+    requires { ⌜ Ready (now words) (now counts) used (now holes) (now head) (now next) (now mix) × Answered (now words) used × HoledRows (now holes) used (now list) n × (length (now t) ≡ 256) × (k < rules) × (getD (now t) k 0 < used) × Contexts (storeOf (now words) (now counts) used) (now c) contexts × (length (now c) ≡ 289) × (used ≤ length (now filled)) × Observed (storeOf (now words) (now counts) used) (answersIn used (now words)) (now t) k (now c) contexts (now table) × KnownRows (storeOf (now words) (now counts) used) (answersIn used (now words)) (now t) rules (now c) contexts (now table) ⌝ }
+    ensures { λ r. ⌜ Observed (storeOf (now (words .entry)) (now (counts .entry)) used) (answersIn used (now (words .entry))) (now (t .entry)) (k + 1) (now (c .entry)) contexts (now (table .exit)) × KnownRows (storeOf (now (words .entry)) (now (counts .entry)) used) (answersIn used (now (words .entry))) (now (t .entry)) rules (now (c .entry)) contexts (now (table .exit)) × (length (now (filled .exit)) ≡ length (now (filled .entry))) × (r ≡ among 0 (rowAt (now (table .exit)) contexts k)) ⌝ }
+{
+    if !table::has_answer(table, contexts, k, 0) {
+        return false;
+    }
+    table_columns::observe_row(
+        words,
+        counts,
+        used,
+        holes,
+        head,
+        next,
+        mix,
+        list,
+        n,
+        t,
+        k,
+        c,
+        contexts,
+        filled,
+        table,
+    );
+    table::has_answer(table, contexts, k, 0)
+}
+
+// The answers up to the first transition with an unknown one, if there is one, into the table: how many transitions have their answers.
+// In the table lent a row without an unknown answer is right, and stays as it is.
+pub fn gap_with(
+    words: &[u32],
+    counts: &[u8],
+    used: u16,
+    holes: &[u8],
+    head: &[u16],
+    next: &[u16],
+    mix: &[u32; 5],
+    t: &[u16; 256],
+    rules: usize,
+    c: &[u16; 289],
+    contexts: usize,
+    table: &mut [u8],
+    list: &mut [u16],
+    filled: &mut [u16],
+) -> usize
+    requires { ⌜ Ready (now words) (now counts) used (now holes) (now head) (now next) (now mix) × Answered (now words) used × Used used (now t) rules × (length (now t) ≡ 256) × (rules ≤ 256) × Contexts (storeOf (now words) (now counts) used) (now c) contexts × (length (now c) ≡ 289) × (contexts ≤ 289) × KnownRows (storeOf (now words) (now counts) used) (answersIn used (now words)) (now t) rules (now c) contexts (now table) × (used ≤ length (now list)) × (used ≤ length (now filled)) ⌝ }
+    ensures { λ r. ⌜ ToGap (storeOf (now (words .entry)) (now (counts .entry)) used) (answersIn used (now (words .entry))) (now (t .entry)) rules (now (c .entry)) contexts (now (table .exit)) r ⌝ }
+{
+    let n = table_columns::holed_rows(used, holes, list);
+    let mut k = 0;
+    while k < rules {
+        if update_row(
+            words,
+            counts,
+            used,
+            holes,
+            head,
+            next,
+            mix,
+            list,
+            n,
+            t,
+            rules,
+            k,
+            c,
+            contexts,
+            filled,
+            table,
+        ) {
+            return k + 1;
+        }
+        k += 1;
+    }
+    rules
+}
+
+// The same where few rows are used.
+fn gap_few(
+    words: &[u32],
+    counts: &[u8],
+    used: u16,
+    holes: &[u8],
+    head: &[u16],
+    next: &[u16],
+    mix: &[u32; 5],
+    t: &[u16; 256],
+    rules: usize,
+    c: &[u16; 289],
+    contexts: usize,
+    table: &mut [u8],
+) -> usize
+    requires { ⌜ Ready (now words) (now counts) used (now holes) (now head) (now next) (now mix) × Answered (now words) used × Used used (now t) rules × (length (now t) ≡ 256) × (rules ≤ 256) × Contexts (storeOf (now words) (now counts) used) (now c) contexts × (length (now c) ≡ 289) × (contexts ≤ 289) × KnownRows (storeOf (now words) (now counts) used) (answersIn used (now words)) (now t) rules (now c) contexts (now table) × (used ≤ 256) ⌝ }
+    ensures { λ r. ⌜ ToGap (storeOf (now (words .entry)) (now (counts .entry)) used) (answersIn used (now (words .entry))) (now (t .entry)) rules (now (c .entry)) contexts (now (table .exit)) r ⌝ }
+{
+    let mut list = [0u16; FEW as usize];
+    let mut filled = [0u16; FEW as usize];
+    gap_with(
+        words,
+        counts,
+        used,
+        holes,
+        head,
+        next,
+        mix,
+        t,
+        rules,
+        c,
+        contexts,
+        table,
+        &mut list,
+        &mut filled,
+    )
+}
+
+// The same where some rows are used.
+pub fn gap_some(
+    words: &[u32],
+    counts: &[u8],
+    used: u16,
+    holes: &[u8],
+    head: &[u16],
+    next: &[u16],
+    mix: &[u32; 5],
+    t: &[u16; 256],
+    rules: usize,
+    c: &[u16; 289],
+    contexts: usize,
+    table: &mut [u8],
+) -> usize
+    requires { ⌜ Ready (now words) (now counts) used (now holes) (now head) (now next) (now mix) × Answered (now words) used × Used used (now t) rules × (length (now t) ≡ 256) × (rules ≤ 256) × Contexts (storeOf (now words) (now counts) used) (now c) contexts × (length (now c) ≡ 289) × (contexts ≤ 289) × KnownRows (storeOf (now words) (now counts) used) (answersIn used (now words)) (now t) rules (now c) contexts (now table) × (used ≤ 2048) ⌝ }
+    ensures { λ r. ⌜ ToGap (storeOf (now (words .entry)) (now (counts .entry)) used) (answersIn used (now (words .entry))) (now (t .entry)) rules (now (c .entry)) contexts (now (table .exit)) r ⌝ }
+{
+    if used <= FEW {
+        return gap_few(
+            words,
+            counts,
+            used,
+            holes,
+            head,
+            next,
+            mix,
+            t,
+            rules,
+            c,
+            contexts,
+            table,
+        );
+    }
+    let mut list = [0u16; SOME as usize];
+    let mut filled = [0u16; SOME as usize];
+    gap_with(
+        words,
+        counts,
+        used,
+        holes,
+        head,
+        next,
+        mix,
+        t,
+        rules,
+        c,
+        contexts,
+        table,
+        &mut list,
+        &mut filled,
+    )
+}

@@ -1,0 +1,128 @@
+// The answers of every transition at every context (§1.5), or up to the first gap, by columns. Proved equal to model's answersOf.
+// An array set to 0 costs time, so each comes in three sizes, and the smallest with an entry for each used row is taken.
+ghost use mathlib.Core.Path.{_≡_};
+ghost use Prim.Native.Nat.{_*_, _≤_};
+ghost use lib.ListN.{length};
+ghost use Rattle.model.specs.Limits.{mostContexts};
+ghost use Rattle.model.specs.Entry.{storeOf, answersIn};
+ghost use Rattle.bank.specs.Ready.{Ready};
+ghost use Rattle.table.specs.Answers.{Observed, KnownRows, ToGap};
+ghost use Rattle.table_columns.specs.Columns.{Answered, Contexts, Used};
+
+pub mod whole; // whole.rt: the whole table, by sizes
+pub mod gap; // gap.rt: the table up to its first gap, by sizes
+
+// Used rows for which the smallest arrays do.
+const FEW: u16 = 256;
+
+// Used rows for which the arrays of the middle size do.
+const SOME: u16 = 2048;
+
+// The answers of the first transitions at the first contexts, into the table.
+pub fn observe(
+    words: &[u32],
+    counts: &[u8],
+    used: u16,
+    holes: &[u8],
+    head: &[u16],
+    next: &[u16],
+    mix: &[u32; 5],
+    t: &[u16; 256],
+    rules: usize,
+    c: &[u16; 289],
+    contexts: usize,
+    table: &mut [u8],
+)
+    requires { ⌜ Ready (now words) (now counts) used (now holes) (now head) (now next) (now mix) × Answered (now words) used × Used used (now t) rules × (length (now t) ≡ 256) × (rules ≤ 256) × Contexts (storeOf (now words) (now counts) used) (now c) contexts × (length (now c) ≡ 289) × (contexts ≤ 289) × (mostContexts * rules ≤ length (now table)) ⌝ }
+    ensures { λ _. ⌜ Observed (storeOf (now (words .entry)) (now (counts .entry)) used) (answersIn used (now (words .entry))) (now (t .entry)) rules (now (c .entry)) contexts (now (table .exit)) ⌝ }
+{
+    if used <= SOME {
+        return whole::observe_some(
+            words,
+            counts,
+            used,
+            holes,
+            head,
+            next,
+            mix,
+            t,
+            rules,
+            c,
+            contexts,
+            table,
+        );
+    }
+    let mut list = [0u16; 16384];
+    let mut filled = [0u16; 16384];
+    whole::observe_with(
+        words,
+        counts,
+        used,
+        holes,
+        head,
+        next,
+        mix,
+        t,
+        rules,
+        c,
+        contexts,
+        table,
+        &mut list,
+        &mut filled,
+    )
+}
+
+// The same up to the first transition with an unknown answer, if there is one: how many transitions have their answers.
+// In the table lent a row without an unknown answer is right, and stays as it is.
+pub fn observe_to_gap(
+    words: &[u32],
+    counts: &[u8],
+    used: u16,
+    holes: &[u8],
+    head: &[u16],
+    next: &[u16],
+    mix: &[u32; 5],
+    t: &[u16; 256],
+    rules: usize,
+    c: &[u16; 289],
+    contexts: usize,
+    table: &mut [u8],
+) -> usize
+    requires { ⌜ Ready (now words) (now counts) used (now holes) (now head) (now next) (now mix) × Answered (now words) used × Used used (now t) rules × (length (now t) ≡ 256) × (rules ≤ 256) × Contexts (storeOf (now words) (now counts) used) (now c) contexts × (length (now c) ≡ 289) × (contexts ≤ 289) × KnownRows (storeOf (now words) (now counts) used) (answersIn used (now words)) (now t) rules (now c) contexts (now table) ⌝ }
+    ensures { λ r. ⌜ ToGap (storeOf (now (words .entry)) (now (counts .entry)) used) (answersIn used (now (words .entry))) (now (t .entry)) rules (now (c .entry)) contexts (now (table .exit)) r ⌝ }
+{
+    if used <= SOME {
+        return gap::gap_some(
+            words,
+            counts,
+            used,
+            holes,
+            head,
+            next,
+            mix,
+            t,
+            rules,
+            c,
+            contexts,
+            table,
+        );
+    }
+    let mut list = [0u16; 16384];
+    let mut filled = [0u16; 16384];
+    gap::gap_with(
+        words,
+        counts,
+        used,
+        holes,
+        head,
+        next,
+        mix,
+        t,
+        rules,
+        c,
+        contexts,
+        table,
+        &mut list,
+        &mut filled,
+    )
+}

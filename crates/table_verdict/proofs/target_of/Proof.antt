@@ -1,0 +1,39 @@
+-- `table_verdict::target_of` meets its contract. The row that is found is the store's; it is a used one, or row 0.
+-- Assumes nothing.
+use mathlib.Core.Path.{ap}
+use Prim.Native.Nat.{ℕ}
+use native.Mathlib.Omega.{arith}
+use borrow.Author.Needs.{needs}
+use lib.ListN.{getD}
+use Rattle.table_verdict.proofs.Laws.Words.{find-used}
+use Rattle.table_verdict.proofs.target_of.Statement.{statement}
+use Rattle.table_verdict.proofs.target_of.Tie as tie
+
+find-requires : tie.Need-find-requires
+find-requires c κs = search needs
+
+cast-t12 : tie.Need-cast-t12
+cast-t12 c = search needs
+
+mul-t13 : tie.Need-mul-t13
+mul-t13 c = search needs
+
+shared-slice-read-t15 : tie.Need-shared-slice-read-t15
+shared-slice-read-t15 c =
+    let s = c .before .before .before .before .before .before .before .before .before in
+    omega (arith, c .before .before .find .ensures, find-used (s .pre .0 .finding) (s .args .symbol) (s .args .places))
+
+returns : tie.Need-returns
+returns c =
+    let s = c .before .before .before .before .before .before .before .before .before in
+    ap (λ (i : ℕ). getD (s .args .reps .now) i 0) (c .before .before .find .ensures)
+
+pub target-of-spec : {M : Type 1} → statement M
+target-of-spec =
+    tie.close
+    (tie.spec
+    find-requires
+    cast-t12
+    mul-t13
+    shared-slice-read-t15
+    returns)

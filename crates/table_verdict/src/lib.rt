@@ -1,0 +1,408 @@
+// The hypothesis (§1.5) at work: the representative of each transition, and its verdict on stored and on listed records.
+// A rule is found through the index: the row with this symbol over the children's representatives, if it is a transition.
+ghost use mathlib.Core.Path.{_≡_};
+ghost use mathlib.Core.Bool.{true};
+ghost use mathlib.Core.List.{[]};
+ghost use Prim.Native.Nat.{ℕ, _<_, _≤_};
+ghost use lib.Dec.{eqb};
+ghost use lib.ListN.{length, getD, take};
+ghost use Rattle.model.specs.Base.{noRepeats};
+ghost use Rattle.model.specs.Automata.{rowState, acceptsRow, runFrom, acceptsList};
+ghost use Rattle.model.specs.Facts.{Parses};
+ghost use Rattle.model.specs.Store.{findPlaces};
+ghost use Rattle.model.specs.Entry.{storeOf};
+ghost use Rattle.bank.specs.Rows.{answerIn, Within};
+ghost use Rattle.bank.specs.Ready.{Ready};
+ghost use Rattle.table.specs.Answers.{Sized};
+ghost use Rattle.table_verdict.specs.Rules.{RepsBy, rulesBy, hypothesis, Ruled, repOf, ledBy};
+use bank::index;
+use bank::rows;
+use bank_fill::context;
+use model::Row;
+
+// All entries 0.
+fn clear(reps: &mut [u16])
+    ensures { λ _. ⌜ (length (now (reps .exit)) ≡ length (now (reps .entry))) × ((i : ℕ) → getD (now (reps .exit)) i 0 ≡ 0) ⌝ }
+{
+    let mut i = 0;
+    while i < reps.len() {
+        reps[i] = 0;
+        i += 1;
+    }
+}
+
+// The representative of each transition; 0 for a row that is none.
+pub fn find_reps(
+    table: &[u8],
+    contexts: usize,
+    places: &[u16; 32],
+    s: &[u16; 32],
+    states: usize,
+    t: &[u16; 256],
+    rules: usize,
+    reps: &mut [u16],
+)
+    requires { ⌜ Sized (now table) rules contexts × (states ≤ 32) × (length (now places) ≡ 32) × ((i : ℕ) → i < states → getD (now places) i 0 < rules) × (length (now s) ≡ 32) × (length (now t) ≡ 256) × (rules ≤ 256) × ((k : ℕ) → k < rules → getD (now t) k 0 < length (now reps)) × (noRepeats (take rules (now t)) ≡ true) ⌝ }
+    ensures { λ _. ⌜ RepsBy (now (table .entry)) contexts (take states (now (places .entry))) (take states (now (s .entry))) (take rules (now (t .entry))) (now (reps .exit)) ⌝ }
+{
+    clear(reps);
+    let mut k = 0;
+    while k < rules {
+        let q = table::state_of(table, rules, contexts, places, states, k);
+        let at = q.0 as usize;
+        if at < states {
+            let i = t[k] as usize;
+            reps[i] = s[at];
+        }
+        k += 1;
+    }
+}
+
+// The representative of a symbol over children by their representatives; 0 where the rule is missing.
+fn target_of(
+    words: &[u32],
+    counts: &[u8],
+    used: u16,
+    holes: &[u8],
+    head: &[u16],
+    next: &[u16],
+    mix: &[u32; 5],
+    reps: &[u16],
+    symbol: u32,
+    places: [u32; 4],
+) -> Row
+    requires { ⌜ Ready (now words) (now counts) used (now holes) (now head) (now next) (now mix) × (used ≤ length (now reps)) ⌝ }
+    ensures { λ r. ⌜ r .0 ≡ getD (now (reps .entry)) (findPlaces (storeOf (now (words .entry)) (now (counts .entry)) used) symbol places) 0 ⌝ }
+{
+    let found = index::find(words, used, head, next, mix, symbol, places);
+    Row(reps[found.0 as usize])
+}
+
+// The representative of a row's state, from those of earlier rows.
+fn row_rep(
+    words: &[u32],
+    counts: &[u8],
+    used: u16,
+    holes: &[u8],
+    head: &[u16],
+    next: &[u16],
+    mix: &[u32; 5],
+    s: &[u16; 32],
+    states: usize,
+    t: &[u16; 256],
+    rules: usize,
+    reps: &[u16],
+    led: &[u16],
+    row: Row,
+) -> Row
+    requires { ⌜ Ready (now words) (now counts) used (now holes) (now head) (now next) (now mix) × Ruled (storeOf (now words) (now counts) used) (take states (now s)) (take rules (now t)) (now reps) × (used ≤ length (now led)) × (0 < row .0) × (row .0 < used) × ((i : ℕ) → i < row .0 → getD (now led) i 0 ≡ repOf (take states (now s)) (rowState (rulesBy (storeOf (now words) (now counts) used) (take states (now s)) (take rules (now t)) (now reps)) (storeOf (now words) (now counts) used) i)) ⌝ }
+    ensures { λ r. ⌜ r .0 ≡ repOf (take states (now (s .entry))) (rowState (rulesBy (storeOf (now (words .entry)) (now (counts .entry)) used) (take states (now (s .entry))) (take rules (now (t .entry))) (now (reps .entry))) (storeOf (now (words .entry)) (now (counts .entry)) used) (row .0)) ⌝ }
+{
+    let symbol = rows::symbol_of(words, row);
+    let count = counts[symbol as usize] as usize;
+    let mut places = [0u32; 4];
+    let mut k = 0;
+    while k < count {
+        let kid = rows::kid_of(words, row, k) as usize;
+        let rep = led[kid];
+        if rep == 0 {
+            return Row(0);
+        }
+        places[k] = rep as u32;
+        k += 1;
+    }
+    target_of(
+        words,
+        counts,
+        used,
+        holes,
+        head,
+        next,
+        mix,
+        reps,
+        symbol,
+        places,
+    )
+}
+
+// The representative of the state of every row up to a row, by one loop from the bottom.
+pub fn row_reps(
+    words: &[u32],
+    counts: &[u8],
+    used: u16,
+    holes: &[u8],
+    head: &[u16],
+    next: &[u16],
+    mix: &[u32; 5],
+    s: &[u16; 32],
+    states: usize,
+    t: &[u16; 256],
+    rules: usize,
+    reps: &[u16],
+    upto: Row,
+    led: &mut [u16],
+)
+    requires { ⌜ Ready (now words) (now counts) used (now holes) (now head) (now next) (now mix) × Ruled (storeOf (now words) (now counts) used) (take states (now s)) (take rules (now t)) (now reps) × (used ≤ length (now led)) × (upto .0 < used) ⌝ }
+    ensures { λ _. ⌜ (length (now (led .exit)) ≡ length (now (led .entry))) × ((i : ℕ) → i ≤ upto .0 → getD (now (led .exit)) i 0 ≡ repOf (take states (now (s .entry))) (rowState (rulesBy (storeOf (now (words .entry)) (now (counts .entry)) used) (take states (now (s .entry))) (take rules (now (t .entry))) (now (reps .entry))) (storeOf (now (words .entry)) (now (counts .entry)) used) i)) ⌝ }
+{
+    led[0] = 0;
+    let mut i: u16 = 1;
+    while i <= upto.0 {
+        let rep = row_rep(
+            words,
+            counts,
+            used,
+            holes,
+            head,
+            next,
+            mix,
+            s,
+            states,
+            t,
+            rules,
+            reps,
+            led,
+            Row(i),
+        );
+        led[i as usize] = rep.0;
+        i += 1;
+    }
+}
+
+// The verdict on a stored record.
+pub fn accepts_row(
+    words: &[u32],
+    counts: &[u8],
+    used: u16,
+    holes: &[u8],
+    head: &[u16],
+    next: &[u16],
+    mix: &[u32; 5],
+    s: &[u16; 32],
+    states: usize,
+    t: &[u16; 256],
+    rules: usize,
+    reps: &[u16],
+    row: Row,
+) -> bool
+    requires { ⌜ Ready (now words) (now counts) used (now holes) (now head) (now next) (now mix) × Ruled (storeOf (now words) (now counts) used) (take states (now s)) (take rules (now t)) (now reps) × (row .0 < used) ⌝ }
+    ensures { λ r. ⌜ r ≡ acceptsRow (hypothesis (now (words .entry)) (now (counts .entry)) used (now (s .entry)) states (now (t .entry)) rules (now (reps .entry))) (storeOf (now (words .entry)) (now (counts .entry)) used) (row .0) ⌝ }
+{
+    if used <= context::FEW {
+        return accepts_few(
+            words,
+            counts,
+            used,
+            holes,
+            head,
+            next,
+            mix,
+            s,
+            states,
+            t,
+            rules,
+            reps,
+            row,
+        );
+    }
+    let mut led = [0u16; 16384];
+    accepts_with(
+        words,
+        counts,
+        used,
+        holes,
+        head,
+        next,
+        mix,
+        s,
+        states,
+        t,
+        rules,
+        reps,
+        row,
+        &mut led,
+    )
+}
+
+// The same over few rows.
+fn accepts_few(
+    words: &[u32],
+    counts: &[u8],
+    used: u16,
+    holes: &[u8],
+    head: &[u16],
+    next: &[u16],
+    mix: &[u32; 5],
+    s: &[u16; 32],
+    states: usize,
+    t: &[u16; 256],
+    rules: usize,
+    reps: &[u16],
+    row: Row,
+) -> bool
+    requires { ⌜ Ready (now words) (now counts) used (now holes) (now head) (now next) (now mix) × Ruled (storeOf (now words) (now counts) used) (take states (now s)) (take rules (now t)) (now reps) × (row .0 < used) × (used ≤ 1024) ⌝ }
+    ensures { λ r. ⌜ r ≡ acceptsRow (hypothesis (now (words .entry)) (now (counts .entry)) used (now (s .entry)) states (now (t .entry)) rules (now (reps .entry))) (storeOf (now (words .entry)) (now (counts .entry)) used) (row .0) ⌝ }
+{
+    let mut led = [0u16; 1024];
+    accepts_with(
+        words,
+        counts,
+        used,
+        holes,
+        head,
+        next,
+        mix,
+        s,
+        states,
+        t,
+        rules,
+        reps,
+        row,
+        &mut led,
+    )
+}
+
+// The same in an array that holds an entry for each used row.
+fn accepts_with(
+    words: &[u32],
+    counts: &[u8],
+    used: u16,
+    holes: &[u8],
+    head: &[u16],
+    next: &[u16],
+    mix: &[u32; 5],
+    s: &[u16; 32],
+    states: usize,
+    t: &[u16; 256],
+    rules: usize,
+    reps: &[u16],
+    row: Row,
+    led: &mut [u16],
+) -> bool
+    requires { ⌜ Ready (now words) (now counts) used (now holes) (now head) (now next) (now mix) × Ruled (storeOf (now words) (now counts) used) (take states (now s)) (take rules (now t)) (now reps) × (row .0 < used) × (used ≤ length (now led)) ⌝ }
+    ensures { λ r. ⌜ r ≡ acceptsRow (hypothesis (now (words .entry)) (now (counts .entry)) used (now (s .entry)) states (now (t .entry)) rules (now (reps .entry))) (storeOf (now (words .entry)) (now (counts .entry)) used) (row .0) ⌝ }
+{
+    row_reps(
+        words,
+        counts,
+        used,
+        holes,
+        head,
+        next,
+        mix,
+        s,
+        states,
+        t,
+        rules,
+        reps,
+        row,
+        led,
+    );
+    let rep = led[row.0 as usize];
+    if rep == 0 {
+        return false;
+    }
+    is_final(words, Row(rep))
+}
+
+// Whether a state is final, by its representative.
+fn is_final(words: &[u32], rep: Row) -> bool
+    requires { ⌜ Within (now words) (rep .0) ⌝ }
+    ensures { λ r. ⌜ r ≡ eqb (answerIn (now (words .entry)) (rep .0)) 2 ⌝ }
+{
+    rows::answer_of(words, rep) == 2
+}
+
+// Where a run on a listed record ends: at the representative of its state, or stuck at the first symbol without a rule.
+pub enum Led {
+    To(Row),
+    Stuck(usize),
+}
+
+// The run on a listed record, by a stack of representatives.
+pub fn run_list(
+    words: &[u32],
+    counts: &[u8],
+    used: u16,
+    holes: &[u8],
+    head: &[u16],
+    next: &[u16],
+    mix: &[u32; 5],
+    s: &[u16; 32],
+    states: usize,
+    t: &[u16; 256],
+    rules: usize,
+    reps: &[u16],
+    symbols: &[u8],
+) -> Led
+    requires { ⌜ Ready (now words) (now counts) used (now holes) (now head) (now next) (now mix) × Ruled (storeOf (now words) (now counts) used) (take states (now s)) (take rules (now t)) (now reps) × Parses (now counts) 0 (now symbols) × (length (now symbols) ≤ 1024) ⌝ }
+    ensures { λ r. ⌜ r ≡ ledBy (take states (now (s .entry))) (runFrom (hypothesis (now (words .entry)) (now (counts .entry)) used (now (s .entry)) states (now (t .entry)) rules (now (reps .entry))) 0 (now (symbols .entry)) []) ⌝ }
+{
+    let mut stack = [0u16; 1024];
+    let mut height = 0;
+    let mut at = 0;
+    while at < symbols.len() {
+        let symbol = symbols[at] as u32;
+        let count = counts[symbol as usize] as usize;
+        let places = bank_listed::top_places(&stack, height, count);
+        let rep = target_of(
+            words,
+            counts,
+            used,
+            holes,
+            head,
+            next,
+            mix,
+            reps,
+            symbol,
+            places,
+        );
+        if rep.0 == 0 {
+            return Led::Stuck(at);
+        }
+        height -= count;
+        stack[height] = rep.0;
+        height += 1;
+        at += 1;
+    }
+    Led::To(Row(stack[0]))
+}
+
+// The verdict on a listed record.
+pub fn accepts_list(
+    words: &[u32],
+    counts: &[u8],
+    used: u16,
+    holes: &[u8],
+    head: &[u16],
+    next: &[u16],
+    mix: &[u32; 5],
+    s: &[u16; 32],
+    states: usize,
+    t: &[u16; 256],
+    rules: usize,
+    reps: &[u16],
+    symbols: &[u8],
+) -> bool
+    requires { ⌜ Ready (now words) (now counts) used (now holes) (now head) (now next) (now mix) × Ruled (storeOf (now words) (now counts) used) (take states (now s)) (take rules (now t)) (now reps) × Parses (now counts) 0 (now symbols) × (length (now symbols) ≤ 1024) ⌝ }
+    ensures { λ r. ⌜ r ≡ acceptsList (hypothesis (now (words .entry)) (now (counts .entry)) used (now (s .entry)) states (now (t .entry)) rules (now (reps .entry))) (now (symbols .entry)) ⌝ }
+{
+    match run_list(
+        words,
+        counts,
+        used,
+        holes,
+        head,
+        next,
+        mix,
+        s,
+        states,
+        t,
+        rules,
+        reps,
+        symbols,
+    ) {
+        Led::To(rep) => is_final(words, rep),
+        Led::Stuck(_) => false,
+    }
+}

@@ -1,0 +1,10 @@
+-- What telling needs: a question that is told has its row in a good store. Assumes nothing: this is a definition.
+use mathlib.Core.Path.{_≡_}
+use mathlib.Core.List.{List}
+use Prim.Native.Nat.{ℕ, _<_}
+use Rattle.model.specs.declared.Seen.{Seen}
+use Rattle.bank_sizes.specs.Sizes.{Stored}
+
+pub record Tellable (words counts : List ℕ) (used : ℕ) (seen : Seen) : Type 0 where
+  pub stored : seen .number ≡ 0 → seen .phase ≡ 1 → Stored words counts used
+  pub within : seen .number ≡ 0 → seen .phase ≡ 1 → seen .row < used

@@ -1,0 +1,202 @@
+// The reply to a line (§8): the output line, and what stands after it, from any line and any contents. Nothing is required.
+ghost use mathlib.Core.Path.{_≡_};
+ghost use Prim.Native.Nat.{_≤_, min};
+ghost use lib.ListN.{length, drop};
+ghost use Rattle.text.specs.Bytes.{replyRoom};
+ghost use Rattle.text.specs.Reading.{readText};
+ghost use Rattle.text.specs.Alphabet.{alphabetOf};
+ghost use Rattle.text.specs.Lines.{lineOf, offering, unreadText};
+ghost use Rattle.text.specs.Script.{reply as replyWith, script as scriptOf, told as toldOf, freshScript, lettersOf, countsOf, opened as openedOf, heard, replyTo};
+ghost use Rattle.text_print.specs.Tells.{Tellable};
+ghost use Rattle.text_reply.specs.Replies.{ReplyAs};
+use model::Lists;
+use model::Seen;
+use text::Script;
+use text_lines::lines;
+use text_lines::lines::Asked;
+use text_lines::open;
+use text_print::tell;
+
+// The bytes of a reply, and the script after it.
+pub struct Replied {
+    pub size: usize,
+    pub script: Script,
+}
+
+// A script before its first line.
+pub fn fresh() -> Script
+    ensures { λ r. ⌜ r ≡ freshScript ⌝ }
+{
+    Script {
+        stage: 0,
+        letters: [0; 64],
+        lists: Lists {
+            letters: 0,
+            counts: [0; 64],
+            used: 0,
+            states: 0,
+            s: [0; 32],
+            rules: 0,
+            t: [0; 256],
+            contexts: 0,
+            c: [0; 289],
+            hand: 0,
+            asked: 0,
+            accepted: 0,
+        },
+    }
+}
+
+// A script at another stage.
+fn at_stage(z: Script, stage: u8) -> Script
+    ensures { λ r. ⌜ r ≡ scriptOf stage (z .letters) (z .lists) ⌝ }
+{
+    let mut after = z;
+    after.stage = stage;
+    after
+}
+
+// A script with other lists.
+fn with_lists(z: Script, lists: Lists) -> Script
+    ensures { λ r. ⌜ r ≡ scriptOf (z .stage) (z .letters) lists ⌝ }
+{
+    let mut after = z;
+    after.lists = lists;
+    after
+}
+
+// How many letters are in their array.
+fn letters_in(letters: u8) -> usize
+    ensures { λ r. ⌜ (r ≤ 64) × (r ≡ min letters 64) ⌝ }
+{
+    if letters < 64 {
+        return letters as usize;
+    }
+    64
+}
+
+// A line that is unread: it is no call.
+fn unread(words: &[u32], script: Script, out: &mut [u8]) -> Replied
+    requires { ⌜ replyRoom ≤ length (now out) ⌝ }
+    ensures { λ r. ⌜ ReplyAs (replyWith unreadText (now (words .entry)) script) r (now (words .entry)) (now (out .entry)) (now (out .exit)) ⌝ }
+{
+    let size = tell::tell_unread(out);
+    Replied {
+        size: size,
+        script: script,
+    }
+}
+
+// A call that was made, of which this was seen.
+fn told(words: &[u32], script: Script, seen: Seen, out: &mut [u8]) -> Replied
+    requires { ⌜ Tellable (now words) (countsOf script) (script .lists .used) seen × (replyRoom ≤ length (now out)) ⌝ }
+    ensures { λ r. ⌜ ReplyAs (toldOf (now (words .entry)) script seen) r (now (words .entry)) (now (out .entry)) (now (out .exit)) ⌝ }
+{
+    let letters = script.letters;
+    let lists = script.lists;
+    let counts = lists.counts;
+    let n = letters_in(lists.letters);
+    let size = tell::tell(words, &counts[..n], lists.used, &letters[..n], seen, out);
+    Replied {
+        size: size,
+        script: script,
+    }
+}
+
+// The first line: unread or refused, it ends the script.
+fn first(words: &mut [u32], script: Script, line: &[u8], out: &mut [u8]) -> Replied
+    requires { ⌜ replyRoom ≤ length (now out) ⌝ }
+    ensures { λ r. ⌜ ReplyAs (openedOf (now (words .entry)) script (alphabetOf (now (line .entry)))) r (now (words .exit)) (now (out .entry)) (now (out .exit)) ⌝ }
+{
+    let mut letters = script.letters;
+    let mut counts = [0u8; 64];
+    let opened = open::alphabet_of(line, &mut letters, &mut counts);
+    let ok = opened.ok;
+    if !ok {
+        return unread(words, at_stage(script, 2), out);
+    }
+    let n = opened.size;
+    let started = call::start(words, script.lists, &counts[..n]);
+    let seen = started.seen;
+    let number = seen.number;
+    if number != 0 {
+        return told(words, at_stage(script, 2), seen, out);
+    }
+    let lists = started.lists;
+    let begun = Script {
+        stage: 1,
+        letters: letters,
+        lists: lists,
+    };
+    told(words, begun, seen, out)
+}
+
+// An offer: its record is read, and it is made if there is one.
+fn offer(words: &mut [u32], script: Script, line: &[u8], mark: u8, out: &mut [u8]) -> Replied
+    requires { ⌜ (replyRoom ≤ length (now out)) × (2 ≤ length (now line)) × (length (now line) ≤ 65536) ⌝ }
+    ensures { λ r. ⌜ ReplyAs (heard (now (words .entry)) script (offering (readText (lettersOf script) (countsOf script) (drop 2 (now (line .entry)))) mark)) r (now (words .exit)) (now (out .entry)) (now (out .exit)) ⌝ }
+{
+    let letters = script.letters;
+    let lists = script.lists;
+    let counts = lists.counts;
+    let n = letters_in(lists.letters);
+    let mut text = [0u8; 65536];
+    let len = list::put_bytes(&mut text, 0, &line[2..]);
+    let size = text_read::read_text(&mut text, len as u32, &letters[..n], &counts[..n]);
+    if size == 0 {
+        return unread(words, script, out);
+    }
+    let offered = call_room::offer(words, lists, &text[..size], mark);
+    told(words, with_lists(script, offered.lists), offered.seen, out)
+}
+
+// A later line.
+fn later(words: &mut [u32], script: Script, line: &[u8], out: &mut [u8]) -> Replied
+    requires { ⌜ replyRoom ≤ length (now out) ⌝ }
+    ensures { λ r. ⌜ ReplyAs (heard (now (words .entry)) script (lineOf (lettersOf script) (countsOf script) (now (line .entry)))) r (now (words .exit)) (now (out .entry)) (now (out .exit)) ⌝ }
+{
+    match lines::asked_of(line) {
+        Asked::Nothing => unread(words, script, out),
+        Asked::Answer(mark) => {
+            let answered = call_room::answer(words, script.lists, mark);
+            told(
+                words,
+                with_lists(script, answered.lists),
+                answered.seen,
+                out,
+            )
+        }
+        Asked::Accept => {
+            let accepted = call_room::accept(words, script.lists);
+            told(
+                words,
+                with_lists(script, accepted.lists),
+                accepted.seen,
+                out,
+            )
+        }
+        Asked::Offer(mark) => offer(words, script, line, mark, out),
+    }
+}
+
+// The reply to any line: none once the script has ended, or where it might not fit.
+pub fn reply(words: &mut [u32], script: Script, line: &[u8], out: &mut [u8]) -> Replied
+    ensures { λ r. ⌜ ReplyAs (replyTo (now (words .entry)) script (now (line .entry)) (length (now (out .entry)))) r (now (words .exit)) (now (out .entry)) (now (out .exit)) ⌝ }
+{
+    if out.len() < 3080 {
+        return Replied {
+            size: 0,
+            script: script,
+        };
+    }
+    if script.stage == 0 {
+        return first(words, script, line, out);
+    }
+    if script.stage == 1 {
+        return later(words, script, line, out);
+    }
+    Replied {
+        size: 0,
+        script: script,
+    }
+}
