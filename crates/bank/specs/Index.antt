@@ -3,7 +3,7 @@ use mathlib.Core.Path.{_≡_}
 use mathlib.Core.List.{List, [], _∷_}
 use Prim.Native.Nat.{ℕ, _+_, _*_, _/_, _%_, _≤_, _<_}
 use lib.ListN.{length, getD, drop}
-use Rattle.model.specs.Limits.{mostRows}
+use Rattle.model.specs.Limits.{rowWidth, mostRows}
 use Rattle.model.specs.Store.{Node, findFrom}
 use Rattle.model.specs.Entry.{nodesIn}
 use Rattle.bank.specs.Rows.{symbolIn, kidIn, placesIn}
@@ -23,7 +23,7 @@ bucketFor m z a ps = bucketOf m z a (getD ps 0 0) (getD ps 1 0) (getD ps 2 0) (g
 
 -- so many buckets as there may be
 abbrev pub mostBuckets : ℕ
-mostBuckets = 16384
+mostBuckets = mostRows
 
 -- five multipliers, each small enough that a sum of five products fits
 pub record Mixing (mix : List ℕ) : Type 0 where
@@ -51,11 +51,11 @@ NoTwins ws n = (i j : ℕ) → 0 < i → i < j → j < n → symbolIn ws i ≡ s
 pub record Finding (mix words : List ℕ) (n : ℕ) (head next : List ℕ) : Type 0 where
   pub some : 1 ≤ n
   pub few : n ≤ mostRows
-  pub room : 6 * n ≤ length words
+  pub room : rowWidth * n ≤ length words
   pub mixing : Mixing mix
   pub some-heads : 0 < length head
   pub few-heads : length head ≤ mostBuckets
-  pub next-long : length words ≤ 6 * length next
+  pub next-long : length words ≤ rowWidth * length next
   pub indexed : Indexed mix words n head next
   pub no-twins : NoTwins words n
 

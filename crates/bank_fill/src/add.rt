@@ -13,6 +13,7 @@ ghost use Rattle.bank_fill.specs.Adding.{Came, PlacesAsked, kidsOf, Lent
 use bank::index;
 use bank::rows;
 use model::Row;
+use model::limits::ROW_WIDTH;
 
 // What adding rows came to: rows ran out, or the row with the rows used afterwards.
 pub enum Grown {
@@ -59,7 +60,7 @@ fn add_row(
     ensures { λ r. ⌜ Put (now (words .entry)) used (now (holes .entry)) (now (head .entry)) (now (next .entry)) (now (mix .entry)) symbol places hole r (now (words .exit)) (now (holes .exit)) (now (head .exit)) (now (next .exit)) ⌝ }
 {
     let n = used as usize;
-    if words.len() < rows::WIDTH * n + rows::WIDTH {
+    if words.len() < ROW_WIDTH * n + ROW_WIDTH {
         return Grown::Full;
     }
     rows::write_row(words, Row(used), symbol, places);

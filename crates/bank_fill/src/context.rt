@@ -3,16 +3,16 @@ ghost use mathlib.Core.Path.{_≡_};
 ghost use mathlib.Core.Bool.{true};
 ghost use Prim.Native.Nat.{ℕ, _<_, _≤_};
 ghost use lib.ListN.{length, getD};
+ghost use Rattle.bank.specs.Ladder.{smallRows};
 ghost use Rattle.model.specs.Store.{hasHole, framesOf, fill as fillOf};
 ghost use Rattle.model.specs.Entry.{storeOf};
 ghost use Rattle.bank.specs.Ready.{Ready};
 ghost use Rattle.bank_fill.specs.Adding.{Came};
 use crate::add;
 use crate::add::Grown;
+use bank::ladder::SMALL_ROWS;
 use model::Row;
-
-// Rows for which small arrays do.
-pub const FEW: u16 = 1024;
+use model::limits::MOST_ROWS;
 
 // The marks of the used rows, copied.
 fn copy_marks(holes: &[u8], used: u16, down: &mut [u8])
@@ -70,10 +70,10 @@ fn fill_few(
     context: Row,
     with: Row,
 ) -> Grown
-    requires { ⌜ Ready (now words) (now counts) used (now holes) (now head) (now next) (now mix) × (context .0 < used) × (hasHole (storeOf (now words) (now counts) used) (context .0) ≡ true) × (with .0 < used) × (used ≤ 1024) ⌝ }
+    requires { ⌜ Ready (now words) (now counts) used (now holes) (now head) (now next) (now mix) × (context .0 < used) × (hasHole (storeOf (now words) (now counts) used) (context .0) ≡ true) × (with .0 < used) × (used ≤ smallRows) ⌝ }
     ensures { λ r. ⌜ Came (now (words .entry)) (now (counts .entry)) used (fillOf (storeOf (now (words .entry)) (now (counts .entry)) used) (framesOf (storeOf (now (words .entry)) (now (counts .entry)) used) (context .0)) (with .0)) r (now (words .exit)) (now (holes .exit)) (now (head .exit)) (now (next .exit)) (now (mix .entry)) ⌝ }
 {
-    let mut down = [0u8; 1024];
+    let mut down = [0u8; SMALL_ROWS];
     fill_marked(
         words,
         counts,
@@ -103,10 +103,10 @@ pub fn fill_context(
     requires { ⌜ Ready (now words) (now counts) used (now holes) (now head) (now next) (now mix) × (context .0 < used) × (hasHole (storeOf (now words) (now counts) used) (context .0) ≡ true) × (with .0 < used) ⌝ }
     ensures { λ r. ⌜ Came (now (words .entry)) (now (counts .entry)) used (fillOf (storeOf (now (words .entry)) (now (counts .entry)) used) (framesOf (storeOf (now (words .entry)) (now (counts .entry)) used) (context .0)) (with .0)) r (now (words .exit)) (now (holes .exit)) (now (head .exit)) (now (next .exit)) (now (mix .entry)) ⌝ }
 {
-    if used <= FEW {
+    if used as usize <= SMALL_ROWS {
         return fill_few(words, counts, used, holes, head, next, mix, context, with);
     }
-    let mut down = [0u8; 16384];
+    let mut down = [0u8; MOST_ROWS];
     fill_marked(
         words,
         counts,

@@ -3,6 +3,7 @@ ghost use mathlib.Core.Path.{_≡_};
 ghost use mathlib.Core.List.{[]};
 ghost use Prim.Native.Nat.{_≤_};
 ghost use lib.ListN.{length};
+ghost use Rattle.model.specs.Limits.{mostListed};
 ghost use Rattle.model.specs.Base.{top};
 ghost use Rattle.model.specs.Store.{padded};
 ghost use Rattle.model.specs.Terms.{recordFault, storeFrom, knownRow};
@@ -15,6 +16,7 @@ use bank::index;
 use bank_fill::add;
 use bank_fill::add::Grown;
 use model::Row;
+use model::limits::MOST_LISTED;
 
 // The fault of a listed record: 11, 12, then 13 or 14 at the first symbol at fault, 15 (§5.1); 0 for none.
 pub fn record_fault(counts: &[u8], symbols: &[u8]) -> u8
@@ -23,7 +25,7 @@ pub fn record_fault(counts: &[u8], symbols: &[u8]) -> u8
     if symbols.len() == 0 {
         return 11;
     }
-    if 1024 < symbols.len() {
+    if MOST_LISTED < symbols.len() {
         return 12;
     }
     let mut trees: usize = 0;
@@ -54,8 +56,8 @@ fn wide(row: Row) -> u32
 }
 
 // The top of a stack of rows as the child places of the next row, in order.
-pub fn top_places(stack: &[u16; 1024], height: usize, count: usize) -> [u32; 4]
-    requires { ⌜ (length (now stack) ≡ 1024) × (count ≤ 4) × (count ≤ height) × (height ≤ 1024) ⌝ }
+pub fn top_places(stack: &[u16; MOST_LISTED], height: usize, count: usize) -> [u32; 4]
+    requires { ⌜ (length (now stack) ≡ mostListed) × (count ≤ 4) × (count ≤ height) × (height ≤ mostListed) ⌝ }
     ensures { λ r. ⌜ r ≡ padded (top count (stackOf (now (stack .entry)) height)) ⌝ }
 {
     let mut places = [0u32; 4];
@@ -78,10 +80,10 @@ pub fn store(
     mix: &[u32; 5],
     symbols: &[u8],
 ) -> Grown
-    requires { ⌜ Ready (now words) (now counts) used (now holes) (now head) (now next) (now mix) × Parses (now counts) 0 (now symbols) × (length (now symbols) ≤ 1024) ⌝ }
+    requires { ⌜ Ready (now words) (now counts) used (now holes) (now head) (now next) (now mix) × Parses (now counts) 0 (now symbols) × (length (now symbols) ≤ mostListed) ⌝ }
     ensures { λ r. ⌜ Came (now (words .entry)) (now (counts .entry)) used (storeFrom (storeOf (now (words .entry)) (now (counts .entry)) used) (now (symbols .entry)) []) r (now (words .exit)) (now (holes .exit)) (now (head .exit)) (now (next .exit)) (now (mix .entry)) ⌝ }
 {
-    let mut stack = [0u16; 1024];
+    let mut stack = [0u16; MOST_LISTED];
     let mut height = 0;
     let mut n = used;
     let mut at = 0;
@@ -117,10 +119,10 @@ pub fn known_row(
     mix: &[u32; 5],
     symbols: &[u8],
 ) -> Row
-    requires { ⌜ Ready (now words) (now counts) used (now holes) (now head) (now next) (now mix) × Parses (now counts) 0 (now symbols) × (length (now symbols) ≤ 1024) ⌝ }
+    requires { ⌜ Ready (now words) (now counts) used (now holes) (now head) (now next) (now mix) × Parses (now counts) 0 (now symbols) × (length (now symbols) ≤ mostListed) ⌝ }
     ensures { λ r. ⌜ r .0 ≡ knownRow (storeOf (now (words .entry)) (now (counts .entry)) used) (now (symbols .entry)) ⌝ }
 {
-    let mut stack = [0u16; 1024];
+    let mut stack = [0u16; MOST_LISTED];
     let mut height = 0;
     let mut at = 0;
     while at < symbols.len() {

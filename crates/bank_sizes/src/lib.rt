@@ -5,12 +5,14 @@ ghost use Rattle.model.specs.Entry.{storeOf};
 ghost use Rattle.bank_sizes.specs.Sizes.{sizeOf, cut, Stored, Sizing};
 use bank::rows;
 use model::Row;
+use model::limits::MOST_LISTED;
+use model::limits::MOST_ROWS;
 
 // As far as sizes are counted: one more than a record that is written out may have.
-const MOST: u16 = 1025;
+const MOST: u16 = MOST_LISTED as u16 + 1;
 
 // The cut size of a row past row 0, from those of the rows before it.
-fn row_size(words: &[u32], counts: &[u8], used: u16, sizes: &[u16; 16384], row: Row) -> u16
+fn row_size(words: &[u32], counts: &[u8], used: u16, sizes: &[u16; MOST_ROWS], row: Row) -> u16
     requires { ⌜ Sizing (now words) (now counts) used (now sizes) (row .0) × (0 < row .0) × (row .0 < used) ⌝ }
     ensures { λ r. ⌜ r ≡ cut (sizeOf (storeOf (now (words .entry)) (now (counts .entry)) used) (row .0)) ⌝ }
 {
@@ -34,7 +36,7 @@ pub fn size_of(words: &[u32], counts: &[u8], used: u16, row: Row) -> u16
     requires { ⌜ Stored (now words) (now counts) used × (row .0 < used) ⌝ }
     ensures { λ r. ⌜ r ≡ cut (sizeOf (storeOf (now (words .entry)) (now (counts .entry)) used) (row .0)) ⌝ }
 {
-    let mut sizes = [0u16; 16384];
+    let mut sizes = [0u16; MOST_ROWS];
     sizes[0] = 1;
     let last = row.0;
     let mut i: u16 = 1;

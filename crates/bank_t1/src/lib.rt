@@ -4,6 +4,7 @@ ghost use mathlib.Core.Bool.{true, false};
 ghost use mathlib.Core.List.{[]};
 ghost use Prim.Native.Nat.{_+_, _*_, _<_, _≤_};
 ghost use lib.ListN.{length};
+ghost use Rattle.model.specs.Limits.{mostRows};
 ghost use Rattle.model.specs.Table.{tables};
 ghost use Rattle.model.specs.Sound.{isT1, alphabetFits, isHole};
 ghost use Rattle.model.specs.Entry.{storeOf, answersIn, sizeFits};
@@ -15,6 +16,8 @@ use bank::index;
 use bank::index::Sight;
 use bank::rows;
 use model::Row;
+use model::limits::MOST_SYMBOLS;
+use model::limits::ROW_WIDTH;
 
 // Whether the alphabet is within its limits.
 pub fn alphabet_fits(counts: &[u8]) -> bool
@@ -23,7 +26,7 @@ pub fn alphabet_fits(counts: &[u8]) -> bool
     if counts.len() == 0 {
         return false;
     }
-    if 64 < counts.len() {
+    if MOST_SYMBOLS < counts.len() {
         return false;
     }
     let mut a = 0;
@@ -82,7 +85,7 @@ pub fn has_hole(holes: &[u8], row: Row) -> bool
 
 // The children of a row: earlier rows, then 0, at most one hole.
 fn kids_of(words: &[u32], holes: &[u8], row: Row, count: u8) -> Kids
-    requires { ⌜ Within (now words) (row .0) × (row .0 < 16384) × (count ≤ 4) × (row .0 ≤ length (now holes)) ⌝ }
+    requires { ⌜ Within (now words) (row .0) × (row .0 < mostRows) × (count ≤ 4) × (row .0 ≤ length (now holes)) ⌝ }
     ensures { λ r. ⌜ r ≡ kidsIn (now (words .entry)) (now (holes .entry)) (row .0) count ⌝ }
 {
     if !unused_zero(words, row, count) {
@@ -281,7 +284,7 @@ pub fn t1(
     if used == 0 {
         return false;
     }
-    if words.len() < rows::WIDTH * used as usize {
+    if words.len() < ROW_WIDTH * used as usize {
         return false;
     }
     if !is_hole(words) {

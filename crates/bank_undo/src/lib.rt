@@ -2,15 +2,16 @@
 // where the step runs short.
 ghost use Prim.Native.Nat.{_+_, _*_, _≤_};
 ghost use lib.ListN.{length};
+ghost use Rattle.model.specs.Limits.{rowWidth};
 ghost use Rattle.bank_undo.specs.Saved.{Saved, PutBack};
-use bank::rows;
+use model::limits::ROW_WIDTH;
 
 // Saves the rows from `used` on, and no others: the first of them at the front of `saved`.
 pub fn save(words: &[u32], used: u16, saved: &mut [u32])
-    requires { ⌜ length (now words) ≤ 6 * used + length (now saved) ⌝ }
+    requires { ⌜ length (now words) ≤ rowWidth * used + length (now saved) ⌝ }
     ensures { λ _. ⌜ Saved (now (words .entry)) used (now (saved .exit)) ⌝ }
 {
-    let first = rows::WIDTH * used as usize;
+    let first = ROW_WIDTH * used as usize;
     let mut i = first;
     while i < words.len() {
         saved[i - first] = words[i];
@@ -20,10 +21,10 @@ pub fn save(words: &[u32], used: u16, saved: &mut [u32])
 
 // Puts them back.
 pub fn restore(words: &mut [u32], used: u16, saved: &[u32])
-    requires { ⌜ (6 * used ≤ length (now words)) × (length (now words) ≤ 6 * used + length (now saved)) ⌝ }
+    requires { ⌜ (rowWidth * used ≤ length (now words)) × (length (now words) ≤ rowWidth * used + length (now saved)) ⌝ }
     ensures { λ _. ⌜ PutBack (now (words .entry)) used (now (saved .entry)) (now (words .exit)) ⌝ }
 {
-    let start = rows::WIDTH * used as usize;
+    let start = ROW_WIDTH * used as usize;
     let mut at = start;
     while at < words.len() {
         words[at] = saved[at - start];

@@ -3,6 +3,7 @@
 ghost use mathlib.Core.Path.{_≡_};
 ghost use Prim.Native.Nat.{_≤_};
 ghost use lib.ListN.{length};
+ghost use Rattle.model.specs.Limits.{mostSymbols};
 ghost use Rattle.model.specs.Base.{over};
 ghost use Rattle.model.specs.Calls.{started};
 ghost use Rattle.model.specs.Entry.{zeroLists, listsOf, refused};
@@ -11,6 +12,10 @@ use bank::rows;
 use model::Lists;
 use model::Row;
 use model::Seen;
+use model::limits::MOST_CONTEXTS;
+use model::limits::MOST_RULES;
+use model::limits::MOST_STATES;
+use model::limits::MOST_SYMBOLS;
 
 // What a call returns, and the lists that it leaves.
 pub struct Done {
@@ -29,11 +34,11 @@ pub fn refuse(number: u8, lists: Lists) -> Done
 }
 
 // The alphabet at the front of an array, zeros behind it.
-fn spread(counts: &[u8]) -> [u8; 64]
-    requires { ⌜ length (now counts) ≤ 64 ⌝ }
+fn spread(counts: &[u8]) -> [u8; MOST_SYMBOLS]
+    requires { ⌜ length (now counts) ≤ mostSymbols ⌝ }
     ensures { λ r. ⌜ r ≡ over (now (counts .entry)) (zeroLists .counts) ⌝ }
 {
-    let mut wide = [0u8; 64];
+    let mut wide = [0u8; MOST_SYMBOLS];
     let mut a = 0;
     while a < counts.len() {
         wide[a] = counts[a];
@@ -44,7 +49,7 @@ fn spread(counts: &[u8]) -> [u8; 64]
 
 // The lists of a run that has learnt nothing: row 0 is used, C is the hole.
 fn fresh(counts: &[u8]) -> Lists
-    requires { ⌜ length (now counts) ≤ 64 ⌝ }
+    requires { ⌜ length (now counts) ≤ mostSymbols ⌝ }
     ensures { λ r. ⌜ r ≡ listsOf zeroLists (started 1 (now (counts .entry))) ⌝ }
 {
     Lists {
@@ -52,11 +57,11 @@ fn fresh(counts: &[u8]) -> Lists
         counts: spread(counts),
         used: 1,
         states: 0,
-        s: [0; 32],
+        s: [0; MOST_STATES],
         rules: 0,
-        t: [0; 256],
+        t: [0; MOST_RULES],
         contexts: 1,
-        c: [0; 289],
+        c: [0; MOST_CONTEXTS],
         hand: 0,
         asked: 0,
         accepted: 0,

@@ -5,6 +5,7 @@ use mathlib.Core.List.{List}
 use Prim.Native.Nat.{ℕ, _+_, _*_, _<_}
 use lib.Dec.{leb, eqb}
 use lib.ListN.{length, getD, drop}
+use Rattle.model.specs.Limits.{mostRules}
 use Rattle.model.specs.Base.{over}
 use Rattle.model.specs.Store.{Store}
 use Rattle.model.specs.Automata.{Automaton}
@@ -20,13 +21,13 @@ finalByte ws i = cond (eqb (answerIn ws i) 2) 1 0
 
 -- the first n rules, six bytes each
 pub record Flat (x : Store) (s t reps : List ℕ) (n : ℕ) (flat : List ℕ) : Type 0 where
-  pub long : length flat ≡ 1536
+  pub long : length flat ≡ ruleWidth * mostRules
   pub rule : (k : ℕ) → k < n → flatRule (x .counts) (drop (ruleWidth * k) flat) ≡ ruleBy x s reps (getD t k 0)
 
 -- the six bytes at a place, the others as they were
 pub record SixAt (flat : List ℕ) (at : ℕ) (bytes after : List ℕ) : Type 0 where
   pub long : length after ≡ length flat
-  pub here : (j : ℕ) → j < 6 → getD after (at + j) 0 ≡ getD bytes j 0
+  pub here : (j : ℕ) → j < ruleWidth → getD after (at + j) 0 ≡ getD bytes j 0
   pub before : (j : ℕ) → j < at → getD after j 0 ≡ getD flat j 0
 
 -- the list of an automaton put into an output: 20 and nothing where it does not fit

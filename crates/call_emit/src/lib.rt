@@ -3,19 +3,24 @@ ghost use mathlib.Core.Path.{_≡_};
 ghost use mathlib.Core.Bool.{true};
 ghost use Prim.Native.Nat.{ℕ, _+_, _*_, _<_, _≤_};
 ghost use lib.ListN.{length, getD, take};
+ghost use Rattle.model.specs.Limits.{mostRules, mostStates, rowWidth};
 ghost use Rattle.model.specs.Table.{finalsOf};
 ghost use Rattle.model.specs.Sound.{isSound};
 ghost use Rattle.model.specs.Entry.{storeOf, answersIn, sizeFits, listsFit, tablesOf, emitSeen, emitOut};
 ghost use Rattle.bank.specs.Rows.{Within};
 ghost use Rattle.bank.specs.Ready.{Ready};
 ghost use Rattle.table_verdict.specs.Rules.{ruleBy, Ruled};
-ghost use Rattle.list.specs.Flat.{flatRule, flatAutomaton, Short};
+ghost use Rattle.list.specs.Flat.{flatRule, flatAutomaton, Short, ruleWidth};
 ghost use Rattle.sound.specs.Working.{Working};
 ghost use Rattle.call_emit.specs.Proposal.{finalByte, Flat, SixAt, listedSeen, listedOut};
 use bank::rows;
 use model::Emitted;
 use model::Lists;
 use model::Row;
+use model::limits::MOST_CONTEXTS;
+use model::limits::MOST_ROWS;
+use model::limits::MOST_RULES;
+use model::limits::MOST_STATES;
 
 // 1 for a state that is final, by its representative.
 fn final_byte(words: &[u32], rep: Row) -> u8
@@ -29,9 +34,15 @@ fn final_byte(words: &[u32], rep: Row) -> u8
 }
 
 // A final byte for each state.
-fn write_finals(words: &[u32], used: u16, s: &[u16; 32], states: usize, finals: &mut [u8; 32])
-    requires { ⌜ (6 * used ≤ length (now words)) × (length (now s) ≡ 32) × (states ≤ 32) × ((i : ℕ) → i < states → getD (now s) i 0 < used) × (length (now finals) ≡ 32) ⌝ }
-    ensures { λ _. ⌜ (take states (now (finals .exit)) ≡ finalsOf (answersIn used (now (words .entry))) (take states (now (s .entry)))) × (length (now (finals .exit)) ≡ 32) ⌝ }
+fn write_finals(
+    words: &[u32],
+    used: u16,
+    s: &[u16; MOST_STATES],
+    states: usize,
+    finals: &mut [u8; MOST_STATES],
+)
+    requires { ⌜ (rowWidth * used ≤ length (now words)) × (length (now s) ≡ mostStates) × (states ≤ mostStates) × ((i : ℕ) → i < states → getD (now s) i 0 < used) × (length (now finals) ≡ mostStates) ⌝ }
+    ensures { λ _. ⌜ (take states (now (finals .exit)) ≡ finalsOf (answersIn used (now (words .entry))) (take states (now (s .entry)))) × (length (now (finals .exit)) ≡ mostStates) ⌝ }
 {
     let mut q = 0;
     while q < states {
@@ -50,20 +61,20 @@ fn rule_bytes(
     head: &[u16],
     next: &[u16],
     mix: &[u32; 5],
-    s: &[u16; 32],
+    s: &[u16; MOST_STATES],
     states: usize,
-    t: &[u16; 256],
+    t: &[u16; MOST_RULES],
     rules: usize,
     reps: &[u16],
     k: usize,
-) -> [u8; 6]
-    requires { ⌜ Ready (now words) (now counts) used (now holes) (now head) (now next) (now mix) × Ruled (storeOf (now words) (now counts) used) (take states (now s)) (take rules (now t)) (now reps) × (length (now s) ≡ 32) × (states ≤ 32) × (length (now t) ≡ 256) × (rules ≤ 256) × (k < rules) ⌝ }
-    ensures { λ r. ⌜ (length r ≡ 6) × (flatRule (now (counts .entry)) r ≡ ruleBy (storeOf (now (words .entry)) (now (counts .entry)) used) (take states (now (s .entry))) (now (reps .entry)) (getD (now (t .entry)) k 0)) ⌝ }
+) -> [u8; list::RULE_WIDTH]
+    requires { ⌜ Ready (now words) (now counts) used (now holes) (now head) (now next) (now mix) × Ruled (storeOf (now words) (now counts) used) (take states (now s)) (take rules (now t)) (now reps) × (length (now s) ≡ mostStates) × (states ≤ mostStates) × (length (now t) ≡ mostRules) × (rules ≤ mostRules) × (k < rules) ⌝ }
+    ensures { λ r. ⌜ (length r ≡ ruleWidth) × (flatRule (now (counts .entry)) r ≡ ruleBy (storeOf (now (words .entry)) (now (counts .entry)) used) (take states (now (s .entry))) (now (reps .entry)) (getD (now (t .entry)) k 0)) ⌝ }
 {
     let row = Row(t[k]);
     let symbol = rows::symbol_of(words, row);
     let count = counts[symbol as usize] as usize;
-    let mut bytes = [0u8; 6];
+    let mut bytes = [0u8; list::RULE_WIDTH];
     bytes[0] = symbol as u8;
     let mut i = 0;
     while i < count {
@@ -78,8 +89,8 @@ fn rule_bytes(
 }
 
 // Six bytes put at a place.
-fn put_six(flat: &mut [u8; 1536], at: usize, bytes: [u8; 6])
-    requires { ⌜ (length (now flat) ≡ 1536) × (at + 6 ≤ 1536) ⌝ }
+fn put_six(flat: &mut [u8; list::RULE_WIDTH * MOST_RULES], at: usize, bytes: [u8; list::RULE_WIDTH])
+    requires { ⌜ (length (now flat) ≡ ruleWidth * mostRules) × (at + ruleWidth ≤ ruleWidth * mostRules) ⌝ }
     ensures { λ _. ⌜ SixAt (now (flat .entry)) at bytes (now (flat .exit)) ⌝ }
 {
     flat[at] = bytes[0];
@@ -99,14 +110,14 @@ fn write_rules(
     head: &[u16],
     next: &[u16],
     mix: &[u32; 5],
-    s: &[u16; 32],
+    s: &[u16; MOST_STATES],
     states: usize,
-    t: &[u16; 256],
+    t: &[u16; MOST_RULES],
     rules: usize,
     reps: &[u16],
-    flat: &mut [u8; 1536],
+    flat: &mut [u8; list::RULE_WIDTH * MOST_RULES],
 )
-    requires { ⌜ Ready (now words) (now counts) used (now holes) (now head) (now next) (now mix) × Ruled (storeOf (now words) (now counts) used) (take states (now s)) (take rules (now t)) (now reps) × (length (now s) ≡ 32) × (states ≤ 32) × (length (now t) ≡ 256) × (rules ≤ 256) × (length (now flat) ≡ 1536) ⌝ }
+    requires { ⌜ Ready (now words) (now counts) used (now holes) (now head) (now next) (now mix) × Ruled (storeOf (now words) (now counts) used) (take states (now s)) (take rules (now t)) (now reps) × (length (now s) ≡ mostStates) × (states ≤ mostStates) × (length (now t) ≡ mostRules) × (rules ≤ mostRules) × (length (now flat) ≡ ruleWidth * mostRules) ⌝ }
     ensures { λ _. ⌜ Flat (storeOf (now (words .entry)) (now (counts .entry)) used) (take states (now (s .entry))) (now (t .entry)) (now (reps .entry)) rules (now (flat .exit)) ⌝ }
 {
     let mut k = 0;
@@ -126,7 +137,7 @@ fn write_rules(
             reps,
             k,
         );
-        put_six(flat, 6 * k, bytes);
+        put_six(flat, list::RULE_WIDTH * k, bytes);
         k += 1;
     }
 }
@@ -167,7 +178,7 @@ fn emit_proposed(
     next: &[u16],
     mix: &[u32; 5],
     table: &[u8],
-    places: &[u16; 32],
+    places: &[u16; MOST_STATES],
     reps: &[u16],
     out: &mut [u8],
 ) -> Emitted
@@ -181,8 +192,8 @@ fn emit_proposed(
     let t = lists.t;
     let states = lists.states as usize;
     let rules = lists.rules as usize;
-    let mut finals = [0u8; 32];
-    let mut flat = [0u8; 1536];
+    let mut finals = [0u8; MOST_STATES];
+    let mut flat = [0u8; list::RULE_WIDTH * MOST_RULES];
     write_finals(words, lists.used, &s, states, &mut finals);
     write_rules(
         words,
@@ -202,7 +213,7 @@ fn emit_proposed(
     write_listed(
         &counts[..letters],
         &finals[..states],
-        &flat[..6 * rules],
+        &flat[..list::RULE_WIDTH * rules],
         out,
     )
 }
@@ -213,13 +224,13 @@ fn emit_within(words: &[u32], lists: Lists, out: &mut [u8]) -> Emitted
     ensures { λ r. ⌜ r ≡ emitSeen (now (words .entry)) lists (now (out .entry)) ⌝ }
     ensures bytes { λ r. ⌜ now (out .exit) ≡ emitOut (now (words .entry)) lists (now (out .entry)) ⌝ }
 {
-    let mut holes = [0u8; 16384];
-    let mut head = [0u16; 16384];
-    let mut next = [0u16; 16384];
+    let mut holes = [0u8; MOST_ROWS];
+    let mut head = [0u16; MOST_ROWS];
+    let mut next = [0u16; MOST_ROWS];
     let mut mix = [0u32; 5];
-    let mut table = [0u8; 73984];
-    let mut places = [0u16; 32];
-    let mut reps = [0u16; 16384];
+    let mut table = [0u8; MOST_CONTEXTS * MOST_RULES];
+    let mut places = [0u16; MOST_STATES];
+    let mut reps = [0u16; MOST_ROWS];
     if !sound::lists_sound(
         words,
         lists,

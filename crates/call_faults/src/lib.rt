@@ -9,6 +9,7 @@ ghost use Rattle.step_end.specs.Stepping.{countsIn};
 ghost use Rattle.call_faults.specs.Lines.{InputFault, Tested};
 use bank::rows;
 use model::Lists;
+use model::limits::MOST_STATES;
 
 // The number of the first line that refuses an offer without a look at the tables, 31 or 11 to 16; 0 for none.
 fn input_fault(lists: Lists, symbols: &[u8], mark: u8) -> u8
@@ -44,7 +45,7 @@ fn verdict_is(
     next: &[u16],
     mix: &[u32; 5],
     table: &[u8],
-    places: &[u16; 32],
+    places: &[u16; MOST_STATES],
     reps: &[u16],
 ) -> bool
     requires { ⌜ (listsFit lists ≡ true) × (isSound (tablesOf (now words) lists) ≡ true) × Working (now words) (countsIn lists) (lists .used) (lists .s) (lists .states) (lists .t) (lists .rules) (lists .c) (lists .contexts) (now holes) (now head) (now next) (now mix) (now table) (now places) (now reps) × Tested lists (now symbols) mark ⌝ }
@@ -83,7 +84,7 @@ pub fn fault_of(
     next: &[u16],
     mix: &[u32; 5],
     table: &[u8],
-    places: &[u16; 32],
+    places: &[u16; MOST_STATES],
     reps: &[u16],
 ) -> u8
     requires { ⌜ (sizeFits (now words) ≡ true) × (listsFit lists ≡ true) × (isSound (tablesOf (now words) lists) ≡ true) × Working (now words) (countsIn lists) (lists .used) (lists .s) (lists .states) (lists .t) (lists .rules) (lists .c) (lists .contexts) (now holes) (now head) (now next) (now mix) (now table) (now places) (now reps) ⌝ }

@@ -3,6 +3,7 @@ ghost use mathlib.Core.Path.{_≡_};
 ghost use mathlib.Core.Bool.{true};
 ghost use Prim.Native.Nat.{_+_, _*_, _≤_};
 ghost use lib.ListN.{length};
+ghost use Rattle.model.specs.Limits.{mostContexts, rowWidth};
 ghost use Rattle.model.specs.Calls.{answers, offers};
 ghost use Rattle.model.specs.Entry.{sizeFits, listsFit};
 ghost use Rattle.sound.specs.Working.{Room};
@@ -10,6 +11,7 @@ ghost use Rattle.call.specs.Calls.{CallAs};
 ghost use Rattle.call_lent.specs.Said.{callOf};
 use call::Done;
 use model::Lists;
+use model::limits::MOST_STATES;
 
 // What the archive said: an answer to the open question, or its mark for the record offered.
 pub enum Said {
@@ -28,10 +30,10 @@ fn answer_in(
     next: &mut [u16],
     mix: &mut [u32; 5],
     table: &mut [u8],
-    places: &mut [u16; 32],
+    places: &mut [u16; MOST_STATES],
     reps: &mut [u16],
 ) -> Done
-    requires { ⌜ (sizeFits (now words) ≡ true) × (listsFit lists ≡ true) × (length (now words) ≤ 6 * lists .used + length (now saved)) × Room (now words) (lists .rules) (now holes) (now head) (now next) (now mix) (now table) (now places) (now reps) × (289 * (lists .rules + 1) ≤ length (now table)) ⌝ }
+    requires { ⌜ (sizeFits (now words) ≡ true) × (listsFit lists ≡ true) × (length (now words) ≤ rowWidth * lists .used + length (now saved)) × Room (now words) (lists .rules) (now holes) (now head) (now next) (now mix) (now table) (now places) (now reps) × (mostContexts * (lists .rules + 1) ≤ length (now table)) ⌝ }
     ensures { λ r. ⌜ CallAs (now (words .entry)) lists (answers mark) r (now (words .exit)) ⌝ }
 {
     if !sound::lists_sound(words, lists, holes, head, next, mix, table, places, reps) {
@@ -70,10 +72,10 @@ fn offer_in(
     next: &mut [u16],
     mix: &mut [u32; 5],
     table: &mut [u8],
-    places: &mut [u16; 32],
+    places: &mut [u16; MOST_STATES],
     reps: &mut [u16],
 ) -> Done
-    requires { ⌜ (sizeFits (now words) ≡ true) × (listsFit lists ≡ true) × (length (now words) ≤ 6 * lists .used + length (now saved)) × Room (now words) (lists .rules) (now holes) (now head) (now next) (now mix) (now table) (now places) (now reps) × (289 * (lists .rules + 1) ≤ length (now table)) ⌝ }
+    requires { ⌜ (sizeFits (now words) ≡ true) × (listsFit lists ≡ true) × (length (now words) ≤ rowWidth * lists .used + length (now saved)) × Room (now words) (lists .rules) (now holes) (now head) (now next) (now mix) (now table) (now places) (now reps) × (mostContexts * (lists .rules + 1) ≤ length (now table)) ⌝ }
     ensures { λ r. ⌜ CallAs (now (words .entry)) lists (offers (now (symbols .entry)) mark) r (now (words .exit)) ⌝ }
 {
     if !sound::lists_sound(words, lists, holes, head, next, mix, table, places, reps) {
@@ -123,10 +125,10 @@ pub fn call_in(
     next: &mut [u16],
     mix: &mut [u32; 5],
     table: &mut [u8],
-    places: &mut [u16; 32],
+    places: &mut [u16; MOST_STATES],
     reps: &mut [u16],
 ) -> Done
-    requires { ⌜ (sizeFits (now words) ≡ true) × (listsFit lists ≡ true) × (length (now words) ≤ 6 * lists .used + length (now saved)) × Room (now words) (lists .rules) (now holes) (now head) (now next) (now mix) (now table) (now places) (now reps) × (289 * (lists .rules + 1) ≤ length (now table)) ⌝ }
+    requires { ⌜ (sizeFits (now words) ≡ true) × (listsFit lists ≡ true) × (length (now words) ≤ rowWidth * lists .used + length (now saved)) × Room (now words) (lists .rules) (now holes) (now head) (now next) (now mix) (now table) (now places) (now reps) × (mostContexts * (lists .rules + 1) ≤ length (now table)) ⌝ }
     ensures { λ r. ⌜ CallAs (now (words .entry)) lists (callOf said (now (symbols .entry))) r (now (words .exit)) ⌝ }
 {
     match said {

@@ -3,18 +3,20 @@ ghost use mathlib.Core.Path.{_≡_};
 ghost use mathlib.Core.Bool.{true};
 ghost use Prim.Native.Nat.{_*_, _<_, _≤_};
 ghost use lib.ListN.{length};
+ghost use Rattle.bank.specs.Ladder.{smallRows, smallRules};
+ghost use Rattle.model.specs.Limits.{rowWidth};
 ghost use Rattle.model.specs.Calls.{looks, look as lookOf};
 ghost use Rattle.model.specs.Entry.{sizeFits, listsFit, tablesOf, seenOf, callSeen};
-use bank::rows;
+use bank::ladder;
+use bank::ladder::SMALL_ROWS;
+use bank::ladder::SMALL_RULES;
 use model::Lists;
 use model::Seen;
-
-// Small room: for so many rows, and for fewer transitions than so many; a row of the table of answers is as long as C can be.
-const FEW_ROWS: usize = 1024;
-
-const FEW_RULES: usize = 64;
-
-const CONTEXTS: usize = 289;
+use model::limits::MOST_CONTEXTS;
+use model::limits::MOST_ROWS;
+use model::limits::MOST_RULES;
+use model::limits::MOST_STATES;
+use model::limits::ROW_WIDTH;
 
 // What looking tells of lists that are within their arrays.
 pub fn told(words: &[u32], lists: Lists) -> Seen
@@ -40,16 +42,16 @@ pub fn told(words: &[u32], lists: Lists) -> Seen
 
 // Looking in small room: few rows, and few transitions.
 fn look_few(words: &[u32], lists: Lists) -> Seen
-    requires { ⌜ (sizeFits (now words) ≡ true) × (listsFit lists ≡ true) × (length (now words) ≤ 6144) × (lists .rules < 64) ⌝ }
+    requires { ⌜ (sizeFits (now words) ≡ true) × (listsFit lists ≡ true) × (length (now words) ≤ rowWidth * smallRows) × (lists .rules < smallRules) ⌝ }
     ensures { λ r. ⌜ r ≡ callSeen (now (words .entry)) lists looks ⌝ }
 {
-    let mut holes = [0u8; FEW_ROWS];
-    let mut head = [0u16; FEW_ROWS];
-    let mut next = [0u16; FEW_ROWS];
+    let mut holes = [0u8; SMALL_ROWS];
+    let mut head = [0u16; SMALL_ROWS];
+    let mut next = [0u16; SMALL_ROWS];
     let mut mix = [0u32; 5];
-    let mut table = [0u8; CONTEXTS * FEW_RULES];
-    let mut places = [0u16; 32];
-    let mut reps = [0u16; FEW_ROWS];
+    let mut table = [0u8; MOST_CONTEXTS * SMALL_RULES];
+    let mut places = [0u16; MOST_STATES];
+    let mut reps = [0u16; SMALL_ROWS];
     if !sound::lists_sound(
         words,
         lists,
@@ -71,13 +73,13 @@ fn look_wide(words: &[u32], lists: Lists) -> Seen
     requires { ⌜ (sizeFits (now words) ≡ true) × (listsFit lists ≡ true) ⌝ }
     ensures { λ r. ⌜ r ≡ callSeen (now (words .entry)) lists looks ⌝ }
 {
-    let mut holes = [0u8; 16384];
-    let mut head = [0u16; 16384];
-    let mut next = [0u16; 16384];
+    let mut holes = [0u8; MOST_ROWS];
+    let mut head = [0u16; MOST_ROWS];
+    let mut next = [0u16; MOST_ROWS];
     let mut mix = [0u32; 5];
-    let mut table = [0u8; 73984];
-    let mut places = [0u16; 32];
-    let mut reps = [0u16; 16384];
+    let mut table = [0u8; MOST_CONTEXTS * MOST_RULES];
+    let mut places = [0u16; MOST_STATES];
+    let mut reps = [0u16; MOST_ROWS];
     if !sound::lists_sound(
         words,
         lists,
@@ -96,18 +98,15 @@ fn look_wide(words: &[u32], lists: Lists) -> Seen
 
 // Whether small room is enough for the used rows, and they are lent.
 fn is_small(used: u16, rules: u16, size: usize) -> bool
-    ensures { λ r. ⌜ (r ≡ true → (1 ≤ used) × (used ≤ 1024) × (6 * used ≤ size) × (rules < 64)) ⌝ }
+    ensures { λ r. ⌜ (r ≡ true → (1 ≤ used) × (used ≤ smallRows) × (rowWidth * used ≤ size) × (rules < smallRules)) ⌝ }
 {
     if used == 0 {
         return false;
     }
-    if FEW_ROWS < used as usize {
+    if size < ROW_WIDTH * used as usize {
         return false;
     }
-    if size < rows::WIDTH * used as usize {
-        return false;
-    }
-    (rules as usize) < FEW_RULES
+    ladder::is_small(used as usize, rules)
 }
 
 // Looking: 18, 30, then what looking tells; on a small table over the used rows alone.
@@ -121,7 +120,7 @@ pub fn look(words: &[u32], lists: Lists) -> Seen
         return sound_parts::refusal(30);
     }
     if is_small(lists.used, lists.rules, words.len()) {
-        let most = rows::WIDTH * lists.used as usize;
+        let most = ROW_WIDTH * lists.used as usize;
         return look_few(&words[..most], lists);
     }
     look_wide(words, lists)

@@ -4,19 +4,33 @@ ghost use mathlib.Core.Path.{_≡_};
 ghost use mathlib.Core.Bool.{true};
 ghost use Prim.Native.Nat.{_<_, _+_, _*_, _≤_};
 ghost use lib.ListN.{length};
+ghost use Rattle.bank.specs.Ladder.{midRows, midRules, smallRows, smallRules, tinyRows, tinyRules};
+ghost use Rattle.model.specs.Limits.{rowWidth};
 ghost use Rattle.model.specs.Entry.{sizeFits, listsFit};
 ghost use Rattle.call.specs.Calls.{CallAs};
 ghost use Rattle.call_lent.specs.Said.{callOf};
-ghost use Rattle.call_room.specs.Tried.{FirstAs};
-use bank::rows;
+ghost use Rattle.call_room.specs.Tried.{FirstAs, moreSpareRows, spareRows};
+use bank::ladder;
+use bank::ladder::MID_ROWS;
+use bank::ladder::MID_RULES;
+use bank::ladder::SMALL_ROWS;
+use bank::ladder::SMALL_RULES;
+use bank::ladder::TINY_ROWS;
+use bank::ladder::TINY_RULES;
 use call::Done;
 use call_lent::Said;
 use model::Lists;
+use model::limits::MOST_CONTEXTS;
+use model::limits::MOST_ROWS;
+use model::limits::MOST_RULES;
+use model::limits::MOST_STATES;
+use model::limits::MOST_WORDS;
+use model::limits::ROW_WIDTH;
 
 // Rows past the used ones that a call is first tried with, and then.
-const FEW: usize = 64;
+const SPARE_ROWS: usize = 64;
 
-const MORE: usize = 256;
+const MORE_SPARE_ROWS: usize = 256;
 
 // Where more rows are used, contexts may be deep and one call may add thousands: all rows are lent at once.
 const DEEP: u16 = 4096;
@@ -24,32 +38,17 @@ const DEEP: u16 = 4096;
 // A longer record is not tried with few rows.
 const SHORT: usize = 64;
 
-// Room for so many rows and for fewer transitions than so many; a row of the table of answers is as long as C can be.
-const TINY_ROWS: usize = 384;
-
-const TINY_RULES: usize = 40;
-
-const SMALL_ROWS: usize = 1024;
-
-const SMALL_RULES: usize = 64;
-
-const MID_ROWS: usize = 2048;
-
-const MID_RULES: usize = 128;
-
-const CONTEXTS: usize = 289;
-
 // The same in the smallest room.
 fn in_tiny(words: &mut [u32], lists: Lists, symbols: &[u8], said: Said, saved: &mut [u32]) -> Done
-    requires { ⌜ (sizeFits (now words) ≡ true) × (listsFit lists ≡ true) × (length (now words) ≤ 6 * lists .used + length (now saved)) × (length (now words) ≤ 2304) × (lists .rules < 40) ⌝ }
+    requires { ⌜ (sizeFits (now words) ≡ true) × (listsFit lists ≡ true) × (length (now words) ≤ rowWidth * lists .used + length (now saved)) × (length (now words) ≤ rowWidth * tinyRows) × (lists .rules < tinyRules) ⌝ }
     ensures { λ r. ⌜ CallAs (now (words .entry)) lists (callOf said (now (symbols .entry))) r (now (words .exit)) ⌝ }
 {
     let mut holes = [0u8; TINY_ROWS];
     let mut head = [0u16; 512];
     let mut next = [0u16; TINY_ROWS];
     let mut mix = [0u32; 5];
-    let mut table = [0u8; CONTEXTS * TINY_RULES];
-    let mut places = [0u16; 32];
+    let mut table = [0u8; MOST_CONTEXTS * TINY_RULES];
+    let mut places = [0u16; MOST_STATES];
     let mut reps = [0u16; TINY_ROWS];
     call_lent::call_in(
         words,
@@ -69,15 +68,15 @@ fn in_tiny(words: &mut [u32], lists: Lists, symbols: &[u8], said: Said, saved: &
 
 // The same in small room.
 fn in_small(words: &mut [u32], lists: Lists, symbols: &[u8], said: Said, saved: &mut [u32]) -> Done
-    requires { ⌜ (sizeFits (now words) ≡ true) × (listsFit lists ≡ true) × (length (now words) ≤ 6 * lists .used + length (now saved)) × (length (now words) ≤ 6144) × (lists .rules < 64) ⌝ }
+    requires { ⌜ (sizeFits (now words) ≡ true) × (listsFit lists ≡ true) × (length (now words) ≤ rowWidth * lists .used + length (now saved)) × (length (now words) ≤ rowWidth * smallRows) × (lists .rules < smallRules) ⌝ }
     ensures { λ r. ⌜ CallAs (now (words .entry)) lists (callOf said (now (symbols .entry))) r (now (words .exit)) ⌝ }
 {
     let mut holes = [0u8; SMALL_ROWS];
     let mut head = [0u16; SMALL_ROWS];
     let mut next = [0u16; SMALL_ROWS];
     let mut mix = [0u32; 5];
-    let mut table = [0u8; CONTEXTS * SMALL_RULES];
-    let mut places = [0u16; 32];
+    let mut table = [0u8; MOST_CONTEXTS * SMALL_RULES];
+    let mut places = [0u16; MOST_STATES];
     let mut reps = [0u16; SMALL_ROWS];
     call_lent::call_in(
         words,
@@ -97,15 +96,15 @@ fn in_small(words: &mut [u32], lists: Lists, symbols: &[u8], said: Said, saved: 
 
 // The same in larger room.
 fn in_mid(words: &mut [u32], lists: Lists, symbols: &[u8], said: Said, saved: &mut [u32]) -> Done
-    requires { ⌜ (sizeFits (now words) ≡ true) × (listsFit lists ≡ true) × (length (now words) ≤ 6 * lists .used + length (now saved)) × (length (now words) ≤ 12288) × (lists .rules < 128) ⌝ }
+    requires { ⌜ (sizeFits (now words) ≡ true) × (listsFit lists ≡ true) × (length (now words) ≤ rowWidth * lists .used + length (now saved)) × (length (now words) ≤ rowWidth * midRows) × (lists .rules < midRules) ⌝ }
     ensures { λ r. ⌜ CallAs (now (words .entry)) lists (callOf said (now (symbols .entry))) r (now (words .exit)) ⌝ }
 {
     let mut holes = [0u8; MID_ROWS];
     let mut head = [0u16; 4096];
     let mut next = [0u16; MID_ROWS];
     let mut mix = [0u32; 5];
-    let mut table = [0u8; CONTEXTS * MID_RULES];
-    let mut places = [0u16; 32];
+    let mut table = [0u8; MOST_CONTEXTS * MID_RULES];
+    let mut places = [0u16; MOST_STATES];
     let mut reps = [0u16; MID_ROWS];
     call_lent::call_in(
         words,
@@ -125,16 +124,16 @@ fn in_mid(words: &mut [u32], lists: Lists, symbols: &[u8], said: Said, saved: &m
 
 // The same in room for all that may be lent.
 fn in_wide(words: &mut [u32], lists: Lists, symbols: &[u8], said: Said, saved: &mut [u32]) -> Done
-    requires { ⌜ (sizeFits (now words) ≡ true) × (listsFit lists ≡ true) × (length (now words) ≤ 6 * lists .used + length (now saved)) ⌝ }
+    requires { ⌜ (sizeFits (now words) ≡ true) × (listsFit lists ≡ true) × (length (now words) ≤ rowWidth * lists .used + length (now saved)) ⌝ }
     ensures { λ r. ⌜ CallAs (now (words .entry)) lists (callOf said (now (symbols .entry))) r (now (words .exit)) ⌝ }
 {
-    let mut holes = [0u8; 16384];
-    let mut head = [0u16; 16384];
-    let mut next = [0u16; 16384];
+    let mut holes = [0u8; MOST_ROWS];
+    let mut head = [0u16; MOST_ROWS];
+    let mut next = [0u16; MOST_ROWS];
     let mut mix = [0u32; 5];
-    let mut table = [0u8; 74273];
-    let mut places = [0u16; 32];
-    let mut reps = [0u16; 16384];
+    let mut table = [0u8; MOST_CONTEXTS * (MOST_RULES + 1)];
+    let mut places = [0u16; MOST_STATES];
+    let mut reps = [0u16; MOST_ROWS];
     call_lent::call_in(
         words,
         lists,
@@ -153,11 +152,11 @@ fn in_wide(words: &mut [u32], lists: Lists, symbols: &[u8], said: Said, saved: &
 
 // With few rows past the used ones, on a small table.
 fn with_few(words: &mut [u32], lists: Lists, symbols: &[u8], said: Said) -> Done
-    requires { ⌜ (sizeFits (now words) ≡ true) × (listsFit lists ≡ true) × (length (now words) ≤ 6 * (lists .used + 64)) × (length (now words) ≤ 6144) × (lists .rules < 64) ⌝ }
+    requires { ⌜ (sizeFits (now words) ≡ true) × (listsFit lists ≡ true) × (length (now words) ≤ rowWidth * (lists .used + spareRows)) × (length (now words) ≤ rowWidth * smallRows) × (lists .rules < smallRules) ⌝ }
     ensures { λ r. ⌜ CallAs (now (words .entry)) lists (callOf said (now (symbols .entry))) r (now (words .exit)) ⌝ }
 {
-    let mut saved = [0u32; rows::WIDTH * FEW];
-    if words.len() <= rows::WIDTH * TINY_ROWS {
+    let mut saved = [0u32; ROW_WIDTH * SPARE_ROWS];
+    if words.len() <= ROW_WIDTH * TINY_ROWS {
         if (lists.rules as usize) < TINY_RULES {
             return in_tiny(words, lists, symbols, said, &mut saved);
         }
@@ -167,11 +166,11 @@ fn with_few(words: &mut [u32], lists: Lists, symbols: &[u8], said: Said) -> Done
 
 // With more rows past the used ones.
 fn with_more(words: &mut [u32], lists: Lists, symbols: &[u8], said: Said) -> Done
-    requires { ⌜ (sizeFits (now words) ≡ true) × (listsFit lists ≡ true) × (length (now words) ≤ 6 * (lists .used + 256)) ⌝ }
+    requires { ⌜ (sizeFits (now words) ≡ true) × (listsFit lists ≡ true) × (length (now words) ≤ rowWidth * (lists .used + moreSpareRows)) ⌝ }
     ensures { λ r. ⌜ CallAs (now (words .entry)) lists (callOf said (now (symbols .entry))) r (now (words .exit)) ⌝ }
 {
-    let mut saved = [0u32; rows::WIDTH * MORE];
-    if words.len() <= rows::WIDTH * MID_ROWS {
+    let mut saved = [0u32; ROW_WIDTH * MORE_SPARE_ROWS];
+    if words.len() <= ROW_WIDTH * MID_ROWS {
         if (lists.rules as usize) < MID_RULES {
             return in_mid(words, lists, symbols, said, &mut saved);
         }
@@ -184,8 +183,8 @@ fn with_all(words: &mut [u32], lists: Lists, symbols: &[u8], said: Said) -> Done
     requires { ⌜ (sizeFits (now words) ≡ true) × (listsFit lists ≡ true) ⌝ }
     ensures { λ r. ⌜ CallAs (now (words .entry)) lists (callOf said (now (symbols .entry))) r (now (words .exit)) ⌝ }
 {
-    let mut saved = [0u32; 98304];
-    if words.len() <= rows::WIDTH * MID_ROWS {
+    let mut saved = [0u32; MOST_WORDS];
+    if words.len() <= ROW_WIDTH * MID_ROWS {
         if (lists.rules as usize) < MID_RULES {
             return in_mid(words, lists, symbols, said, &mut saved);
         }
@@ -194,24 +193,21 @@ fn with_all(words: &mut [u32], lists: Lists, symbols: &[u8], said: Said) -> Done
 }
 
 // Whether a call is tried with few rows: a short record, on a small table.
-fn is_small(used: u16, rules: u16, length: usize) -> bool
-    ensures { λ r. ⌜ (r ≡ true → (used + 64 ≤ 1024) × (rules < 64)) ⌝ }
+fn is_short(used: u16, rules: u16, length: usize) -> bool
+    ensures { λ r. ⌜ (r ≡ true → (used + spareRows ≤ smallRows) × (rules < smallRules)) ⌝ }
 {
     if SHORT < length {
         return false;
     }
-    if SMALL_ROWS < used as usize + FEW {
-        return false;
-    }
-    (rules as usize) < SMALL_RULES
+    ladder::is_small(used as usize + SPARE_ROWS, rules)
 }
 
 // Tried with few rows past the used ones: 34 where they are not enough.
 fn first_few(words: &mut [u32], lists: Lists, symbols: &[u8], said: Said) -> Done
-    requires { ⌜ (sizeFits (now words) ≡ true) × (listsFit lists ≡ true) × (lists .used + 64 ≤ 1024) × (lists .rules < 64) ⌝ }
-    ensures { λ r. ⌜ FirstAs (now (words .entry)) (6 * (lists .used + 64)) lists (callOf said (now (symbols .entry))) r (now (words .exit)) ⌝ }
+    requires { ⌜ (sizeFits (now words) ≡ true) × (listsFit lists ≡ true) × (lists .used + spareRows ≤ smallRows) × (lists .rules < smallRules) ⌝ }
+    ensures { λ r. ⌜ FirstAs (now (words .entry)) (rowWidth * (lists .used + spareRows)) lists (callOf said (now (symbols .entry))) r (now (words .exit)) ⌝ }
 {
-    let most = rows::WIDTH * (lists.used as usize + FEW);
+    let most = ROW_WIDTH * (lists.used as usize + SPARE_ROWS);
     if words.len() <= most {
         return with_few(words, lists, symbols, said);
     }
@@ -221,9 +217,9 @@ fn first_few(words: &mut [u32], lists: Lists, symbols: &[u8], said: Said) -> Don
 // Tried with more rows: 34 where they are not enough.
 fn first_more(words: &mut [u32], lists: Lists, symbols: &[u8], said: Said) -> Done
     requires { ⌜ (sizeFits (now words) ≡ true) × (listsFit lists ≡ true) ⌝ }
-    ensures { λ r. ⌜ FirstAs (now (words .entry)) (6 * (lists .used + 256)) lists (callOf said (now (symbols .entry))) r (now (words .exit)) ⌝ }
+    ensures { λ r. ⌜ FirstAs (now (words .entry)) (rowWidth * (lists .used + moreSpareRows)) lists (callOf said (now (symbols .entry))) r (now (words .exit)) ⌝ }
 {
-    let most = rows::WIDTH * (lists.used as usize + MORE);
+    let most = ROW_WIDTH * (lists.used as usize + MORE_SPARE_ROWS);
     if words.len() <= most {
         return with_more(words, lists, symbols, said);
     }
@@ -243,7 +239,7 @@ fn tried_more(words: &mut [u32], lists: Lists, symbols: &[u8], said: Said) -> Do
     if seen.number != 34 {
         return done;
     }
-    if words.len() <= rows::WIDTH * (lists.used as usize + MORE) {
+    if words.len() <= ROW_WIDTH * (lists.used as usize + MORE_SPARE_ROWS) {
         return done;
     }
     with_all(words, lists, symbols, said)
@@ -260,7 +256,7 @@ pub fn made(words: &mut [u32], lists: Lists, symbols: &[u8], said: Said) -> Done
     if !sound_parts::lists_fit(lists) {
         return call::refuse(30, lists);
     }
-    if !is_small(lists.used, lists.rules, symbols.len()) {
+    if !is_short(lists.used, lists.rules, symbols.len()) {
         return tried_more(words, lists, symbols, said);
     }
     let done = first_few(words, lists, symbols, said);
@@ -268,7 +264,7 @@ pub fn made(words: &mut [u32], lists: Lists, symbols: &[u8], said: Said) -> Done
     if seen.number != 34 {
         return done;
     }
-    if words.len() <= rows::WIDTH * (lists.used as usize + FEW) {
+    if words.len() <= ROW_WIDTH * (lists.used as usize + SPARE_ROWS) {
         return done;
     }
     tried_more(words, lists, symbols, said)

@@ -3,6 +3,7 @@ ghost use mathlib.Core.Path.{_≡_};
 ghost use mathlib.Core.Bool.{true};
 ghost use Prim.Native.Nat.{_+_, _*_, _≤_};
 ghost use lib.ListN.{length};
+ghost use Rattle.model.specs.Limits.{mostContexts, rowWidth};
 ghost use Rattle.model.specs.Calls.{answers, offers, offerFault};
 ghost use Rattle.model.specs.Sound.{isSound};
 ghost use Rattle.model.specs.Entry.{sizeFits, listsFit, tablesOf};
@@ -14,6 +15,7 @@ use bank_fill::add::Grown;
 use call::Done;
 use model::Lists;
 use model::Row;
+use model::limits::MOST_STATES;
 
 // The lists with the question closed.
 fn closed(lists: Lists) -> Lists
@@ -36,10 +38,10 @@ pub fn take_answer(
     next: &mut [u16],
     mix: &[u32; 5],
     table: &mut [u8],
-    places: &[u16; 32],
+    places: &[u16; MOST_STATES],
     reps: &[u16],
 ) -> Done
-    requires { ⌜ (sizeFits (now words) ≡ true) × (listsFit lists ≡ true) × (isSound (tablesOf (now words) lists) ≡ true) × (lists .asked ≡ 0 → ⊥) × (mark ≤ 1) × Working (now words) (countsIn lists) (lists .used) (lists .s) (lists .states) (lists .t) (lists .rules) (lists .c) (lists .contexts) (now holes) (now head) (now next) (now mix) (now table) (now places) (now reps) × (length (now words) ≤ 6 * lists .used + length (now saved)) × (289 * (lists .rules + 1) ≤ length (now table)) ⌝ }
+    requires { ⌜ (sizeFits (now words) ≡ true) × (listsFit lists ≡ true) × (isSound (tablesOf (now words) lists) ≡ true) × (lists .asked ≡ 0 → ⊥) × (mark ≤ 1) × Working (now words) (countsIn lists) (lists .used) (lists .s) (lists .states) (lists .t) (lists .rules) (lists .c) (lists .contexts) (now holes) (now head) (now next) (now mix) (now table) (now places) (now reps) × (length (now words) ≤ rowWidth * lists .used + length (now saved)) × (mostContexts * (lists .rules + 1) ≤ length (now table)) ⌝ }
     ensures { λ r. ⌜ CallAs (now (words .entry)) lists (answers mark) r (now (words .exit)) ⌝ }
 {
     bank_undo::save(words, lists.used, saved);
@@ -84,10 +86,10 @@ pub fn take_offer(
     next: &mut [u16],
     mix: &[u32; 5],
     table: &mut [u8],
-    places: &[u16; 32],
+    places: &[u16; MOST_STATES],
     reps: &[u16],
 ) -> Done
-    requires { ⌜ (sizeFits (now words) ≡ true) × (listsFit lists ≡ true) × (isSound (tablesOf (now words) lists) ≡ true) × (offerFault (tablesOf (now words) lists) (now symbols) mark ≡ 0) × Working (now words) (countsIn lists) (lists .used) (lists .s) (lists .states) (lists .t) (lists .rules) (lists .c) (lists .contexts) (now holes) (now head) (now next) (now mix) (now table) (now places) (now reps) × (length (now words) ≤ 6 * lists .used + length (now saved)) × (289 * (lists .rules + 1) ≤ length (now table)) ⌝ }
+    requires { ⌜ (sizeFits (now words) ≡ true) × (listsFit lists ≡ true) × (isSound (tablesOf (now words) lists) ≡ true) × (offerFault (tablesOf (now words) lists) (now symbols) mark ≡ 0) × Working (now words) (countsIn lists) (lists .used) (lists .s) (lists .states) (lists .t) (lists .rules) (lists .c) (lists .contexts) (now holes) (now head) (now next) (now mix) (now table) (now places) (now reps) × (length (now words) ≤ rowWidth * lists .used + length (now saved)) × (mostContexts * (lists .rules + 1) ≤ length (now table)) ⌝ }
     ensures { λ r. ⌜ CallAs (now (words .entry)) lists (offers (now (symbols .entry)) mark) r (now (words .exit)) ⌝ }
 {
     let letters = lists.letters as usize;

@@ -11,7 +11,7 @@ use Rattle.model.specs.Listing.{little, blockOf, ruleBody, ruleBlocks}
 use Rattle.model.proofs.Laws.Blocks.{length-block}
 use Rattle.model.proofs.Laws.RuleBodies.{length-rule-body}
 use Rattle.list.specs.Put.{putAt}
-use Rattle.list.specs.Flat.{flatWidth, flatRule, flatRulesIn, flatRules}
+use Rattle.list.specs.Flat.{ruleWidth, flatWidth, flatRule, flatRulesIn, flatRules}
 use Rattle.list.proofs.Put.{put-three}
 
 -- A SMALL NUMBER in four bytes and in two
@@ -39,7 +39,7 @@ unfolding little
 length-head n k = refl
 
 -- ONE RULE
-module _ (ns us : List ℕ) (whole : 6 ≤ length us) where
+module _ (ns us : List ℕ) (whole : ruleWidth ≤ length us) where
   pub flat-states : length (flatRule ns us .states) ≡ flatWidth ns (getD us 0 0)
   flat-states = let d = length-drop 1 us in length-take-le (flatWidth ns (getD us 0 0)) (drop 1 us) (omega arith)
 
@@ -83,57 +83,57 @@ module _ (ns us : List ℕ) (whole : 6 ≤ length us) where
         ap (λ (b : List ℕ). putAt p b o) flat-block
 
 -- ALL RULES, the first and then the others; the others are the numbers from the seventh on
-pub others : (us : List ℕ) → 6 ≤ length us → take (length us - 6) (drop 6 us) ≡ drop 6 us
-others us l = let d = length-drop 6 us in take-all (length us - 6) (drop 6 us) (omega arith)
+pub others : (us : List ℕ) → ruleWidth ≤ length us → take (length us - ruleWidth) (drop ruleWidth us) ≡ drop ruleWidth us
+others us l = let d = length-drop ruleWidth us in take-all (length us - ruleWidth) (drop ruleWidth us) (omega arith)
 
 module _ (ns us : List ℕ) where
-  pub flat-none : length us < 6 → flatRules ns us ≡ []
+  pub flat-none : length us < ruleWidth → flatRules ns us ≡ []
   unfolding flatRulesIn
-  flat-none l = let e : length us / 6 ≡ 0 = omega arith in ap (λ (n : ℕ). flatRulesIn n ns us) e
+  flat-none l = let e : length us / ruleWidth ≡ 0 = omega arith in ap (λ (n : ℕ). flatRulesIn n ns us) e
 
-  pub flat-more : 6 ≤ length us → flatRules ns us ≡ flatRule ns us ∷ flatRules ns (drop 6 us)
+  pub flat-more : ruleWidth ≤ length us → flatRules ns us ≡ flatRule ns us ∷ flatRules ns (drop ruleWidth us)
   unfolding flatRulesIn
   flat-more l =
-      let d = length-drop 6 us in
-      let e : length us / 6 ≡ suc (length (drop 6 us) / 6) = omega arith in
+      let d = length-drop ruleWidth us in
+      let e : length us / ruleWidth ≡ suc (length (drop ruleWidth us) / ruleWidth) = omega arith in
       ap (λ (n : ℕ). flatRulesIn n ns us) e
 
   -- THEIR BLOCKS
-  pub blocks-none : length us < 6 → ruleBlocks (flatRules ns us) ≡ []
+  pub blocks-none : length us < ruleWidth → ruleBlocks (flatRules ns us) ≡ []
   unfolding ruleBlocks
   blocks-none l = ap ruleBlocks (flat-none l)
 
-  pub blocks-more : 6 ≤ length us → ruleBlocks (flatRules ns us) ≡ blockOf 3 (ruleBody (flatRule ns us)) ++ ruleBlocks (flatRules ns (drop 6 us))
+  pub blocks-more : ruleWidth ≤ length us → ruleBlocks (flatRules ns us) ≡ blockOf 3 (ruleBody (flatRule ns us)) ++ ruleBlocks (flatRules ns (drop ruleWidth us))
   unfolding ruleBlocks
   blocks-more l = ap ruleBlocks (flat-more l)
 
   pub length-rule : length (blockOf 3 (ruleBody (flatRule ns us))) ≡ 8 + length (flatRule ns us .states)
   length-rule = let b = length-block 3 (ruleBody (flatRule ns us)) in let m = length-rule-body (flatRule ns us) in omega arith
 
-  pub length-more : 6 ≤ length us →
-      length (ruleBlocks (flatRules ns us)) ≡ 8 + flatWidth ns (getD us 0 0) + length (ruleBlocks (flatRules ns (drop 6 us)))
+  pub length-more : ruleWidth ≤ length us →
+      length (ruleBlocks (flatRules ns us)) ≡ 8 + flatWidth ns (getD us 0 0) + length (ruleBlocks (flatRules ns (drop ruleWidth us)))
   length-more l =
       let b = length-rule in
       let s = flat-states ns us l in
-      ap length (blocks-more l) ∙ length-append (blockOf 3 (ruleBody (flatRule ns us))) (ruleBlocks (flatRules ns (drop 6 us))) ∙ omega arith
+      ap length (blocks-more l) ∙ length-append (blockOf 3 (ruleBody (flatRule ns us))) (ruleBlocks (flatRules ns (drop ruleWidth us))) ∙ omega arith
 
 -- at most twelve bytes a rule
-few-blocks : (n : ℕ) (ns us : List ℕ) → 6 * n ≤ length us → length (ruleBlocks (flatRulesIn n ns us)) ≤ 12 * n
+few-blocks : (n : ℕ) (ns us : List ℕ) → ruleWidth * n ≤ length us → length (ruleBlocks (flatRulesIn n ns us)) ≤ 12 * n
 unfolding flatRulesIn ruleBlocks
 few-blocks zero ns us l = omega arith
 few-blocks (suc n) ns us l =
-    let d = length-drop 6 us in
-    let i = few-blocks n ns (drop 6 us) (omega arith) in
+    let d = length-drop ruleWidth us in
+    let i = few-blocks n ns (drop ruleWidth us) (omega arith) in
     let b = length-rule ns us in
     let s = flat-states ns us (omega arith) in
-    let a = length-append (blockOf 3 (ruleBody (flatRule ns us))) (ruleBlocks (flatRulesIn n ns (drop 6 us))) in
+    let a = length-append (blockOf 3 (ruleBody (flatRule ns us))) (ruleBlocks (flatRulesIn n ns (drop ruleWidth us))) in
     omega arith
 
 pub blocks-few : (ns us : List ℕ) → length (ruleBlocks (flatRules ns us)) ≤ 2 * length us
-blocks-few ns us = let i = few-blocks (length us / 6) ns us (omega arith) in omega arith
+blocks-few ns us = let i = few-blocks (length us / ruleWidth) ns us (omega arith) in omega arith
 
 -- FOR A CALLER: a part of longer numbers, and rules that are made one for each member of a list
-rule-front : (ns xs ys : List ℕ) → 6 ≤ length xs → flatRule ns (xs ++ ys) ≡ flatRule ns xs
+rule-front : (ns xs ys : List ℕ) → ruleWidth ≤ length xs → flatRule ns (xs ++ ys) ≡ flatRule ns xs
 rule-front ns xs ys l =
     let d = length-drop 1 xs in
     let symbol = List·getD-append xs ys 0 0 (omega arith) in
@@ -142,28 +142,28 @@ rule-front ns xs ys l =
     let states = take-append-le (flatWidth ns (getD xs 0 0)) (drop 1 xs) ys (omega arith) in
     cc
 
-rules-front : (n : ℕ) (ns xs ys : List ℕ) → 6 * n ≤ length xs → flatRulesIn n ns (xs ++ ys) ≡ flatRulesIn n ns xs
+rules-front : (n : ℕ) (ns xs ys : List ℕ) → ruleWidth * n ≤ length xs → flatRulesIn n ns (xs ++ ys) ≡ flatRulesIn n ns xs
 unfolding flatRulesIn
 rules-front zero ns xs ys l = refl
 rules-front (suc n) ns xs ys l =
-    let d = length-drop 6 xs in
+    let d = length-drop ruleWidth xs in
     let first = rule-front ns xs ys (omega arith) in
-    let rest = ap (flatRulesIn n ns) (drop-append-le 6 xs ys (omega arith)) ∙ rules-front n ns (drop 6 xs) ys (omega arith) in
+    let rest = ap (flatRulesIn n ns) (drop-append-le ruleWidth xs ys (omega arith)) ∙ rules-front n ns (drop ruleWidth xs) ys (omega arith) in
     cc
 
-pub flat-part : (n : ℕ) (ns us : List ℕ) → 6 * n ≤ length us → flatRules ns (take (6 * n) us) ≡ flatRulesIn n ns us
+pub flat-part : (n : ℕ) (ns us : List ℕ) → ruleWidth * n ≤ length us → flatRules ns (take (ruleWidth * n) us) ≡ flatRulesIn n ns us
 flat-part n ns us l =
-    let t = length-take-le (6 * n) us l in
-    let e : length (take (6 * n) us) / 6 ≡ n = omega arith in
-    ap (λ (k : ℕ). flatRulesIn k ns (take (6 * n) us)) e ∙ sym (rules-front n ns (take (6 * n) us) (drop (6 * n) us) (omega arith)) ∙
-    ap (flatRulesIn n ns) (take-append-drop (6 * n) us)
+    let t = length-take-le (ruleWidth * n) us l in
+    let e : length (take (ruleWidth * n) us\) / ruleWidth ≡ n = omega arith in
+    ap (λ (k : ℕ). flatRulesIn k ns (take (ruleWidth * n) us)) e ∙ sym (rules-front n ns (take (ruleWidth * n) us) (drop (ruleWidth * n) us) (omega arith)) ∙
+    ap (flatRulesIn n ns) (take-append-drop (ruleWidth * n) us)
 
-pub flat-each : (f : ℕ → Rule) (ns ts us : List ℕ) → ((k : ℕ) → k < length ts → flatRule ns (drop (6 * k) us) ≡ f (getD ts k 0)) → flatRulesIn (length ts) ns us ≡ map f ts
+pub flat-each : (f : ℕ → Rule) (ns ts us : List ℕ) → ((k : ℕ) → k < length ts → flatRule ns (drop (ruleWidth * k) us) ≡ f (getD ts k 0)) → flatRulesIn (length ts) ns us ≡ map f ts
 unfolding flatRulesIn
 flat-each f ns [] us each = refl
 flat-each f ns (t ∷ ts) us each =
     let first : flatRule ns us ≡ f t = each 0 (omega arith) in
-    let rest = flat-each f ns ts (drop 6 us) (λ k l.
-    let e : 6 + 6 * k ≡ 6 * suc k = omega arith in
-    ap (flatRule ns) (drop-drop (6 * k) 6 us ∙ ap (λ (n : ℕ). drop n us) e) ∙ each (suc k) (omega arith)) in
+    let rest = flat-each f ns ts (drop ruleWidth us) (λ k l.
+    let e : ruleWidth + ruleWidth * k ≡ ruleWidth * suc k = omega arith in
+    ap (flatRule ns) (drop-drop (ruleWidth * k) ruleWidth us ∙ ap (λ (n : ℕ). drop n us) e) ∙ each (suc k) (omega arith)) in
     cc

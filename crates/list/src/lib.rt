@@ -8,6 +8,7 @@ pub use blocks::byte_at;
 pub use blocks::rest;
 pub use read::load;
 pub use read::states_in;
+pub use write::RULE_WIDTH;
 pub use write::list_size;
 pub use write::put_bytes;
 pub use write::width;

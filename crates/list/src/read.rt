@@ -11,6 +11,9 @@ use crate::blocks::byte_at;
 use crate::blocks::is_block;
 use crate::blocks::rest;
 use model::Emitted;
+use model::limits::MOST_RULES;
+use model::limits::MOST_STATES;
+use model::limits::MOST_SYMBOLS;
 
 // Whether each byte is below a bound.
 fn all_below(bytes: &[u8], bound: usize) -> bool
@@ -33,7 +36,7 @@ fn alphabet_fits(counts: &[u8]) -> bool
     if counts.len() < 1 {
         return false;
     }
-    if 64 < counts.len() {
+    if MOST_SYMBOLS < counts.len() {
         return false;
     }
     all_below(counts, 5)
@@ -43,7 +46,7 @@ fn alphabet_fits(counts: &[u8]) -> bool
 fn finals_fit(finals: &[u8]) -> bool
     ensures { λ r. ⌜ r ≡ finalsFit (now (finals .entry)) ⌝ }
 {
-    if 32 < finals.len() {
+    if MOST_STATES < finals.len() {
         return false;
     }
     all_below(finals, 2)
@@ -133,11 +136,11 @@ fn read_rules(counts: &[u8], finals: &[u8], bytes: &[u8]) -> Emitted
     ensures { λ r. ⌜ r ≡ loadedBy (readRules (now (counts .entry)) (now (finals .entry)) (now (bytes .entry))) ⌝ }
 {
     let states = finals.len();
-    let mut keys = [0usize; 256];
+    let mut keys = [0usize; MOST_RULES];
     let mut at = bytes;
     let mut count: usize = 0;
     while 0 < at.len() {
-        if 256 <= count {
+        if MOST_RULES <= count {
             return refused();
         }
         if !is_rule(counts, states, &keys[..count], at) {

@@ -5,9 +5,12 @@ ghost use Prim.Native.Nat.{_+_, _≤_, _<_};
 ghost use lib.ListN.{length};
 ghost use Rattle.model.specs.Base.{over};
 ghost use Rattle.model.specs.Listing.{little, blockOf, ruleBody, ruleBlocks, emitted};
-ghost use Rattle.list.specs.Flat.{flatWidth, flatRule, flatRules, flatAutomaton, Short};
+ghost use Rattle.list.specs.Flat.{ruleWidth, flatWidth, flatRule, flatRules, flatAutomaton, Short};
 ghost use Rattle.list.specs.Put.{putAt};
 use crate::blocks::byte_at;
+
+// Numbers in a flat rule: symbol, four child states, target.
+pub const RULE_WIDTH: usize = 6;
 
 // How many child states a rule of a symbol has.
 pub fn width(counts: &[u8], symbol: usize) -> usize
@@ -53,7 +56,7 @@ fn put_block(out: &mut [u8], at: usize, kind: u8, body: &[u8]) -> usize
 
 // The block of the rule at the head of flat rules.
 fn put_rule(counts: &[u8], rules: &[u8], out: &mut [u8], at: usize) -> usize
-    requires { ⌜ (6 ≤ length (now rules)) × (at + (8 + length (flatRule (now counts) (now rules) .states)) ≤ length (now out)) ⌝ }
+    requires { ⌜ (ruleWidth ≤ length (now rules)) × (at + (8 + length (flatRule (now counts) (now rules) .states)) ≤ length (now out)) ⌝ }
     ensures { λ r. ⌜ r ≡ at + (8 + length (flatRule (now (counts .entry)) (now (rules .entry)) .states)) ⌝ }
     ensures bytes { λ r. ⌜ now (out .exit) ≡ putAt at (blockOf 3 (ruleBody (flatRule (now (counts .entry)) (now (rules .entry))))) (now (out .entry)) ⌝ }
 {
@@ -61,7 +64,7 @@ fn put_rule(counts: &[u8], rules: &[u8], out: &mut [u8], at: usize) -> usize
     let after = put_head(out, at, n + 2, 3);
     let end = n + 1;
     let last = put_bytes(out, after, &rules[0..end]);
-    put_bytes(out, last, &rules[5..6])
+    put_bytes(out, last, &rules[5..RULE_WIDTH])
 }
 
 // The blocks of the rules, in their order.
@@ -72,9 +75,9 @@ fn put_rules(counts: &[u8], rules: &[u8], out: &mut [u8], start: usize) -> usize
 {
     let mut left = rules;
     let mut at = start;
-    while 6 <= left.len() {
+    while RULE_WIDTH <= left.len() {
         at = put_rule(counts, left, out, at);
-        left = &left[6..];
+        left = &left[RULE_WIDTH..];
     }
     at
 }
@@ -86,9 +89,9 @@ pub fn list_size(counts: &[u8], finals: &[u8], rules: &[u8]) -> u32
 {
     let mut size: usize = 12 + counts.len() + finals.len();
     let mut left = rules;
-    while 6 <= left.len() {
+    while RULE_WIDTH <= left.len() {
         size += 8 + width(counts, byte_at(left, 0));
-        left = &left[6..];
+        left = &left[RULE_WIDTH..];
     }
     size as u32
 }

@@ -1,5 +1,5 @@
 -- The numbers of the specification (§11), each under one name. Assumes nothing: these are definitions.
-use Prim.Native.Nat.{ℕ}
+use Prim.Native.Nat.{ℕ, _*_}
 
 -- an alphabet has 1 to 64 symbols of at most 4 children (§1.1)
 abbrev pub mostSymbols : ℕ
@@ -18,6 +18,10 @@ rowWidth = 6
 
 abbrev pub mostRows : ℕ
 mostRows = 16384
+
+-- numbers in a record table of all rows
+abbrev pub mostWords : ℕ
+mostWords = rowWidth * mostRows
 
 -- room in the run's lists (§2.2)
 abbrev pub mostStates : ℕ

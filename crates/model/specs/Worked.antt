@@ -2,9 +2,9 @@
 use mathlib.Core.Path.{_≡_}
 use mathlib.Core.Bool.{Bool, true}
 use mathlib.Core.List.{List, [], _∷_, _++_}
-use Prim.Native.Nat.{ℕ, _*_}
+use Prim.Native.Nat.{ℕ, _+_, _*_}
 use lib.ListN.{length, getD, take, drop, replicate}
-use Rattle.model.specs.Limits.{rowWidth}
+use Rattle.model.specs.Limits.{rowWidth, mostContexts, mostListed, mostRows, mostRules, mostStates, mostSymbols}
 use Rattle.model.specs.Base.{all}
 use Rattle.model.specs.Automata.{Automaton, isDeterministic}
 use Rattle.model.specs.Listing.{Read, loaded, readList}
@@ -26,14 +26,14 @@ abbrev pub oldLists : Lists
 oldLists =
     record {
       letters = 9;
-      counts = replicate 64 9;
+      counts = replicate mostSymbols 9;
       used = 99;
       states = 9;
-      s = replicate 32 9;
+      s = replicate mostStates 9;
       rules = 9;
-      t = replicate 256 9;
+      t = replicate mostRules 9;
       contexts = 9;
-      c = replicate 289 9;
+      c = replicate mostContexts 9;
       hand = 9;
       asked = 9;
       accepted = 9;
@@ -123,16 +123,16 @@ pub record Starts : Type 0 where
         counts = 1 ∷ 0 ∷ replicate 62 0;
         used = 1;
         states = 0;
-        s = replicate 32 0;
+        s = replicate mostStates 0;
         rules = 0;
-        t = replicate 256 0;
+        t = replicate mostRules 0;
         contexts = 1;
-        c = replicate 289 0;
+        c = replicate mostContexts 0;
         hand = 0;
         asked = 0;
         accepted = 0;
       }
-  pub most-rows : startSeen (oldWords 16384) counts ≡ seen 0 0 0 0 1
+  pub most-rows : startSeen (oldWords mostRows) counts ≡ seen 0 0 0 0 1
   pub a-row-more : startSeen (oldWords 16385) counts ≡ zeros 18
   pub no-words : startSeen [] counts ≡ zeros 18
   pub a-word-more : startSeen (7 ∷ oldWords 2) counts ≡ zeros 18
@@ -148,9 +148,9 @@ pub record Corners : Type 0 where
   pub offered-while-asking : told (at 9 1) (offers [] 2) ≡ zeros 31
   pub offered-when-accepted : told (at 9 5) (offers op 0) ≡ zeros 31
   pub nothing-with-mark-2 : told (fresh 9) (offers [] 2) ≡ zeros 11
-  pub too-long : told (fresh 9) (offers (replicate 1025 2) 2) ≡ zeros 12
+  pub too-long : told (fresh 9) (offers (replicate (mostListed + 1) 2) 2) ≡ zeros 12
   pub just-long-enough : told (fresh 9) (offers (1 ∷ replicate 1023 0) 1) ≡ zeros 34
-  pub one-symbol-more : told (fresh 9) (offers (1 ∷ replicate 1024 0) 1) ≡ zeros 12
+  pub one-symbol-more : told (fresh 9) (offers (1 ∷ replicate mostListed 0) 1) ≡ zeros 12
   pub third-offer-taken : told (at 9 4) (offers (1 ∷ 0 ∷ 0 ∷ 0 ∷ []) 1) ≡ seen 0 0 2 3 2
   pub symbol-before-mark : told (fresh 9) (offers (0 ∷ []) 2) ≡ zeros 14
   pub mark-2 : told (fresh 9) (offers op 2) ≡ zeros 16

@@ -1,4 +1,10 @@
 // What a host lends and what a call returns. No function stands here: specs/ says what the calls do, proofs/ what is proved of it.
+use limits::MOST_CONTEXTS;
+use limits::MOST_RULES;
+use limits::MOST_STATES;
+use limits::MOST_SYMBOLS;
+
+pub mod limits; // limits.rt: the numbers of the specification
 
 // A row of the record table, a state of the proposal, a member of C: three sequences of numbers that are never mixed (§2.2).
 pub struct Row(pub u16);
@@ -11,14 +17,14 @@ pub struct Context(pub u16);
 #[repr(C)]
 pub struct Lists {
     pub letters: u8,
-    pub counts: [u8; 64],
+    pub counts: [u8; MOST_SYMBOLS],
     pub used: u16,
     pub states: u8,
-    pub s: [u16; 32],
+    pub s: [u16; MOST_STATES],
     pub rules: u16,
-    pub t: [u16; 256],
+    pub t: [u16; MOST_RULES],
     pub contexts: u16,
-    pub c: [u16; 289],
+    pub c: [u16; MOST_CONTEXTS],
     pub hand: u16,
     pub asked: u16,
     pub accepted: u8,

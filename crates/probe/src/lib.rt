@@ -4,6 +4,7 @@ ghost use mathlib.Core.Bool.{true};
 ghost use mathlib.Core.List.{[], _∷_};
 ghost use Prim.Native.Nat.{_≤_};
 ghost use lib.ListN.{length};
+ghost use Rattle.model.specs.Limits.{mostRows};
 ghost use Rattle.model.specs.Terms.{recordFault};
 ghost use Rattle.model.specs.Entry.{sizeFits};
 ghost use Rattle.bank.specs.Ready.{Ready};
@@ -12,6 +13,8 @@ use bank::index;
 use bank_fill::add::Grown;
 use bank_fill::context;
 use model::Row;
+use model::limits::MOST_ROWS;
+use model::limits::ROW_WIDTH;
 
 // What adding rows came to: 0 rows ran out, 1 the row and the rows used afterwards, 2 refused.
 #[repr(C)]
@@ -33,13 +36,13 @@ pub extern "C" fn probe_fault(counts: &[u8], symbols: &[u8]) -> u8
 fn size_fits(words: &[u32]) -> bool
     ensures { λ r. ⌜ r ≡ sizeFits (now (words .entry)) ⌝ }
 {
-    if words.len() % 6 != 0 {
+    if words.len() % ROW_WIDTH != 0 {
         return false;
     }
-    if words.len() / 6 < 1 {
+    if words.len() / ROW_WIDTH < 1 {
         return false;
     }
-    words.len() / 6 <= 16384
+    words.len() / ROW_WIDTH <= MOST_ROWS
 }
 
 // T1 behind the test of the size; where it holds, the index and the holes are ready.
@@ -52,7 +55,7 @@ fn passes(
     next: &mut [u16],
     mix: &mut [u32; 5],
 ) -> bool
-    requires { ⌜ (length (now holes) ≡ 16384) × (length (now head) ≡ 16384) × (length (now next) ≡ 16384) × (length (now mix) ≡ 5) ⌝ }
+    requires { ⌜ (length (now holes) ≡ mostRows) × (length (now head) ≡ mostRows) × (length (now next) ≡ mostRows) × (length (now mix) ≡ 5) ⌝ }
     ensures { λ r. ⌜ r ≡ isPassed (now (words .entry)) (now (counts .entry)) used ⌝ }
     ensures ready { λ r. ⌜ (r ≡ true → Ready (now (words .entry)) (now (counts .entry)) used (now (holes .exit)) (now (head .exit)) (now (next .exit)) (now (mix .exit))) ⌝ }
 {
@@ -81,9 +84,9 @@ pub extern "C" fn probe_pass(words: &[u32], counts: &[u8], used: u16, marks: &mu
     ensures { λ r. ⌜ r ≡ isPassed (now (words .entry)) (now (counts .entry)) used ⌝ }
     ensures marks { λ r. ⌜ Marks (now (words .entry)) (now (counts .entry)) used r (now (marks .exit)) ⌝ }
 {
-    let mut holes = [0u8; 16384];
-    let mut head = [0u16; 16384];
-    let mut next = [0u16; 16384];
+    let mut holes = [0u8; MOST_ROWS];
+    let mut head = [0u16; MOST_ROWS];
+    let mut next = [0u16; MOST_ROWS];
     let mut mix = [0u32; 5];
     if !passes(
         words,
@@ -117,9 +120,9 @@ pub extern "C" fn probe_find(
 ) -> u16
     ensures { λ r. ⌜ r ≡ found (now (words .entry)) (now (counts .entry)) used symbol (k0 ∷ k1 ∷ k2 ∷ k3 ∷ []) ⌝ }
 {
-    let mut holes = [0u8; 16384];
-    let mut head = [0u16; 16384];
-    let mut next = [0u16; 16384];
+    let mut holes = [0u8; MOST_ROWS];
+    let mut head = [0u16; MOST_ROWS];
+    let mut next = [0u16; MOST_ROWS];
     let mut mix = [0u32; 5];
     if !passes(
         words,
@@ -213,9 +216,9 @@ pub extern "C" fn probe_fill(
 ) -> Reply
     ensures { λ r. ⌜ Filled (now (words .entry)) (now (counts .entry)) used context with r (now (words .exit)) ⌝ }
 {
-    let mut holes = [0u8; 16384];
-    let mut head = [0u16; 16384];
-    let mut next = [0u16; 16384];
+    let mut holes = [0u8; MOST_ROWS];
+    let mut head = [0u16; MOST_ROWS];
+    let mut next = [0u16; MOST_ROWS];
     let mut mix = [0u32; 5];
     if !passes(
         words,
@@ -267,9 +270,9 @@ fn stored(
 pub extern "C" fn probe_store(words: &mut [u32], counts: &[u8], used: u16, symbols: &[u8]) -> Reply
     ensures { λ r. ⌜ Stored (now (words .entry)) (now (counts .entry)) used (now (symbols .entry)) r (now (words .exit)) ⌝ }
 {
-    let mut holes = [0u8; 16384];
-    let mut head = [0u16; 16384];
-    let mut next = [0u16; 16384];
+    let mut holes = [0u8; MOST_ROWS];
+    let mut head = [0u16; MOST_ROWS];
+    let mut next = [0u16; MOST_ROWS];
     let mut mix = [0u32; 5];
     if !passes(
         words,
@@ -299,9 +302,9 @@ pub extern "C" fn probe_store(words: &mut [u32], counts: &[u8], used: u16, symbo
 pub extern "C" fn probe_known(words: &[u32], counts: &[u8], used: u16, symbols: &[u8]) -> u16
     ensures { λ r. ⌜ r ≡ known (now (words .entry)) (now (counts .entry)) used (now (symbols .entry)) ⌝ }
 {
-    let mut holes = [0u8; 16384];
-    let mut head = [0u16; 16384];
-    let mut next = [0u16; 16384];
+    let mut holes = [0u8; MOST_ROWS];
+    let mut head = [0u16; MOST_ROWS];
+    let mut next = [0u16; MOST_ROWS];
     let mut mix = [0u32; 5];
     if !passes(
         words,

@@ -5,7 +5,7 @@ use mathlib.Core.List.{List}
 use Prim.Native.Nat.{ℕ, _*_, _≤_}
 use lib.Dec.{eqb}
 use lib.ListN.{length, take}
-use Rattle.model.specs.Limits.{rowWidth, mostContexts}
+use Rattle.model.specs.Limits.{rowWidth, mostContexts, mostRules, mostStates}
 use Rattle.model.specs.Automata.{acceptsRow}
 use Rattle.model.specs.Table.{Tables}
 use Rattle.model.specs.Sound.{isT1, contextsFew, isT5, isT6, isT7, isT8}
@@ -20,19 +20,19 @@ use Rattle.sound_parts.specs.Given.{rolesFit}
 
 -- the run's lists in their arrays
 pub record Arrays (s : List ℕ) (q : ℕ) (t : List ℕ) (n : ℕ) (c : List ℕ) (m : ℕ) : Type 0 where
-  pub s-long : length s ≡ 32
-  pub few-s : q ≤ 32
-  pub t-long : length t ≡ 256
-  pub few-t : n ≤ 256
-  pub c-long : length c ≡ 289
-  pub few-c : m ≤ 289
+  pub s-long : length s ≡ mostStates
+  pub few-s : q ≤ mostStates
+  pub t-long : length t ≡ mostRules
+  pub few-t : n ≤ mostRules
+  pub c-long : length c ≡ mostContexts
+  pub few-c : m ≤ mostContexts
 
 -- room to work in, for all rows lent and n transitions
 pub record Room (words : List ℕ) (n : ℕ) (holes head next mix table places reps : List ℕ) : Type 0 where
   pub rows : Rows.Room words holes head next
   pub mix-long : length mix ≡ 5
   pub table-long : mostContexts * n ≤ length table
-  pub places-long : length places ≡ 32
+  pub places-long : length places ≡ mostStates
   pub reps-long : length words ≤ rowWidth * length reps
 
 -- the index, the table of answers, S by its places in T; where no answer is missing, the representative of each transition

@@ -4,7 +4,7 @@ ghost use mathlib.Core.Bool.{true, false};
 ghost use Prim.Native.Nat.{ℕ, _*_, _<_, _≤_};
 ghost use lib.Dec.{eqb};
 ghost use lib.ListN.{length, getD, take};
-ghost use Rattle.model.specs.Limits.{mostContexts};
+ghost use Rattle.model.specs.Limits.{mostContexts, mostRules, mostStates};
 ghost use Rattle.model.specs.Base.{noRepeats, allAmong};
 ghost use Rattle.model.specs.Sound.{isSound};
 ghost use Rattle.model.specs.Entry.{storeOf, answersIn, sizeFits, listsFit, tablesOf};
@@ -17,20 +17,23 @@ ghost use Rattle.sound.specs.Working.{Arrays, Room, Working, preparedFit
 use bank::rows;
 use model::Lists;
 use model::Row;
+use model::limits::MOST_CONTEXTS;
+use model::limits::MOST_RULES;
+use model::limits::MOST_STATES;
 use sound_parts::judge;
 
 // S by its places in T, and whether an answer is missing; where none is, the representative of each transition too.
 fn represent(
     table: &[u8],
     contexts: usize,
-    s: &[u16; 32],
+    s: &[u16; MOST_STATES],
     states: usize,
-    t: &[u16; 256],
+    t: &[u16; MOST_RULES],
     rules: usize,
-    places: &mut [u16; 32],
+    places: &mut [u16; MOST_STATES],
     reps: &mut [u16],
 ) -> bool
-    requires { ⌜ Sized (now table) rules contexts × (length (now s) ≡ 32) × (states ≤ 32) × (length (now t) ≡ 256) × (rules ≤ 256) × (length (now places) ≡ 32) × (allAmong (take states (now s)) (take rules (now t)) ≡ true) × ((k : ℕ) → k < rules → getD (now t) k 0 < length (now reps)) × (noRepeats (take rules (now t)) ≡ true) ⌝ }
+    requires { ⌜ Sized (now table) rules contexts × (length (now s) ≡ mostStates) × (states ≤ mostStates) × (length (now t) ≡ mostRules) × (rules ≤ mostRules) × (length (now places) ≡ mostStates) × (allAmong (take states (now s)) (take rules (now t)) ≡ true) × ((k : ℕ) → k < rules → getD (now t) k 0 < length (now reps)) × (noRepeats (take rules (now t)) ≡ true) ⌝ }
     ensures { λ r. ⌜ (r ≡ isOpen (gapFrom (now (table .entry)) contexts 0 rules)) × Placing (now (places .exit)) states rules × Placed (now (t .entry)) rules (now (s .entry)) states (now (places .exit)) × (isOpen (gapFrom (now (table .entry)) contexts 0 rules) ≡ false → RepsBy (now (table .entry)) contexts (take states (now (places .exit))) (take states (now (s .entry))) (take rules (now (t .entry))) (now (reps .exit))) ⌝ }
 {
     judge::find_places(s, states, t, rules, places);
@@ -46,11 +49,11 @@ fn prepare(
     words: &[u32],
     counts: &[u8],
     used: u16,
-    s: &[u16; 32],
+    s: &[u16; MOST_STATES],
     states: usize,
-    t: &[u16; 256],
+    t: &[u16; MOST_RULES],
     rules: usize,
-    c: &[u16; 289],
+    c: &[u16; MOST_CONTEXTS],
     contexts: usize,
     holes: &mut [u8],
     head: &mut [u16],
@@ -104,9 +107,9 @@ fn hand_fits(
     words: &[u32],
     counts: &[u8],
     used: u16,
-    s: &[u16; 32],
+    s: &[u16; MOST_STATES],
     states: usize,
-    t: &[u16; 256],
+    t: &[u16; MOST_RULES],
     rules: usize,
     holes: &[u8],
     head: &[u16],
@@ -161,18 +164,18 @@ fn judged(
     words: &[u32],
     counts: &[u8],
     used: u16,
-    s: &[u16; 32],
+    s: &[u16; MOST_STATES],
     states: usize,
-    t: &[u16; 256],
+    t: &[u16; MOST_RULES],
     rules: usize,
-    c: &[u16; 289],
+    c: &[u16; MOST_CONTEXTS],
     contexts: usize,
     holes: &[u8],
     head: &[u16],
     next: &[u16],
     mix: &[u32; 5],
     table: &[u8],
-    places: &[u16; 32],
+    places: &[u16; MOST_STATES],
     reps: &[u16],
     standing: Standing,
     missing: bool,
@@ -217,11 +220,11 @@ fn is_sound(
     words: &[u32],
     counts: &[u8],
     used: u16,
-    s: &[u16; 32],
+    s: &[u16; MOST_STATES],
     states: usize,
-    t: &[u16; 256],
+    t: &[u16; MOST_RULES],
     rules: usize,
-    c: &[u16; 289],
+    c: &[u16; MOST_CONTEXTS],
     contexts: usize,
     standing: Standing,
     holes: &mut [u8],
@@ -229,7 +232,7 @@ fn is_sound(
     next: &mut [u16],
     mix: &mut [u32; 5],
     table: &mut [u8],
-    places: &mut [u16; 32],
+    places: &mut [u16; MOST_STATES],
     reps: &mut [u16],
 ) -> bool
     requires { ⌜ (sizeFits (now words) ≡ true) × Arrays (now s) states (now t) rules (now c) contexts × Room (now words) rules (now holes) (now head) (now next) (now mix) (now table) (now places) (now reps) ⌝ }
@@ -286,7 +289,7 @@ pub fn lists_sound(
     next: &mut [u16],
     mix: &mut [u32; 5],
     table: &mut [u8],
-    places: &mut [u16; 32],
+    places: &mut [u16; MOST_STATES],
     reps: &mut [u16],
 ) -> bool
     requires { ⌜ (sizeFits (now words) ≡ true) × (listsFit lists ≡ true) × Room (now words) (lists .rules) (now holes) (now head) (now next) (now mix) (now table) (now places) (now reps) ⌝ }

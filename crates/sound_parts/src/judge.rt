@@ -3,12 +3,16 @@ ghost use mathlib.Core.Path.{_≡_};
 ghost use mathlib.Core.Bool.{true, false};
 ghost use Prim.Native.Nat.{_*_, _≤_, _<_};
 ghost use lib.ListN.{length, take};
+ghost use Rattle.model.specs.Limits.{mostContexts, mostRules, mostStates, rowWidth};
 ghost use Rattle.model.specs.Base.{allAmong};
 ghost use Rattle.bank.specs.Ready.{Ready};
 ghost use Rattle.table.specs.Answers.{Sized, gapFrom, isOpen, Placing, Placed};
 ghost use Rattle.sound_parts.specs.Given.{given, rolesFit, fewFit, tableFits, questionFits};
 use bank::rows;
 use model::Row;
+use model::limits::MOST_CONTEXTS;
+use model::limits::MOST_RULES;
+use model::limits::MOST_STATES;
 use table::Gap;
 use table::judge;
 
@@ -21,14 +25,14 @@ pub fn roles_fit(
     head: &[u16],
     next: &[u16],
     mix: &[u32; 5],
-    s: &[u16; 32],
+    s: &[u16; MOST_STATES],
     states: usize,
-    t: &[u16; 256],
+    t: &[u16; MOST_RULES],
     rules: usize,
-    c: &[u16; 289],
+    c: &[u16; MOST_CONTEXTS],
     contexts: usize,
 ) -> bool
-    requires { ⌜ Ready (now words) (now counts) used (now holes) (now head) (now next) (now mix) × (length (now s) ≡ 32) × (states ≤ 32) × (length (now t) ≡ 256) × (rules ≤ 256) × (length (now c) ≡ 289) × (contexts ≤ 289) ⌝ }
+    requires { ⌜ Ready (now words) (now counts) used (now holes) (now head) (now next) (now mix) × (length (now s) ≡ mostStates) × (states ≤ mostStates) × (length (now t) ≡ mostRules) × (rules ≤ mostRules) × (length (now c) ≡ mostContexts) × (contexts ≤ mostContexts) ⌝ }
     ensures { λ r. ⌜ r ≡ rolesFit (given (now (words .entry)) (now (counts .entry)) used (now (s .entry)) states (now (t .entry)) rules (now (c .entry)) contexts 0 0 false) ⌝ }
 {
     if !sound_roles::transitions::t2(
@@ -54,13 +58,13 @@ pub fn roles_fit(
 
 // The places of S in T.
 pub fn find_places(
-    s: &[u16; 32],
+    s: &[u16; MOST_STATES],
     states: usize,
-    t: &[u16; 256],
+    t: &[u16; MOST_RULES],
     rules: usize,
-    places: &mut [u16; 32],
+    places: &mut [u16; MOST_STATES],
 )
-    requires { ⌜ (length (now s) ≡ 32) × (states ≤ 32) × (length (now t) ≡ 256) × (rules ≤ 256) × (length (now places) ≡ 32) × (allAmong (take states (now s)) (take rules (now t)) ≡ true) ⌝ }
+    requires { ⌜ (length (now s) ≡ mostStates) × (states ≤ mostStates) × (length (now t) ≡ mostRules) × (rules ≤ mostRules) × (length (now places) ≡ mostStates) × (allAmong (take states (now s)) (take rules (now t)) ≡ true) ⌝ }
     ensures { λ _. ⌜ Placing (now (places .exit)) states rules × Placed (now (t .entry)) rules (now (s .entry)) states (now (places .exit)) ⌝ }
 {
     let mut i = 0;
@@ -84,7 +88,7 @@ pub fn is_missing(table: &[u8], rules: usize, contexts: usize) -> bool
 
 // T4's last clause: how many contexts there may be.
 fn few_fit(states: usize, rules: usize, contexts: usize, missing: bool) -> bool
-    requires { ⌜ (states ≤ 32) × (rules ≤ 256) ⌝ }
+    requires { ⌜ (states ≤ mostStates) × (rules ≤ mostRules) ⌝ }
     ensures { λ r. ⌜ r ≡ fewFit states rules contexts missing ⌝ }
 {
     if missing {
@@ -99,7 +103,7 @@ fn few_fit(states: usize, rules: usize, contexts: usize, missing: bool) -> bool
 // T4's last clause, T5 and T6.
 pub fn table_fits(
     table: &[u8],
-    places: &[u16; 32],
+    places: &[u16; MOST_STATES],
     states: usize,
     rules: usize,
     contexts: usize,
@@ -133,7 +137,7 @@ pub fn question_fits(
     accepted: u8,
     missing: bool,
 ) -> bool
-    requires { ⌜ (used ≤ length (now holes)) × (6 * used ≤ length (now words)) ⌝ }
+    requires { ⌜ (used ≤ length (now holes)) × (rowWidth * used ≤ length (now words)) ⌝ }
     ensures { λ r. ⌜ r ≡ questionFits (now (words .entry)) (now (holes .entry)) used hand asked accepted missing ⌝ }
 {
     if asked == 0 {

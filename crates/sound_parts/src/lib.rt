@@ -1,9 +1,14 @@
 // Looking (§3.3), and the soundness test with which every call begins (§2.3), on any words and any lists.
 ghost use mathlib.Core.Path.{_≡_};
 ghost use Rattle.model.specs.Entry.{listsFit, sizeFits, refused};
-use bank::rows;
 use model::Lists;
 use model::Seen;
+use model::limits::MOST_CONTEXTS;
+use model::limits::MOST_RULES;
+use model::limits::MOST_STATES;
+use model::limits::MOST_SYMBOLS;
+use model::limits::MOST_WORDS;
+use model::limits::ROW_WIDTH;
 
 pub mod judge; // judge.rt: T2 to T8, in parts
 
@@ -12,29 +17,29 @@ pub fn size_fits(words: &[u32]) -> bool
     ensures { λ r. ⌜ r ≡ sizeFits (now (words .entry)) ⌝ }
 {
     let n = words.len();
-    if n % rows::WIDTH != 0 {
+    if n % ROW_WIDTH != 0 {
         return false;
     }
-    if n < rows::WIDTH {
+    if n < ROW_WIDTH {
         return false;
     }
-    n <= 98304
+    n <= MOST_WORDS
 }
 
 // Whether every length is within its array and the flag is 0 or 1.
 pub fn lists_fit(lists: Lists) -> bool
     ensures { λ r. ⌜ r ≡ listsFit lists ⌝ }
 {
-    if 64 < lists.letters {
+    if MOST_SYMBOLS < lists.letters as usize {
         return false;
     }
-    if 32 < lists.states {
+    if MOST_STATES < lists.states as usize {
         return false;
     }
-    if 256 < lists.rules {
+    if MOST_RULES < lists.rules as usize {
         return false;
     }
-    if 289 < lists.contexts {
+    if MOST_CONTEXTS < lists.contexts as usize {
         return false;
     }
     lists.accepted <= 1

@@ -3,14 +3,16 @@
 ghost use mathlib.Core.Path.{_≡_};
 ghost use Prim.Native.Nat.{_+_, _*_, _≤_};
 ghost use lib.ListN.{length};
+ghost use Rattle.bank.specs.Ladder.{smallRows};
 ghost use Rattle.model.specs.Limits.{mostContexts};
 ghost use Rattle.model.specs.Steps.{advance as advanceOf, search};
 ghost use Rattle.model.specs.Entry.{tablesOf};
 ghost use Rattle.step_search.specs.Spots.{Descended, searchBy};
 ghost use Rattle.step_end.specs.Stepping.{Stepping, KnownTable, InHand, EndedAs};
-use bank_fill::context;
+use bank::ladder::SMALL_ROWS;
 use model::Lists;
 use model::Row;
+use model::limits::MOST_ROWS;
 use step_end::finish;
 use step_end::finish::Stepped;
 use step_search::Found;
@@ -115,12 +117,12 @@ fn in_hand_few(
     table: &mut [u8],
     reps: &[u16],
 ) -> Stepped
-    requires { ⌜ Stepping (now words) lists (now holes) (now head) (now next) (now mix) × (mostContexts * (lists .rules + 1) ≤ length (now table)) × InHand (now words) lists (now reps) × (lists .hand ≡ 0 → ⊥) × (lists .used ≤ 1024) ⌝ }
+    requires { ⌜ Stepping (now words) lists (now holes) (now head) (now next) (now mix) × (mostContexts * (lists .rules + 1) ≤ length (now table)) × InHand (now words) lists (now reps) × (lists .hand ≡ 0 → ⊥) × (lists .used ≤ smallRows) ⌝ }
     ensures { λ r. ⌜ EndedAs (now (words .entry)) lists (advanceOf (tablesOf (now (words .entry)) lists)) r (now (words .exit)) ⌝ }
 {
-    let mut down = [0u8; 1024];
-    let mut at = [0u16; 1024];
-    let mut exchanged = [0u16; 1024];
+    let mut down = [0u8; SMALL_ROWS];
+    let mut at = [0u16; SMALL_ROWS];
+    let mut exchanged = [0u16; SMALL_ROWS];
     in_hand_with(
         words,
         lists,
@@ -150,12 +152,12 @@ pub fn in_hand(
     requires { ⌜ Stepping (now words) lists (now holes) (now head) (now next) (now mix) × (mostContexts * (lists .rules + 1) ≤ length (now table)) × InHand (now words) lists (now reps) × (lists .hand ≡ 0 → ⊥) ⌝ }
     ensures { λ r. ⌜ EndedAs (now (words .entry)) lists (advanceOf (tablesOf (now (words .entry)) lists)) r (now (words .exit)) ⌝ }
 {
-    if lists.used <= context::FEW {
+    if lists.used as usize <= SMALL_ROWS {
         return in_hand_few(words, lists, holes, head, next, mix, table, reps);
     }
-    let mut down = [0u8; 16384];
-    let mut at = [0u16; 16384];
-    let mut exchanged = [0u16; 16384];
+    let mut down = [0u8; MOST_ROWS];
+    let mut at = [0u16; MOST_ROWS];
+    let mut exchanged = [0u16; MOST_ROWS];
     in_hand_with(
         words,
         lists,

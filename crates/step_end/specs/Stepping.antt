@@ -4,6 +4,7 @@ use mathlib.Core.Bool.{Bool, true, cond}
 use mathlib.Core.List.{List}
 use Prim.Native.Nat.{ℕ, _+_, _≤_, _<_}
 use lib.ListN.{take, set}
+use Rattle.model.specs.Limits.{mostContexts}
 use Rattle.model.specs.Base.{In, among}
 use Rattle.model.specs.Table.{Tables, answerAt}
 use Rattle.model.specs.Steps.{shortageNumber, Ended, short, asks, proposes}
@@ -42,7 +43,7 @@ KnownTable ws l tb = KnownRows (tablesOf ws l .store) (tablesOf ws l .answers) (
 pub record InHand (words : List ℕ) (l : Lists) (reps : List ℕ) : Type 0 where
   pub whole : Whole (tablesOf words l)
   pub fits : HandFits (tablesOf words l .store) (tablesOf words l .answers) (tablesOf words l .s) (tablesOf words l .t) (tablesOf words l .c) (l .hand)
-  pub room : l .contexts < 289
+  pub room : l .contexts < mostContexts
   pub handling : Handling (tablesOf words l .store) (tablesOf words l .answers) (tablesOf words l .s) (tablesOf words l .t) (tablesOf words l .c) reps
 
 -- WHAT A STEP CAME TO: a shortage's number, with the first rows as they were; or 0, with the words and lists of the tables left

@@ -6,6 +6,7 @@ ghost use Rattle.step_end.specs.Stepping.{Stepping, KnownTable, EndedAs,
 ghost use Rattle.step_end.specs.Finished.{FinishedAs};
 use model::Lists;
 use model::Row;
+use model::limits::MOST_STATES;
 use step_settle::Step;
 
 // What a step came to: the number of a shortage, or 0 and the lists left.
@@ -37,7 +38,7 @@ pub fn asking(lists: Lists, hand: u16, row: Row, used: u16) -> Lists
 }
 
 // An automaton is proposed.
-fn proposing(lists: Lists, s: [u16; 32], states: u8) -> Lists
+fn proposing(lists: Lists, s: [u16; MOST_STATES], states: u8) -> Lists
     ensures { λ r. ⌜ r ≡ proposingOf lists s states ⌝ }
 {
     let mut left = lists;
@@ -50,7 +51,7 @@ fn proposing(lists: Lists, s: [u16; 32], states: u8) -> Lists
 }
 
 // What settling came to, as a shortage or as lists.
-fn left_by(step: Step, lists: Lists, s: [u16; 32]) -> Stepped
+fn left_by(step: Step, lists: Lists, s: [u16; MOST_STATES]) -> Stepped
     ensures { λ r. ⌜ FinishedAs lists step s r ⌝ }
 {
     match step {

@@ -17,7 +17,7 @@ use model::Row;
 
 // The lists with a context, appended if it is absent, and nothing in hand.
 fn with_context(lists: Lists, context: Row, used: u16) -> Lists
-    requires { ⌜ lists .contexts < 289 ⌝ }
+    requires { ⌜ lists .contexts < mostContexts ⌝ }
     ensures { λ r. ⌜ r ≡ withContext lists (context .0) used ⌝ }
 {
     let mut left = lists;
@@ -46,7 +46,7 @@ pub fn put_down(
     down: &[u8],
     hand: Row,
 ) -> Stepped
-    requires { ⌜ Stepping (now words) lists (now holes) (now head) (now next) (now mix) × (mostContexts * lists .rules ≤ length (now table)) × (lists .used ≤ length (now down)) × (lists .contexts < 289) × IsRecord (tablesOf (now words) lists .store) (hand .0) × Fits (tablesOf (now words) lists .store) (pathOf (now down) (tablesOf (now words) lists .store) (hand .0)) ⌝ }
+    requires { ⌜ Stepping (now words) lists (now holes) (now head) (now next) (now mix) × (mostContexts * lists .rules ≤ length (now table)) × (lists .used ≤ length (now down)) × (lists .contexts < mostContexts) × IsRecord (tablesOf (now words) lists .store) (hand .0) × Fits (tablesOf (now words) lists .store) (pathOf (now down) (tablesOf (now words) lists .store) (hand .0)) ⌝ }
     ensures { λ r. ⌜ EndedAs (now (words .entry)) lists (putDown (tablesOf (now (words .entry)) lists) (pathOf (now (down .entry)) (tablesOf (now (words .entry)) lists .store) (hand .0))) r (now (words .exit)) ⌝ }
 {
     let letters = lists.letters as usize;

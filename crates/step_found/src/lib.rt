@@ -3,7 +3,7 @@
 ghost use mathlib.Core.Path.{_≡_};
 ghost use Prim.Native.Nat.{_+_, _*_, _≤_, _<_};
 ghost use lib.ListN.{length};
-ghost use Rattle.model.specs.Limits.{mostContexts};
+ghost use Rattle.model.specs.Limits.{mostContexts, mostRules};
 ghost use Rattle.model.specs.Facts.{IsRecord, Fits};
 ghost use Rattle.model.specs.Steps.{search, searched, atNewTransition, atUnknown};
 ghost use Rattle.model.specs.Entry.{tablesOf};
@@ -14,6 +14,7 @@ use bank_fill::add;
 use bank_fill::add::Grown;
 use model::Lists;
 use model::Row;
+use model::limits::MOST_RULES;
 use step_end::finish;
 use step_end::finish::Stepped;
 use step_end::putdown;
@@ -21,7 +22,7 @@ use step_search::Found;
 
 // The lists with a transition appended.
 fn with_rule(lists: Lists, row: Row) -> Lists
-    requires { ⌜ lists .rules < 256 ⌝ }
+    requires { ⌜ lists .rules < mostRules ⌝ }
     ensures { λ r. ⌜ r ≡ withRule lists (row .0) ⌝ }
 {
     let mut left = lists;
@@ -44,10 +45,10 @@ fn new_transition(
     hand: Row,
     spot: Row,
 ) -> Stepped
-    requires { ⌜ Stepping (now words) lists (now holes) (now head) (now next) (now mix) × (mostContexts * (lists .rules + 1) ≤ length (now table)) × (lists .used ≤ length (now down)) × (lists .contexts < 289) × IsRecord (tablesOf (now words) lists .store) (hand .0) × IsRecord (tablesOf (now words) lists .store) (spot .0) × Fits (tablesOf (now words) lists .store) (pathOf (now down) (tablesOf (now words) lists .store) (hand .0)) ⌝ }
+    requires { ⌜ Stepping (now words) lists (now holes) (now head) (now next) (now mix) × (mostContexts * (lists .rules + 1) ≤ length (now table)) × (lists .used ≤ length (now down)) × (lists .contexts < mostContexts) × IsRecord (tablesOf (now words) lists .store) (hand .0) × IsRecord (tablesOf (now words) lists .store) (spot .0) × Fits (tablesOf (now words) lists .store) (pathOf (now down) (tablesOf (now words) lists .store) (hand .0)) ⌝ }
     ensures { λ r. ⌜ EndedAs (now (words .entry)) lists (searched (tablesOf (now (words .entry)) lists) (atNewTransition (hand .0) (record { row = spot .0; around = pathOf (now (down .entry)) (tablesOf (now (words .entry)) lists .store) (hand .0) }))) r (now (words .exit)) ⌝ }
 {
-    if lists.rules == 256 {
+    if lists.rules as usize == MOST_RULES {
         return finish::short(36, lists);
     }
     let left = with_rule(lists, spot);

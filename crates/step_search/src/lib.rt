@@ -3,6 +3,7 @@
 ghost use mathlib.Core.Path.{_≡_};
 ghost use Prim.Native.Nat.{_+_, _≤_, _<_};
 ghost use lib.ListN.{length, take};
+ghost use Rattle.model.specs.Limits.{mostRows};
 ghost use Rattle.model.specs.Base.{among};
 ghost use Rattle.model.specs.Store.{kidsAt, nextRow, spotOf};
 ghost use Rattle.model.specs.Steps.{search as searchOf};
@@ -13,22 +14,25 @@ ghost use Rattle.step_search.specs.Spots.{outsideAt, Handling, exchanged
 use bank::index;
 use bank::rows;
 use model::Row;
+use model::limits::MOST_CONTEXTS;
+use model::limits::MOST_RULES;
+use model::limits::MOST_STATES;
 
 // Whether a row is a representative: it is then its own.
 fn is_rep(
     words: &[u32],
     counts: &[u8],
     used: u16,
-    s: &[u16; 32],
+    s: &[u16; MOST_STATES],
     states: usize,
-    t: &[u16; 256],
+    t: &[u16; MOST_RULES],
     rules: usize,
-    c: &[u16; 289],
+    c: &[u16; MOST_CONTEXTS],
     contexts: usize,
     reps: &[u16],
     row: Row,
 ) -> bool
-    requires { ⌜ Handling (storeOf (now words) (now counts) used) (answersIn used (now words)) (take states (now s)) (take rules (now t)) (take contexts (now c)) (now reps) × (used ≤ 16384) × (row .0 < used) ⌝ }
+    requires { ⌜ Handling (storeOf (now words) (now counts) used) (answersIn used (now words)) (take states (now s)) (take rules (now t)) (take contexts (now c)) (now reps) × (used ≤ mostRows) × (row .0 < used) ⌝ }
     ensures { λ r. ⌜ r ≡ among (row .0) (take states (now (s .entry))) ⌝ }
 {
     let i = row.0;
@@ -47,11 +51,11 @@ fn first_outside(
     head: &[u16],
     next: &[u16],
     mix: &[u32; 5],
-    s: &[u16; 32],
+    s: &[u16; MOST_STATES],
     states: usize,
-    t: &[u16; 256],
+    t: &[u16; MOST_RULES],
     rules: usize,
-    c: &[u16; 289],
+    c: &[u16; MOST_CONTEXTS],
     contexts: usize,
     reps: &[u16],
     row: Row,
@@ -124,7 +128,7 @@ fn turn_of(
     head: &[u16],
     next: &[u16],
     mix: &[u32; 5],
-    s: &[u16; 32],
+    s: &[u16; MOST_STATES],
     states: usize,
     reps: &[u16],
     down: &[u8],
@@ -174,11 +178,11 @@ fn descend_row(
     head: &[u16],
     next: &[u16],
     mix: &[u32; 5],
-    s: &[u16; 32],
+    s: &[u16; MOST_STATES],
     states: usize,
-    t: &[u16; 256],
+    t: &[u16; MOST_RULES],
     rules: usize,
-    c: &[u16; 289],
+    c: &[u16; MOST_CONTEXTS],
     contexts: usize,
     reps: &[u16],
     down: &mut [u8],
@@ -238,11 +242,11 @@ fn descend(
     head: &[u16],
     next: &[u16],
     mix: &[u32; 5],
-    s: &[u16; 32],
+    s: &[u16; MOST_STATES],
     states: usize,
-    t: &[u16; 256],
+    t: &[u16; MOST_RULES],
     rules: usize,
-    c: &[u16; 289],
+    c: &[u16; MOST_CONTEXTS],
     contexts: usize,
     reps: &[u16],
     down: &mut [u8],
@@ -297,11 +301,11 @@ fn search(
     head: &[u16],
     next: &[u16],
     mix: &[u32; 5],
-    s: &[u16; 32],
+    s: &[u16; MOST_STATES],
     states: usize,
-    t: &[u16; 256],
+    t: &[u16; MOST_RULES],
     rules: usize,
-    c: &[u16; 289],
+    c: &[u16; MOST_CONTEXTS],
     contexts: usize,
     reps: &[u16],
     down: &[u8],
@@ -339,11 +343,11 @@ pub fn find(
     head: &[u16],
     next: &[u16],
     mix: &[u32; 5],
-    s: &[u16; 32],
+    s: &[u16; MOST_STATES],
     states: usize,
-    t: &[u16; 256],
+    t: &[u16; MOST_RULES],
     rules: usize,
-    c: &[u16; 289],
+    c: &[u16; MOST_CONTEXTS],
     contexts: usize,
     reps: &[u16],
     down: &mut [u8],

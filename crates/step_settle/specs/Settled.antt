@@ -4,6 +4,7 @@ use mathlib.Core.Bool.{true}
 use mathlib.Core.List.{List}
 use Prim.Native.Nat.{ℕ, _≤_}
 use lib.ListN.{length, take}
+use Rattle.model.specs.Limits.{mostContexts, mostRules, mostStates}
 use Rattle.model.specs.Base.{allAmong, over}
 use Rattle.model.specs.Store.{used}
 use Rattle.model.specs.Steps.{Ended, short, asks, proposes, ofRows, ofStates, ofTransitions, ofTurns}
@@ -15,12 +16,12 @@ use Rattle.step_settle.specs.declared.Step.{Step}
 
 pub record Settling (words counts : List ℕ) (u : ℕ) (s : List ℕ) (q : ℕ) (t : List ℕ) (n : ℕ) (c : List ℕ) (m : ℕ) : Type 0 where
   pub answered : Answered words u
-  pub s-long : length s ≡ 32
-  pub few-s : q ≤ 32
-  pub t-long : length t ≡ 256
-  pub few-t : n ≤ 256
-  pub c-long : length c ≡ 289
-  pub few-c : m ≤ 289
+  pub s-long : length s ≡ mostStates
+  pub few-s : q ≤ mostStates
+  pub t-long : length t ≡ mostRules
+  pub few-t : n ≤ mostRules
+  pub c-long : length c ≡ mostContexts
+  pub few-c : m ≤ mostContexts
   pub used-t : Used u t n
   pub contexts : Contexts (storeOf words counts u) c m
   pub s-in-t : allAmong (take q s) (take n t) ≡ true

@@ -3,6 +3,7 @@ ghost use mathlib.Core.Path.{_≡_};
 ghost use mathlib.Core.Bool.{false};
 ghost use Prim.Native.Nat.{ℕ, _<_, _≤_};
 ghost use lib.ListN.{length, getD, take};
+ghost use Rattle.model.specs.Limits.{mostRules, mostStates};
 ghost use Rattle.model.specs.Base.{over};
 ghost use Rattle.model.specs.Steps.{settled};
 ghost use Rattle.model.specs.Entry.{storeOf, answersIn};
@@ -13,6 +14,9 @@ ghost use Rattle.step_settle.specs.Settled.{Settling, StepAs};
 use bank_fill::add::Grown;
 use bank_fill::context;
 use model::Row;
+use model::limits::MOST_CONTEXTS;
+use model::limits::MOST_RULES;
+use model::limits::MOST_STATES;
 use sound_parts::judge;
 use table::Gap;
 
@@ -26,8 +30,13 @@ pub enum Step {
 }
 
 // S as its places in T name it.
-fn write_states(t: &[u16; 256], places: &[u16; 32], states: usize, s: &mut [u16; 32])
-    requires { ⌜ (length (now t) ≡ 256) × (length (now places) ≡ 32) × (states ≤ 32) × (length (now s) ≡ 32) × ((i : ℕ) → i < states → getD (now places) i 0 < 256) ⌝ }
+fn write_states(
+    t: &[u16; MOST_RULES],
+    places: &[u16; MOST_STATES],
+    states: usize,
+    s: &mut [u16; MOST_STATES],
+)
+    requires { ⌜ (length (now t) ≡ mostRules) × (length (now places) ≡ mostStates) × (states ≤ mostStates) × (length (now s) ≡ mostStates) × ((i : ℕ) → i < states → getD (now places) i 0 < mostRules) ⌝ }
     ensures { λ _. ⌜ now (s .exit) ≡ over (rowsAt (now (t .entry)) (take states (now (places .entry)))) (now (s .entry)) ⌝ }
 {
     let mut i = 0;
@@ -43,18 +52,18 @@ fn propose(
     words: &[u32],
     counts: &[u8],
     used: u16,
-    s: &mut [u16; 32],
+    s: &mut [u16; MOST_STATES],
     states: usize,
-    t: &[u16; 256],
+    t: &[u16; MOST_RULES],
     rules: usize,
-    c: &[u16; 289],
+    c: &[u16; MOST_CONTEXTS],
     contexts: usize,
     table: &[u8],
 ) -> Step
     requires { ⌜ Settling (now words) (now counts) used (now s) states (now t) rules (now c) contexts × Observed (storeOf (now words) (now counts) used) (answersIn used (now words)) (now t) rules (now c) contexts (now table) × (gapFrom (now table) contexts 0 rules ≡ Gap.Closed) ⌝ }
     ensures { λ r. ⌜ StepAs (now (words .entry)) (now (counts .entry)) used (now (s .entry)) (settled (given (now (words .entry)) (now (counts .entry)) used (now (s .entry)) states (now (t .entry)) rules (now (c .entry)) contexts 0 0 false)) r (now (words .entry)) (now (s .exit)) ⌝ }
 {
-    let mut places = [0u16; 32];
+    let mut places = [0u16; MOST_STATES];
     judge::find_places(s, states, t, rules, &mut places);
     let old = states as u8;
     let grown = table::grow(table, rules, contexts, places, old);
@@ -78,11 +87,11 @@ pub fn settle(
     head: &mut [u16],
     next: &mut [u16],
     mix: &[u32; 5],
-    s: &mut [u16; 32],
+    s: &mut [u16; MOST_STATES],
     states: usize,
-    t: &[u16; 256],
+    t: &[u16; MOST_RULES],
     rules: usize,
-    c: &[u16; 289],
+    c: &[u16; MOST_CONTEXTS],
     contexts: usize,
     table: &mut [u8],
 ) -> Step

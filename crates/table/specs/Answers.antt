@@ -7,7 +7,7 @@ use mathlib.Core.Option.{Option, none, some}
 use Prim.Native.Nat.{ℕ, zero, suc, _*_, _≤_, _<_}
 use lib.Dec.{eqb}
 use lib.ListN.{length, getD, take, drop}
-use Rattle.model.specs.Limits.{mostRules, mostContexts}
+use Rattle.model.specs.Limits.{mostRules, mostContexts, mostStates}
 use Rattle.model.specs.Base.{among}
 use Rattle.model.specs.Store.{Store}
 use Rattle.model.specs.Table.{answersOf, stateFrom}
@@ -85,8 +85,8 @@ Placed t n s q ps = (i : ℕ) → i < q → (getD ps i 0 < n) × (getD t (getD p
 
 -- places of representatives, as a call carries them: rows of a table of n
 pub record Placing (places : List ℕ) (q n : ℕ) : Type 0 where
-  pub long : length places ≡ 32
-  pub few : q ≤ 32
+  pub long : length places ≡ mostStates
+  pub few : q ≤ mostStates
   pub within : (i : ℕ) → i < q → getD places i 0 < n
 
 -- the question at a gap, and whether there is one

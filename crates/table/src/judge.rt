@@ -7,6 +7,7 @@ ghost use lib.ListN.{take, drop};
 ghost use Rattle.model.specs.Base.{all, among};
 ghost use Rattle.model.specs.Sound.{differKnown, allDiffer, countSame};
 ghost use Rattle.table.specs.Answers.{rowAt, Sized, placesFrom, Placing};
+use model::limits::MOST_STATES;
 
 // Whether each transition has a yes at some context.
 pub fn all_yes(table: &[u8], rules: usize, contexts: usize) -> bool
@@ -28,7 +29,7 @@ fn differs(
     table: &[u8],
     rules: usize,
     contexts: usize,
-    places: &[u16; 32],
+    places: &[u16; MOST_STATES],
     states: usize,
     from: usize,
     a: usize,
@@ -51,7 +52,7 @@ pub fn all_differ(
     table: &[u8],
     rules: usize,
     contexts: usize,
-    places: &[u16; 32],
+    places: &[u16; MOST_STATES],
     states: usize,
 ) -> bool
     requires { ⌜ Sized (now table) rules contexts × Placing (now places) states rules ⌝ }
@@ -80,7 +81,7 @@ fn count_same(
     table: &[u8],
     rules: usize,
     contexts: usize,
-    places: &[u16; 32],
+    places: &[u16; MOST_STATES],
     states: usize,
     a: usize,
 ) -> u8
@@ -103,7 +104,7 @@ pub fn all_once(
     table: &[u8],
     rules: usize,
     contexts: usize,
-    places: &[u16; 32],
+    places: &[u16; MOST_STATES],
     states: usize,
 ) -> bool
     requires { ⌜ Sized (now table) rules contexts × Placing (now places) states rules ⌝ }

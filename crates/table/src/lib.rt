@@ -3,10 +3,13 @@
 ghost use mathlib.Core.Path.{_≡_};
 ghost use Prim.Native.Nat.{ℕ, _+_, _*_, _<_, _≤_};
 ghost use lib.ListN.{length, getD, take};
+ghost use Rattle.model.specs.Limits.{mostContexts, mostRules, mostStates};
 ghost use Rattle.model.specs.Base.{same, among};
 ghost use Rattle.model.specs.Sound.{differKnown};
 ghost use Rattle.table.specs.Answers.{rowAt, Sized, Forgotten, unknownIn, placeBy, gapFrom, stateAt, growAt, grownBy};
 use model::State;
+use model::limits::MOST_CONTEXTS;
+use model::limits::MOST_STATES;
 
 pub mod judge; // judge.rt: T5 and T6
 
@@ -17,7 +20,7 @@ pub fn same_rows(table: &[u8], contexts: usize, a: usize, b: usize) -> bool
 {
     let mut j = 0;
     while j < contexts {
-        if table[289 * a + j] != table[289 * b + j] {
+        if table[MOST_CONTEXTS * a + j] != table[MOST_CONTEXTS * b + j] {
             return false;
         }
         j += 1;
@@ -32,8 +35,8 @@ pub fn differ_known(table: &[u8], contexts: usize, a: usize, b: usize) -> bool
 {
     let mut j = 0;
     while j < contexts {
-        let v = table[289 * a + j];
-        let w = table[289 * b + j];
+        let v = table[MOST_CONTEXTS * a + j];
+        let w = table[MOST_CONTEXTS * b + j];
         if v != 0 {
             if w != 0 {
                 if v != w {
@@ -53,7 +56,7 @@ pub fn has_answer(table: &[u8], contexts: usize, a: usize, answer: u8) -> bool
 {
     let mut j = 0;
     while j < contexts {
-        if table[289 * a + j] == answer {
+        if table[MOST_CONTEXTS * a + j] == answer {
             return true;
         }
         j += 1;
@@ -63,12 +66,12 @@ pub fn has_answer(table: &[u8], contexts: usize, a: usize, answer: u8) -> bool
 
 // The first answer of each transition made unknown: of a table that no longer holds, no row is then taken for known.
 pub fn forget(table: &mut [u8], rules: usize)
-    requires { ⌜ (289 * rules ≤ length (now table)) × (rules ≤ 256) ⌝ }
+    requires { ⌜ (mostContexts * rules ≤ length (now table)) × (rules ≤ mostRules) ⌝ }
     ensures { λ _. ⌜ Forgotten rules (now (table .exit)) ⌝ }
 {
     let mut k = 0;
     while k < rules {
-        table[289 * k] = 0;
+        table[MOST_CONTEXTS * k] = 0;
         k += 1;
     }
 }
@@ -86,7 +89,7 @@ fn first_in(table: &[u8], contexts: usize, a: usize) -> usize
 {
     let mut j = 0;
     while j < contexts {
-        if table[289 * a + j] == 0 {
+        if table[MOST_CONTEXTS * a + j] == 0 {
             return j;
         }
         j += 1;
@@ -115,11 +118,11 @@ pub fn state_of(
     table: &[u8],
     rules: usize,
     contexts: usize,
-    places: &[u16; 32],
+    places: &[u16; MOST_STATES],
     states: usize,
     a: usize,
 ) -> State
-    requires { ⌜ Sized (now table) rules contexts × (a < rules) × (states ≤ 32) × (length (now places) ≡ 32) × ((i : ℕ) → i < states → getD (now places) i 0 < rules) ⌝ }
+    requires { ⌜ Sized (now table) rules contexts × (a < rules) × (states ≤ mostStates) × (length (now places) ≡ mostStates) × ((i : ℕ) → i < states → getD (now places) i 0 < rules) ⌝ }
     ensures { λ r. ⌜ r .0 ≡ stateAt (now (table .entry)) contexts (take states (now (places .entry))) a ⌝ }
 {
     let mut q = 0;
@@ -136,12 +139,18 @@ pub fn state_of(
 pub struct Growth {
     pub ok: bool,
     pub states: u8,
-    pub places: [u16; 32],
+    pub places: [u16; MOST_STATES],
 }
 
 // T in order: each transition whose row no representative has becomes one (§4.3).
-pub fn grow(table: &[u8], rules: usize, contexts: usize, places: [u16; 32], states: u8) -> Growth
-    requires { ⌜ Sized (now table) rules contexts × (states ≤ 32) × ((i : ℕ) → i < states → getD places i 0 < rules) ⌝ }
+pub fn grow(
+    table: &[u8],
+    rules: usize,
+    contexts: usize,
+    places: [u16; MOST_STATES],
+    states: u8,
+) -> Growth
+    requires { ⌜ Sized (now table) rules contexts × (states ≤ mostStates) × ((i : ℕ) → i < states → getD places i 0 < rules) ⌝ }
     ensures { λ r. ⌜ grownBy (growAt (now (table .entry)) contexts rules (take states places)) r ⌝ }
     ensures below { λ r. ⌜ ((i : ℕ) → i < r .states → getD (r .places) i 0 < rules) ⌝ }
 {
@@ -151,7 +160,7 @@ pub fn grow(table: &[u8], rules: usize, contexts: usize, places: [u16; 32], stat
     while k < rules {
         let q = state_of(table, rules, contexts, &ps, n as usize, k);
         if q.0 as u8 == n {
-            if n == 32 {
+            if n as usize == MOST_STATES {
                 return Growth {
                     ok: false,
                     states: n,

@@ -3,13 +3,17 @@
 ghost use mathlib.Core.Path.{_≡_};
 ghost use Prim.Native.Nat.{_+_, _<_, _≤_};
 ghost use lib.ListN.{length, getD};
+ghost use Rattle.bank.specs.Ladder.{leastRows, midRows};
+ghost use Rattle.model.specs.Limits.{mostContexts, mostRules};
 ghost use Rattle.model.specs.Base.{among};
 ghost use Rattle.model.specs.Entry.{storeOf, answersIn};
 ghost use Rattle.bank.specs.Ready.{Ready};
 ghost use Rattle.table.specs.Answers.{rowAt, Observed, KnownRows, ToGap};
 ghost use Rattle.table_columns.specs.Columns.{HoledRows, Answered, Contexts, Used};
-use crate::FEW;
-use crate::SOME;
+use bank::ladder::LEAST_ROWS;
+use bank::ladder::MID_ROWS;
+use model::limits::MOST_CONTEXTS;
+use model::limits::MOST_RULES;
 
 // The k-th row of the table, worked out again if it has an unknown answer, and else as it is: whether it has one then.
 fn update_row(
@@ -22,15 +26,15 @@ fn update_row(
     mix: &[u32; 5],
     list: &[u16],
     n: u16,
-    t: &[u16; 256],
+    t: &[u16; MOST_RULES],
     rules: usize,
     k: usize,
-    c: &[u16; 289],
+    c: &[u16; MOST_CONTEXTS],
     contexts: usize,
     filled: &mut [u16],
     table: &mut [u8],
 ) -> bool
-    requires { ⌜ Ready (now words) (now counts) used (now holes) (now head) (now next) (now mix) × Answered (now words) used × HoledRows (now holes) used (now list) n × (length (now t) ≡ 256) × (k < rules) × (getD (now t) k 0 < used) × Contexts (storeOf (now words) (now counts) used) (now c) contexts × (length (now c) ≡ 289) × (used ≤ length (now filled)) × Observed (storeOf (now words) (now counts) used) (answersIn used (now words)) (now t) k (now c) contexts (now table) × KnownRows (storeOf (now words) (now counts) used) (answersIn used (now words)) (now t) rules (now c) contexts (now table) ⌝ }
+    requires { ⌜ Ready (now words) (now counts) used (now holes) (now head) (now next) (now mix) × Answered (now words) used × HoledRows (now holes) used (now list) n × (length (now t) ≡ mostRules) × (k < rules) × (getD (now t) k 0 < used) × Contexts (storeOf (now words) (now counts) used) (now c) contexts × (length (now c) ≡ mostContexts) × (used ≤ length (now filled)) × Observed (storeOf (now words) (now counts) used) (answersIn used (now words)) (now t) k (now c) contexts (now table) × KnownRows (storeOf (now words) (now counts) used) (answersIn used (now words)) (now t) rules (now c) contexts (now table) ⌝ }
     ensures { λ r. ⌜ Observed (storeOf (now (words .entry)) (now (counts .entry)) used) (answersIn used (now (words .entry))) (now (t .entry)) (k + 1) (now (c .entry)) contexts (now (table .exit)) × KnownRows (storeOf (now (words .entry)) (now (counts .entry)) used) (answersIn used (now (words .entry))) (now (t .entry)) rules (now (c .entry)) contexts (now (table .exit)) × (length (now (filled .exit)) ≡ length (now (filled .entry))) × (r ≡ among 0 (rowAt (now (table .exit)) contexts k)) ⌝ }
 {
     if !table::has_answer(table, contexts, k, 0) {
@@ -66,15 +70,15 @@ pub fn gap_with(
     head: &[u16],
     next: &[u16],
     mix: &[u32; 5],
-    t: &[u16; 256],
+    t: &[u16; MOST_RULES],
     rules: usize,
-    c: &[u16; 289],
+    c: &[u16; MOST_CONTEXTS],
     contexts: usize,
     table: &mut [u8],
     list: &mut [u16],
     filled: &mut [u16],
 ) -> usize
-    requires { ⌜ Ready (now words) (now counts) used (now holes) (now head) (now next) (now mix) × Answered (now words) used × Used used (now t) rules × (length (now t) ≡ 256) × (rules ≤ 256) × Contexts (storeOf (now words) (now counts) used) (now c) contexts × (length (now c) ≡ 289) × (contexts ≤ 289) × KnownRows (storeOf (now words) (now counts) used) (answersIn used (now words)) (now t) rules (now c) contexts (now table) × (used ≤ length (now list)) × (used ≤ length (now filled)) ⌝ }
+    requires { ⌜ Ready (now words) (now counts) used (now holes) (now head) (now next) (now mix) × Answered (now words) used × Used used (now t) rules × (length (now t) ≡ mostRules) × (rules ≤ mostRules) × Contexts (storeOf (now words) (now counts) used) (now c) contexts × (length (now c) ≡ mostContexts) × (contexts ≤ mostContexts) × KnownRows (storeOf (now words) (now counts) used) (answersIn used (now words)) (now t) rules (now c) contexts (now table) × (used ≤ length (now list)) × (used ≤ length (now filled)) ⌝ }
     ensures { λ r. ⌜ ToGap (storeOf (now (words .entry)) (now (counts .entry)) used) (answersIn used (now (words .entry))) (now (t .entry)) rules (now (c .entry)) contexts (now (table .exit)) r ⌝ }
 {
     let n = table_columns::holed_rows(used, holes, list);
@@ -114,17 +118,17 @@ fn gap_few(
     head: &[u16],
     next: &[u16],
     mix: &[u32; 5],
-    t: &[u16; 256],
+    t: &[u16; MOST_RULES],
     rules: usize,
-    c: &[u16; 289],
+    c: &[u16; MOST_CONTEXTS],
     contexts: usize,
     table: &mut [u8],
 ) -> usize
-    requires { ⌜ Ready (now words) (now counts) used (now holes) (now head) (now next) (now mix) × Answered (now words) used × Used used (now t) rules × (length (now t) ≡ 256) × (rules ≤ 256) × Contexts (storeOf (now words) (now counts) used) (now c) contexts × (length (now c) ≡ 289) × (contexts ≤ 289) × KnownRows (storeOf (now words) (now counts) used) (answersIn used (now words)) (now t) rules (now c) contexts (now table) × (used ≤ 256) ⌝ }
+    requires { ⌜ Ready (now words) (now counts) used (now holes) (now head) (now next) (now mix) × Answered (now words) used × Used used (now t) rules × (length (now t) ≡ mostRules) × (rules ≤ mostRules) × Contexts (storeOf (now words) (now counts) used) (now c) contexts × (length (now c) ≡ mostContexts) × (contexts ≤ mostContexts) × KnownRows (storeOf (now words) (now counts) used) (answersIn used (now words)) (now t) rules (now c) contexts (now table) × (used ≤ leastRows) ⌝ }
     ensures { λ r. ⌜ ToGap (storeOf (now (words .entry)) (now (counts .entry)) used) (answersIn used (now (words .entry))) (now (t .entry)) rules (now (c .entry)) contexts (now (table .exit)) r ⌝ }
 {
-    let mut list = [0u16; FEW as usize];
-    let mut filled = [0u16; FEW as usize];
+    let mut list = [0u16; LEAST_ROWS];
+    let mut filled = [0u16; LEAST_ROWS];
     gap_with(
         words,
         counts,
@@ -152,16 +156,16 @@ pub fn gap_some(
     head: &[u16],
     next: &[u16],
     mix: &[u32; 5],
-    t: &[u16; 256],
+    t: &[u16; MOST_RULES],
     rules: usize,
-    c: &[u16; 289],
+    c: &[u16; MOST_CONTEXTS],
     contexts: usize,
     table: &mut [u8],
 ) -> usize
-    requires { ⌜ Ready (now words) (now counts) used (now holes) (now head) (now next) (now mix) × Answered (now words) used × Used used (now t) rules × (length (now t) ≡ 256) × (rules ≤ 256) × Contexts (storeOf (now words) (now counts) used) (now c) contexts × (length (now c) ≡ 289) × (contexts ≤ 289) × KnownRows (storeOf (now words) (now counts) used) (answersIn used (now words)) (now t) rules (now c) contexts (now table) × (used ≤ 2048) ⌝ }
+    requires { ⌜ Ready (now words) (now counts) used (now holes) (now head) (now next) (now mix) × Answered (now words) used × Used used (now t) rules × (length (now t) ≡ mostRules) × (rules ≤ mostRules) × Contexts (storeOf (now words) (now counts) used) (now c) contexts × (length (now c) ≡ mostContexts) × (contexts ≤ mostContexts) × KnownRows (storeOf (now words) (now counts) used) (answersIn used (now words)) (now t) rules (now c) contexts (now table) × (used ≤ midRows) ⌝ }
     ensures { λ r. ⌜ ToGap (storeOf (now (words .entry)) (now (counts .entry)) used) (answersIn used (now (words .entry))) (now (t .entry)) rules (now (c .entry)) contexts (now (table .exit)) r ⌝ }
 {
-    if used <= FEW {
+    if used as usize <= LEAST_ROWS {
         return gap_few(
             words,
             counts,
@@ -177,8 +181,8 @@ pub fn gap_some(
             table,
         );
     }
-    let mut list = [0u16; SOME as usize];
-    let mut filled = [0u16; SOME as usize];
+    let mut list = [0u16; MID_ROWS];
+    let mut filled = [0u16; MID_ROWS];
     gap_with(
         words,
         counts,

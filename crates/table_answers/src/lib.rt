@@ -3,20 +3,18 @@
 ghost use mathlib.Core.Path.{_≡_};
 ghost use Prim.Native.Nat.{_*_, _≤_};
 ghost use lib.ListN.{length};
-ghost use Rattle.model.specs.Limits.{mostContexts};
+ghost use Rattle.model.specs.Limits.{mostContexts, mostRules};
 ghost use Rattle.model.specs.Entry.{storeOf, answersIn};
 ghost use Rattle.bank.specs.Ready.{Ready};
 ghost use Rattle.table.specs.Answers.{Observed, KnownRows, ToGap};
 ghost use Rattle.table_columns.specs.Columns.{Answered, Contexts, Used};
+use bank::ladder::MID_ROWS;
+use model::limits::MOST_CONTEXTS;
+use model::limits::MOST_ROWS;
+use model::limits::MOST_RULES;
 
 pub mod whole; // whole.rt: the whole table, by sizes
 pub mod gap; // gap.rt: the table up to its first gap, by sizes
-
-// Used rows for which the smallest arrays do.
-const FEW: u16 = 256;
-
-// Used rows for which the arrays of the middle size do.
-const SOME: u16 = 2048;
 
 // The answers of the first transitions at the first contexts, into the table.
 pub fn observe(
@@ -27,16 +25,16 @@ pub fn observe(
     head: &[u16],
     next: &[u16],
     mix: &[u32; 5],
-    t: &[u16; 256],
+    t: &[u16; MOST_RULES],
     rules: usize,
-    c: &[u16; 289],
+    c: &[u16; MOST_CONTEXTS],
     contexts: usize,
     table: &mut [u8],
 )
-    requires { ⌜ Ready (now words) (now counts) used (now holes) (now head) (now next) (now mix) × Answered (now words) used × Used used (now t) rules × (length (now t) ≡ 256) × (rules ≤ 256) × Contexts (storeOf (now words) (now counts) used) (now c) contexts × (length (now c) ≡ 289) × (contexts ≤ 289) × (mostContexts * rules ≤ length (now table)) ⌝ }
+    requires { ⌜ Ready (now words) (now counts) used (now holes) (now head) (now next) (now mix) × Answered (now words) used × Used used (now t) rules × (length (now t) ≡ mostRules) × (rules ≤ mostRules) × Contexts (storeOf (now words) (now counts) used) (now c) contexts × (length (now c) ≡ mostContexts) × (contexts ≤ mostContexts) × (mostContexts * rules ≤ length (now table)) ⌝ }
     ensures { λ _. ⌜ Observed (storeOf (now (words .entry)) (now (counts .entry)) used) (answersIn used (now (words .entry))) (now (t .entry)) rules (now (c .entry)) contexts (now (table .exit)) ⌝ }
 {
-    if used <= SOME {
+    if used as usize <= MID_ROWS {
         return whole::observe_some(
             words,
             counts,
@@ -52,8 +50,8 @@ pub fn observe(
             table,
         );
     }
-    let mut list = [0u16; 16384];
-    let mut filled = [0u16; 16384];
+    let mut list = [0u16; MOST_ROWS];
+    let mut filled = [0u16; MOST_ROWS];
     whole::observe_with(
         words,
         counts,
@@ -82,16 +80,16 @@ pub fn observe_to_gap(
     head: &[u16],
     next: &[u16],
     mix: &[u32; 5],
-    t: &[u16; 256],
+    t: &[u16; MOST_RULES],
     rules: usize,
-    c: &[u16; 289],
+    c: &[u16; MOST_CONTEXTS],
     contexts: usize,
     table: &mut [u8],
 ) -> usize
-    requires { ⌜ Ready (now words) (now counts) used (now holes) (now head) (now next) (now mix) × Answered (now words) used × Used used (now t) rules × (length (now t) ≡ 256) × (rules ≤ 256) × Contexts (storeOf (now words) (now counts) used) (now c) contexts × (length (now c) ≡ 289) × (contexts ≤ 289) × KnownRows (storeOf (now words) (now counts) used) (answersIn used (now words)) (now t) rules (now c) contexts (now table) ⌝ }
+    requires { ⌜ Ready (now words) (now counts) used (now holes) (now head) (now next) (now mix) × Answered (now words) used × Used used (now t) rules × (length (now t) ≡ mostRules) × (rules ≤ mostRules) × Contexts (storeOf (now words) (now counts) used) (now c) contexts × (length (now c) ≡ mostContexts) × (contexts ≤ mostContexts) × KnownRows (storeOf (now words) (now counts) used) (answersIn used (now words)) (now t) rules (now c) contexts (now table) ⌝ }
     ensures { λ r. ⌜ ToGap (storeOf (now (words .entry)) (now (counts .entry)) used) (answersIn used (now (words .entry))) (now (t .entry)) rules (now (c .entry)) contexts (now (table .exit)) r ⌝ }
 {
-    if used <= SOME {
+    if used as usize <= MID_ROWS {
         return gap::gap_some(
             words,
             counts,
@@ -107,8 +105,8 @@ pub fn observe_to_gap(
             table,
         );
     }
-    let mut list = [0u16; 16384];
-    let mut filled = [0u16; 16384];
+    let mut list = [0u16; MOST_ROWS];
+    let mut filled = [0u16; MOST_ROWS];
     gap::gap_with(
         words,
         counts,

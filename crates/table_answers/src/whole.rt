@@ -3,13 +3,16 @@
 ghost use mathlib.Core.Path.{_≡_};
 ghost use Prim.Native.Nat.{_*_, _≤_};
 ghost use lib.ListN.{length};
-ghost use Rattle.model.specs.Limits.{mostContexts};
+ghost use Rattle.bank.specs.Ladder.{leastRows, midRows};
+ghost use Rattle.model.specs.Limits.{mostContexts, mostRules};
 ghost use Rattle.model.specs.Entry.{storeOf, answersIn};
 ghost use Rattle.bank.specs.Ready.{Ready};
 ghost use Rattle.table.specs.Answers.{Observed};
 ghost use Rattle.table_columns.specs.Columns.{Answered, Contexts, Used};
-use crate::FEW;
-use crate::SOME;
+use bank::ladder::LEAST_ROWS;
+use bank::ladder::MID_ROWS;
+use model::limits::MOST_CONTEXTS;
+use model::limits::MOST_RULES;
 
 // The answers of the first transitions at the first contexts, into the table.
 pub fn observe_with(
@@ -20,15 +23,15 @@ pub fn observe_with(
     head: &[u16],
     next: &[u16],
     mix: &[u32; 5],
-    t: &[u16; 256],
+    t: &[u16; MOST_RULES],
     rules: usize,
-    c: &[u16; 289],
+    c: &[u16; MOST_CONTEXTS],
     contexts: usize,
     table: &mut [u8],
     list: &mut [u16],
     filled: &mut [u16],
 )
-    requires { ⌜ Ready (now words) (now counts) used (now holes) (now head) (now next) (now mix) × Answered (now words) used × Used used (now t) rules × (length (now t) ≡ 256) × (rules ≤ 256) × Contexts (storeOf (now words) (now counts) used) (now c) contexts × (length (now c) ≡ 289) × (contexts ≤ 289) × (mostContexts * rules ≤ length (now table)) × (used ≤ length (now list)) × (used ≤ length (now filled)) ⌝ }
+    requires { ⌜ Ready (now words) (now counts) used (now holes) (now head) (now next) (now mix) × Answered (now words) used × Used used (now t) rules × (length (now t) ≡ mostRules) × (rules ≤ mostRules) × Contexts (storeOf (now words) (now counts) used) (now c) contexts × (length (now c) ≡ mostContexts) × (contexts ≤ mostContexts) × (mostContexts * rules ≤ length (now table)) × (used ≤ length (now list)) × (used ≤ length (now filled)) ⌝ }
     ensures { λ _. ⌜ Observed (storeOf (now (words .entry)) (now (counts .entry)) used) (answersIn used (now (words .entry))) (now (t .entry)) rules (now (c .entry)) contexts (now (table .exit)) ⌝ }
 {
     let n = table_columns::holed_rows(used, holes, list);
@@ -64,17 +67,17 @@ fn observe_few(
     head: &[u16],
     next: &[u16],
     mix: &[u32; 5],
-    t: &[u16; 256],
+    t: &[u16; MOST_RULES],
     rules: usize,
-    c: &[u16; 289],
+    c: &[u16; MOST_CONTEXTS],
     contexts: usize,
     table: &mut [u8],
 )
-    requires { ⌜ Ready (now words) (now counts) used (now holes) (now head) (now next) (now mix) × Answered (now words) used × Used used (now t) rules × (length (now t) ≡ 256) × (rules ≤ 256) × Contexts (storeOf (now words) (now counts) used) (now c) contexts × (length (now c) ≡ 289) × (contexts ≤ 289) × (mostContexts * rules ≤ length (now table)) × (used ≤ 256) ⌝ }
+    requires { ⌜ Ready (now words) (now counts) used (now holes) (now head) (now next) (now mix) × Answered (now words) used × Used used (now t) rules × (length (now t) ≡ mostRules) × (rules ≤ mostRules) × Contexts (storeOf (now words) (now counts) used) (now c) contexts × (length (now c) ≡ mostContexts) × (contexts ≤ mostContexts) × (mostContexts * rules ≤ length (now table)) × (used ≤ leastRows) ⌝ }
     ensures { λ _. ⌜ Observed (storeOf (now (words .entry)) (now (counts .entry)) used) (answersIn used (now (words .entry))) (now (t .entry)) rules (now (c .entry)) contexts (now (table .exit)) ⌝ }
 {
-    let mut list = [0u16; FEW as usize];
-    let mut filled = [0u16; FEW as usize];
+    let mut list = [0u16; LEAST_ROWS];
+    let mut filled = [0u16; LEAST_ROWS];
     observe_with(
         words,
         counts,
@@ -102,16 +105,16 @@ pub fn observe_some(
     head: &[u16],
     next: &[u16],
     mix: &[u32; 5],
-    t: &[u16; 256],
+    t: &[u16; MOST_RULES],
     rules: usize,
-    c: &[u16; 289],
+    c: &[u16; MOST_CONTEXTS],
     contexts: usize,
     table: &mut [u8],
 )
-    requires { ⌜ Ready (now words) (now counts) used (now holes) (now head) (now next) (now mix) × Answered (now words) used × Used used (now t) rules × (length (now t) ≡ 256) × (rules ≤ 256) × Contexts (storeOf (now words) (now counts) used) (now c) contexts × (length (now c) ≡ 289) × (contexts ≤ 289) × (mostContexts * rules ≤ length (now table)) × (used ≤ 2048) ⌝ }
+    requires { ⌜ Ready (now words) (now counts) used (now holes) (now head) (now next) (now mix) × Answered (now words) used × Used used (now t) rules × (length (now t) ≡ mostRules) × (rules ≤ mostRules) × Contexts (storeOf (now words) (now counts) used) (now c) contexts × (length (now c) ≡ mostContexts) × (contexts ≤ mostContexts) × (mostContexts * rules ≤ length (now table)) × (used ≤ midRows) ⌝ }
     ensures { λ _. ⌜ Observed (storeOf (now (words .entry)) (now (counts .entry)) used) (answersIn used (now (words .entry))) (now (t .entry)) rules (now (c .entry)) contexts (now (table .exit)) ⌝ }
 {
-    if used <= FEW {
+    if used as usize <= LEAST_ROWS {
         return observe_few(
             words,
             counts,
@@ -127,8 +130,8 @@ pub fn observe_some(
             table,
         );
     }
-    let mut list = [0u16; SOME as usize];
-    let mut filled = [0u16; SOME as usize];
+    let mut list = [0u16; MID_ROWS];
+    let mut filled = [0u16; MID_ROWS];
     observe_with(
         words,
         counts,

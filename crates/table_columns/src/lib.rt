@@ -5,7 +5,7 @@ ghost use mathlib.Core.Bool.{true};
 ghost use Prim.Native.Nat.{_+_, _*_, _-_, _<_, _≤_};
 ghost use lib.ListN.{length, getD, take};
 ghost use lib.Seq.{sets};
-ghost use Rattle.model.specs.Limits.{mostContexts};
+ghost use Rattle.model.specs.Limits.{mostContexts, mostRows, mostRules, rowWidth};
 ghost use Rattle.model.specs.Store.{isContext, nextRow};
 ghost use Rattle.model.specs.Table.{answerIn, answersOf};
 ghost use Rattle.model.specs.Entry.{storeOf, answersIn};
@@ -15,10 +15,12 @@ ghost use Rattle.table_columns.specs.Columns.{HoledRows, holeKid, Column
 use bank::index;
 use bank::rows;
 use model::Row;
+use model::limits::MOST_CONTEXTS;
+use model::limits::MOST_RULES;
 
 // The rows beyond row 0 with a hole, in order, and how many they are.
 pub fn holed_rows(used: u16, holes: &[u8], list: &mut [u16]) -> u16
-    requires { ⌜ (used ≤ length (now holes)) × (used ≤ length (now list)) × (0 < used) × (used ≤ 16384) ⌝ }
+    requires { ⌜ (used ≤ length (now holes)) × (used ≤ length (now list)) × (0 < used) × (used ≤ mostRows) ⌝ }
     ensures { λ r. ⌜ HoledRows (now (holes .entry)) used (now (list .exit)) r ⌝ }
 {
     let mut n: u16 = 0;
@@ -110,7 +112,7 @@ fn fill_column(
 
 // The answer of a record at a context, from the record's column.
 fn answer_at(words: &[u32], counts: &[u8], used: u16, with: Row, filled: &[u16], context: Row) -> u8
-    requires { ⌜ (6 * used ≤ length (now words)) × (used ≤ 16384) × Answered (now words) used × Column (storeOf (now words) (now counts) used) (with .0) (now filled) × (isContext (storeOf (now words) (now counts) used) (context .0) ≡ true) ⌝ }
+    requires { ⌜ (rowWidth * used ≤ length (now words)) × (used ≤ mostRows) × Answered (now words) used × Column (storeOf (now words) (now counts) used) (with .0) (now filled) × (isContext (storeOf (now words) (now counts) used) (context .0) ≡ true) ⌝ }
     ensures { λ r. ⌜ r ≡ answerIn (storeOf (now (words .entry)) (now (counts .entry)) used) (answersIn used (now (words .entry))) (context .0) (with .0) ⌝ }
 {
     let row = Row(filled[context.0 as usize]);
@@ -124,18 +126,18 @@ fn read_column(
     used: u16,
     with: Row,
     filled: &[u16],
-    c: &[u16; 289],
+    c: &[u16; MOST_CONTEXTS],
     contexts: usize,
     k: usize,
     table: &mut [u8],
 )
-    requires { ⌜ (6 * used ≤ length (now words)) × (used ≤ 16384) × Answered (now words) used × Column (storeOf (now words) (now counts) used) (with .0) (now filled) × Contexts (storeOf (now words) (now counts) used) (now c) contexts × (length (now c) ≡ 289) × (contexts ≤ 289) × (mostContexts * k + mostContexts ≤ length (now table)) ⌝ }
+    requires { ⌜ (rowWidth * used ≤ length (now words)) × (used ≤ mostRows) × Answered (now words) used × Column (storeOf (now words) (now counts) used) (with .0) (now filled) × Contexts (storeOf (now words) (now counts) used) (now c) contexts × (length (now c) ≡ mostContexts) × (contexts ≤ mostContexts) × (mostContexts * k + mostContexts ≤ length (now table)) ⌝ }
     ensures { λ _. ⌜ now (table .exit) ≡ sets (now (table .entry)) (mostContexts * k) (answersOf (storeOf (now (words .entry)) (now (counts .entry)) used) (answersIn used (now (words .entry))) (take contexts (now (c .entry))) (with .0)) ⌝ }
 {
     let mut j = 0;
     while j < contexts {
         let answer = answer_at(words, counts, used, with, filled, Row(c[j]));
-        table[289 * k + j] = answer;
+        table[MOST_CONTEXTS * k + j] = answer;
         j += 1;
     }
 }
@@ -151,14 +153,14 @@ pub fn observe_row(
     mix: &[u32; 5],
     list: &[u16],
     n: u16,
-    t: &[u16; 256],
+    t: &[u16; MOST_RULES],
     k: usize,
-    c: &[u16; 289],
+    c: &[u16; MOST_CONTEXTS],
     contexts: usize,
     filled: &mut [u16],
     table: &mut [u8],
 )
-    requires { ⌜ Ready (now words) (now counts) used (now holes) (now head) (now next) (now mix) × Answered (now words) used × HoledRows (now holes) used (now list) n × (length (now t) ≡ 256) × (k < 256) × (getD (now t) k 0 < used) × Contexts (storeOf (now words) (now counts) used) (now c) contexts × (length (now c) ≡ 289) × (contexts ≤ 289) × (used ≤ length (now filled)) × (mostContexts * k + mostContexts ≤ length (now table)) × Observed (storeOf (now words) (now counts) used) (answersIn used (now words)) (now t) k (now c) contexts (now table) ⌝ }
+    requires { ⌜ Ready (now words) (now counts) used (now holes) (now head) (now next) (now mix) × Answered (now words) used × HoledRows (now holes) used (now list) n × (length (now t) ≡ mostRules) × (k < mostRules) × (getD (now t) k 0 < used) × Contexts (storeOf (now words) (now counts) used) (now c) contexts × (length (now c) ≡ mostContexts) × (contexts ≤ mostContexts) × (used ≤ length (now filled)) × (mostContexts * k + mostContexts ≤ length (now table)) × Observed (storeOf (now words) (now counts) used) (answersIn used (now words)) (now t) k (now c) contexts (now table) ⌝ }
     ensures { λ _. ⌜ Observed (storeOf (now (words .entry)) (now (counts .entry)) used) (answersIn used (now (words .entry))) (now (t .entry)) (k + 1) (now (c .entry)) contexts (now (table .exit)) ⌝ }
     ensures filled { λ _. ⌜ length (now (filled .exit)) ≡ length (now (filled .entry)) ⌝ }
     ensures row { λ _. ⌜ now (table .exit) ≡ sets (now (table .entry)) (mostContexts * k) (answersOf (storeOf (now (words .entry)) (now (counts .entry)) used) (answersIn used (now (words .entry))) (take contexts (now (c .entry))) (getD (now (t .entry)) k 0)) ⌝ }

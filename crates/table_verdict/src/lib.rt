@@ -6,6 +6,8 @@ ghost use mathlib.Core.List.{[]};
 ghost use Prim.Native.Nat.{ℕ, _<_, _≤_};
 ghost use lib.Dec.{eqb};
 ghost use lib.ListN.{length, getD, take};
+ghost use Rattle.bank.specs.Ladder.{smallRows};
+ghost use Rattle.model.specs.Limits.{mostListed, mostRules, mostStates};
 ghost use Rattle.model.specs.Base.{noRepeats};
 ghost use Rattle.model.specs.Automata.{rowState, acceptsRow, runFrom, acceptsList};
 ghost use Rattle.model.specs.Facts.{Parses};
@@ -16,9 +18,13 @@ ghost use Rattle.bank.specs.Ready.{Ready};
 ghost use Rattle.table.specs.Answers.{Sized};
 ghost use Rattle.table_verdict.specs.Rules.{RepsBy, rulesBy, hypothesis, Ruled, repOf, ledBy};
 use bank::index;
+use bank::ladder::SMALL_ROWS;
 use bank::rows;
-use bank_fill::context;
 use model::Row;
+use model::limits::MOST_LISTED;
+use model::limits::MOST_ROWS;
+use model::limits::MOST_RULES;
+use model::limits::MOST_STATES;
 
 // All entries 0.
 fn clear(reps: &mut [u16])
@@ -35,14 +41,14 @@ fn clear(reps: &mut [u16])
 pub fn find_reps(
     table: &[u8],
     contexts: usize,
-    places: &[u16; 32],
-    s: &[u16; 32],
+    places: &[u16; MOST_STATES],
+    s: &[u16; MOST_STATES],
     states: usize,
-    t: &[u16; 256],
+    t: &[u16; MOST_RULES],
     rules: usize,
     reps: &mut [u16],
 )
-    requires { ⌜ Sized (now table) rules contexts × (states ≤ 32) × (length (now places) ≡ 32) × ((i : ℕ) → i < states → getD (now places) i 0 < rules) × (length (now s) ≡ 32) × (length (now t) ≡ 256) × (rules ≤ 256) × ((k : ℕ) → k < rules → getD (now t) k 0 < length (now reps)) × (noRepeats (take rules (now t)) ≡ true) ⌝ }
+    requires { ⌜ Sized (now table) rules contexts × (states ≤ mostStates) × (length (now places) ≡ mostStates) × ((i : ℕ) → i < states → getD (now places) i 0 < rules) × (length (now s) ≡ mostStates) × (length (now t) ≡ mostRules) × (rules ≤ mostRules) × ((k : ℕ) → k < rules → getD (now t) k 0 < length (now reps)) × (noRepeats (take rules (now t)) ≡ true) ⌝ }
     ensures { λ _. ⌜ RepsBy (now (table .entry)) contexts (take states (now (places .entry))) (take states (now (s .entry))) (take rules (now (t .entry))) (now (reps .exit)) ⌝ }
 {
     clear(reps);
@@ -87,9 +93,9 @@ fn row_rep(
     head: &[u16],
     next: &[u16],
     mix: &[u32; 5],
-    s: &[u16; 32],
+    s: &[u16; MOST_STATES],
     states: usize,
-    t: &[u16; 256],
+    t: &[u16; MOST_RULES],
     rules: usize,
     reps: &[u16],
     led: &[u16],
@@ -134,9 +140,9 @@ pub fn row_reps(
     head: &[u16],
     next: &[u16],
     mix: &[u32; 5],
-    s: &[u16; 32],
+    s: &[u16; MOST_STATES],
     states: usize,
-    t: &[u16; 256],
+    t: &[u16; MOST_RULES],
     rules: usize,
     reps: &[u16],
     upto: Row,
@@ -178,9 +184,9 @@ pub fn accepts_row(
     head: &[u16],
     next: &[u16],
     mix: &[u32; 5],
-    s: &[u16; 32],
+    s: &[u16; MOST_STATES],
     states: usize,
-    t: &[u16; 256],
+    t: &[u16; MOST_RULES],
     rules: usize,
     reps: &[u16],
     row: Row,
@@ -188,7 +194,7 @@ pub fn accepts_row(
     requires { ⌜ Ready (now words) (now counts) used (now holes) (now head) (now next) (now mix) × Ruled (storeOf (now words) (now counts) used) (take states (now s)) (take rules (now t)) (now reps) × (row .0 < used) ⌝ }
     ensures { λ r. ⌜ r ≡ acceptsRow (hypothesis (now (words .entry)) (now (counts .entry)) used (now (s .entry)) states (now (t .entry)) rules (now (reps .entry))) (storeOf (now (words .entry)) (now (counts .entry)) used) (row .0) ⌝ }
 {
-    if used <= context::FEW {
+    if used as usize <= SMALL_ROWS {
         return accepts_few(
             words,
             counts,
@@ -205,7 +211,7 @@ pub fn accepts_row(
             row,
         );
     }
-    let mut led = [0u16; 16384];
+    let mut led = [0u16; MOST_ROWS];
     accepts_with(
         words,
         counts,
@@ -233,17 +239,17 @@ fn accepts_few(
     head: &[u16],
     next: &[u16],
     mix: &[u32; 5],
-    s: &[u16; 32],
+    s: &[u16; MOST_STATES],
     states: usize,
-    t: &[u16; 256],
+    t: &[u16; MOST_RULES],
     rules: usize,
     reps: &[u16],
     row: Row,
 ) -> bool
-    requires { ⌜ Ready (now words) (now counts) used (now holes) (now head) (now next) (now mix) × Ruled (storeOf (now words) (now counts) used) (take states (now s)) (take rules (now t)) (now reps) × (row .0 < used) × (used ≤ 1024) ⌝ }
+    requires { ⌜ Ready (now words) (now counts) used (now holes) (now head) (now next) (now mix) × Ruled (storeOf (now words) (now counts) used) (take states (now s)) (take rules (now t)) (now reps) × (row .0 < used) × (used ≤ smallRows) ⌝ }
     ensures { λ r. ⌜ r ≡ acceptsRow (hypothesis (now (words .entry)) (now (counts .entry)) used (now (s .entry)) states (now (t .entry)) rules (now (reps .entry))) (storeOf (now (words .entry)) (now (counts .entry)) used) (row .0) ⌝ }
 {
-    let mut led = [0u16; 1024];
+    let mut led = [0u16; SMALL_ROWS];
     accepts_with(
         words,
         counts,
@@ -271,9 +277,9 @@ fn accepts_with(
     head: &[u16],
     next: &[u16],
     mix: &[u32; 5],
-    s: &[u16; 32],
+    s: &[u16; MOST_STATES],
     states: usize,
-    t: &[u16; 256],
+    t: &[u16; MOST_RULES],
     rules: usize,
     reps: &[u16],
     row: Row,
@@ -328,17 +334,17 @@ pub fn run_list(
     head: &[u16],
     next: &[u16],
     mix: &[u32; 5],
-    s: &[u16; 32],
+    s: &[u16; MOST_STATES],
     states: usize,
-    t: &[u16; 256],
+    t: &[u16; MOST_RULES],
     rules: usize,
     reps: &[u16],
     symbols: &[u8],
 ) -> Led
-    requires { ⌜ Ready (now words) (now counts) used (now holes) (now head) (now next) (now mix) × Ruled (storeOf (now words) (now counts) used) (take states (now s)) (take rules (now t)) (now reps) × Parses (now counts) 0 (now symbols) × (length (now symbols) ≤ 1024) ⌝ }
+    requires { ⌜ Ready (now words) (now counts) used (now holes) (now head) (now next) (now mix) × Ruled (storeOf (now words) (now counts) used) (take states (now s)) (take rules (now t)) (now reps) × Parses (now counts) 0 (now symbols) × (length (now symbols) ≤ mostListed) ⌝ }
     ensures { λ r. ⌜ r ≡ ledBy (take states (now (s .entry))) (runFrom (hypothesis (now (words .entry)) (now (counts .entry)) used (now (s .entry)) states (now (t .entry)) rules (now (reps .entry))) 0 (now (symbols .entry)) []) ⌝ }
 {
-    let mut stack = [0u16; 1024];
+    let mut stack = [0u16; MOST_LISTED];
     let mut height = 0;
     let mut at = 0;
     while at < symbols.len() {
@@ -377,14 +383,14 @@ pub fn accepts_list(
     head: &[u16],
     next: &[u16],
     mix: &[u32; 5],
-    s: &[u16; 32],
+    s: &[u16; MOST_STATES],
     states: usize,
-    t: &[u16; 256],
+    t: &[u16; MOST_RULES],
     rules: usize,
     reps: &[u16],
     symbols: &[u8],
 ) -> bool
-    requires { ⌜ Ready (now words) (now counts) used (now holes) (now head) (now next) (now mix) × Ruled (storeOf (now words) (now counts) used) (take states (now s)) (take rules (now t)) (now reps) × Parses (now counts) 0 (now symbols) × (length (now symbols) ≤ 1024) ⌝ }
+    requires { ⌜ Ready (now words) (now counts) used (now holes) (now head) (now next) (now mix) × Ruled (storeOf (now words) (now counts) used) (take states (now s)) (take rules (now t)) (now reps) × Parses (now counts) 0 (now symbols) × (length (now symbols) ≤ mostListed) ⌝ }
     ensures { λ r. ⌜ r ≡ acceptsList (hypothesis (now (words .entry)) (now (counts .entry)) used (now (s .entry)) states (now (t .entry)) rules (now (reps .entry))) (now (symbols .entry)) ⌝ }
 {
     match run_list(

@@ -4,6 +4,7 @@ use mathlib.Core.Bool.{true, false}
 use mathlib.Core.List.{List}
 use Prim.Native.Nat.{ℕ, _≤_}
 use lib.ListN.{length, take}
+use Rattle.model.specs.Limits.{mostSymbols}
 use Rattle.model.specs.Base.{over}
 use Rattle.text.specs.Alphabet.{Alphabet, noAlphabet, alphabet}
 use Rattle.text_lines.specs.declared.open.Opened.{Opened}
@@ -12,4 +13,4 @@ use Rattle.text_lines.specs.declared.open.Opened.{Opened}
 abbrev pub OpenedAs : Alphabet → Opened → (letters letters' counts' : List ℕ) → Type 0
 OpenedAs noAlphabet r ls ls' ns' = (r .ok ≡ false)
 OpenedAs (alphabet bs ks) r ls ls' ns' =
-    (r .ok ≡ true) × (r .size ≡ length bs) × (r .size ≤ 64) × (ls' ≡ over bs ls) × (take (r .size) ns' ≡ ks) × (length ns' ≡ 64)
+    (r .ok ≡ true) × (r .size ≡ length bs) × (r .size ≤ mostSymbols) × (ls' ≡ over bs ls) × (take (r .size) ns' ≡ ks) × (length ns' ≡ mostSymbols)

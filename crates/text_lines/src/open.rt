@@ -2,9 +2,11 @@
 ghost use mathlib.Core.Path.{_≡_};
 ghost use Prim.Native.Nat.{_≤_, _<_};
 ghost use lib.ListN.{length, take};
+ghost use Rattle.model.specs.Limits.{mostSymbols};
 ghost use Rattle.text.specs.Bytes.{isLetter, isDigit};
 ghost use Rattle.text.specs.Alphabet.{pairFits, alphabetOf};
 ghost use Rattle.text_lines.specs.Opens.{OpenedAs};
+use model::limits::MOST_SYMBOLS;
 
 // Whether the first line was read, and how many letters it has.
 pub struct Opened {
@@ -30,11 +32,11 @@ fn is_digit(byte: u8) -> bool
 }
 
 // Whether a letter, a space and a digit go with the letters before them.
-fn pair_fits(letters: &[u8; 64], size: usize, letter: u8, between: u8, digit: u8) -> bool
-    requires { ⌜ (length (now letters) ≡ 64) × (size ≤ 64) ⌝ }
+fn pair_fits(letters: &[u8; MOST_SYMBOLS], size: usize, letter: u8, between: u8, digit: u8) -> bool
+    requires { ⌜ (length (now letters) ≡ mostSymbols) × (size ≤ mostSymbols) ⌝ }
     ensures { λ r. ⌜ r ≡ pairFits (take size (now (letters .entry))) letter between digit ⌝ }
 {
-    if size == 64 {
+    if size == MOST_SYMBOLS {
         return false;
     }
     if !is_letter(letter) {
@@ -57,8 +59,12 @@ fn pair_fits(letters: &[u8; 64], size: usize, letter: u8, between: u8, digit: u8
 }
 
 // Reads a first line: its letters and its counts over the starts of two arrays.
-pub fn alphabet_of(line: &[u8], letters: &mut [u8; 64], counts: &mut [u8; 64]) -> Opened
-    requires { ⌜ (length (now letters) ≡ 64) × (length (now counts) ≡ 64) ⌝ }
+pub fn alphabet_of(
+    line: &[u8],
+    letters: &mut [u8; MOST_SYMBOLS],
+    counts: &mut [u8; MOST_SYMBOLS],
+) -> Opened
+    requires { ⌜ (length (now letters) ≡ mostSymbols) × (length (now counts) ≡ mostSymbols) ⌝ }
     ensures { λ r. ⌜ OpenedAs (alphabetOf (now (line .entry))) r (now (letters .entry)) (now (letters .exit)) (now (counts .exit)) ⌝ }
 {
     let mut size = 0;

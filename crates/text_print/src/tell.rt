@@ -13,6 +13,7 @@ ghost use Rattle.text_print.specs.Tells.{Tellable};
 use crate::print;
 use model::Row;
 use model::Seen;
+use model::limits::MOST_LISTED;
 
 // A digit, if the number reaches its power of ten.
 fn put_digit(n: u16, power: u16, out: &mut [u8], at: usize) -> usize
@@ -113,7 +114,7 @@ fn put_question(
     ensures { λ r. ⌜ (r ≡ at + length (questionText (now (letters .entry)) (storeOf (now (words .entry)) (now (counts .entry)) used) (row .0))) × (r ≤ at + 3073) ⌝ }
     ensures out { λ r. ⌜ now (out .exit) ≡ putAt at (questionText (now (letters .entry)) (storeOf (now (words .entry)) (now (counts .entry)) used) (row .0)) (now (out .entry)) ⌝ }
 {
-    if bank_sizes::size_of(words, counts, used, row) <= 1024 {
+    if bank_sizes::size_of(words, counts, used, row) as usize <= MOST_LISTED {
         return print::print_record(words, counts, used, letters, row, out, at);
     }
     let word = [b'r', b'o', b'w'];

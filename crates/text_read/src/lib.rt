@@ -3,6 +3,7 @@
 ghost use mathlib.Core.Path.{_≡_};
 ghost use Prim.Native.Nat.{_+_, _-_, _≤_};
 ghost use lib.ListN.{length, take};
+ghost use Rattle.model.specs.Limits.{mostSymbols};
 ghost use Rattle.text.specs.Reading.{knownOf, balancedFrom, recordAt, listAt, closed, readText};
 ghost use Rattle.text_read.specs.Reads.{Reads, leftAt, readCode, ReadAs, TextAs};
 
@@ -20,7 +21,7 @@ const NONE: u8 = 255;
 
 // The symbols by letter and count of children, five places a byte.
 fn index(letters: &[u8], counts: &[u8]) -> [u8; 1280]
-    requires { ⌜ (length (now letters) ≡ length (now counts)) × (length (now letters) ≤ 64) ⌝ }
+    requires { ⌜ (length (now letters) ≡ length (now counts)) × (length (now letters) ≤ mostSymbols) ⌝ }
     ensures { λ r. ⌜ r ≡ knownOf (now (letters .entry)) (now (counts .entry)) ⌝ }
 {
     let mut known = [NONE; 1280];
@@ -138,7 +139,7 @@ fn read_list(
 
 // Reads a whole text as one record: its symbols, children before parent, over the start of the text; how many there are, 0 for no record.
 pub fn read_text(text: &mut [u8; 65536], len: u32, letters: &[u8], counts: &[u8]) -> usize
-    requires { ⌜ (length (now text) ≡ 65536) × (len ≤ 65536) × (length (now letters) ≡ length (now counts)) × (length (now letters) ≤ 64) ⌝ }
+    requires { ⌜ (length (now text) ≡ 65536) × (len ≤ 65536) × (length (now letters) ≡ length (now counts)) × (length (now letters) ≤ mostSymbols) ⌝ }
     ensures { λ r. ⌜ TextAs (readText (now (letters .entry)) (now (counts .entry)) (take len (now (text .entry)))) r (now (text .exit)) ⌝ }
 {
     if !is_balanced(text, len) {

@@ -2,6 +2,7 @@
 ghost use mathlib.Core.Path.{_≡_};
 ghost use Prim.Native.Nat.{_≤_, min};
 ghost use lib.ListN.{length, drop};
+ghost use Rattle.model.specs.Limits.{mostSymbols};
 ghost use Rattle.text.specs.Bytes.{replyRoom};
 ghost use Rattle.text.specs.Reading.{readText};
 ghost use Rattle.text.specs.Alphabet.{alphabetOf};
@@ -11,6 +12,10 @@ ghost use Rattle.text_print.specs.Tells.{Tellable};
 ghost use Rattle.text_reply.specs.Replies.{ReplyAs};
 use model::Lists;
 use model::Seen;
+use model::limits::MOST_CONTEXTS;
+use model::limits::MOST_RULES;
+use model::limits::MOST_STATES;
+use model::limits::MOST_SYMBOLS;
 use text::Script;
 use text_lines::lines;
 use text_lines::lines::Asked;
@@ -29,17 +34,17 @@ pub fn fresh() -> Script
 {
     Script {
         stage: 0,
-        letters: [0; 64],
+        letters: [0; MOST_SYMBOLS],
         lists: Lists {
             letters: 0,
-            counts: [0; 64],
+            counts: [0; MOST_SYMBOLS],
             used: 0,
             states: 0,
-            s: [0; 32],
+            s: [0; MOST_STATES],
             rules: 0,
-            t: [0; 256],
+            t: [0; MOST_RULES],
             contexts: 0,
-            c: [0; 289],
+            c: [0; MOST_CONTEXTS],
             hand: 0,
             asked: 0,
             accepted: 0,
@@ -67,12 +72,12 @@ fn with_lists(z: Script, lists: Lists) -> Script
 
 // How many letters are in their array.
 fn letters_in(letters: u8) -> usize
-    ensures { λ r. ⌜ (r ≤ 64) × (r ≡ min letters 64) ⌝ }
+    ensures { λ r. ⌜ (r ≤ mostSymbols) × (r ≡ min letters mostSymbols) ⌝ }
 {
-    if letters < 64 {
+    if (letters as usize) < MOST_SYMBOLS {
         return letters as usize;
     }
-    64
+    MOST_SYMBOLS
 }
 
 // A line that is unread: it is no call.
@@ -109,7 +114,7 @@ fn first(words: &mut [u32], script: Script, line: &[u8], out: &mut [u8]) -> Repl
     ensures { λ r. ⌜ ReplyAs (openedOf (now (words .entry)) script (alphabetOf (now (line .entry)))) r (now (words .exit)) (now (out .entry)) (now (out .exit)) ⌝ }
 {
     let mut letters = script.letters;
-    let mut counts = [0u8; 64];
+    let mut counts = [0u8; MOST_SYMBOLS];
     let opened = open::alphabet_of(line, &mut letters, &mut counts);
     let ok = opened.ok;
     if !ok {

@@ -25,8 +25,8 @@ unfolding nodesIn
 front-in zero i ws h = absurd (omega arith)
 front-in (suc n) zero ws h = refl
 front-in (suc n) (suc i) ws h =
-    let e : 6 + 6 * i ≡ 6 * suc i = omega arith in
-    front-in n i (drop 6 ws) (omega arith) ∙ ap front (drop-drop (6 * i) 6 ws ∙ ap (λ (k : ℕ). drop k ws) e)
+    let e : rowWidth + rowWidth * i ≡ rowWidth * suc i = omega arith in
+    front-in n i (drop rowWidth ws) (omega arith) ∙ ap front (drop-drop (rowWidth * i) rowWidth ws ∙ ap (λ (k : ℕ). drop k ws) e)
 
 take-four : (l : List ℕ) → 4 ≤ length l → take 4 l ≡ getD l 0 0 ∷ getD l 1 0 ∷ getD l 2 0 ∷ getD l 3 0 ∷ []
 take-four [] h = absurd (omega arith)
@@ -37,8 +37,8 @@ take-four (a ∷ b ∷ c ∷ d ∷ l) h = refl
 
 word : (ws : List ℕ) (i k : ℕ) → getD (drop 2 (drop (rowWidth * i) ws)) k 0 ≡ kidIn ws i k
 word ws i k =
-    let e : 6 * i + (2 + k) ≡ 6 * i + 2 + k = omega arith in
-    getD-drop 2 (drop (6 * i) ws) k 0 ∙ getD-drop (6 * i) ws (2 + k) 0 ∙ ap (λ (j : ℕ). getD ws j 0) e
+    let e : rowWidth * i + (2 + k) ≡ rowWidth * i + 2 + k = omega arith in
+    getD-drop 2 (drop (rowWidth * i) ws) k 0 ∙ getD-drop (rowWidth * i) ws (2 + k) 0 ∙ ap (λ (j : ℕ). getD ws j 0) e
 
 pub used-of : (ws ns : List ℕ) (n : ℕ) → used (storeOf ws ns n) ≡ n
 used-of ws ns n = length-nodesIn n ws
@@ -46,12 +46,12 @@ used-of ws ns n = length-nodesIn n ws
 module _ (ws ns : List ℕ) (n i : ℕ) (h : i < n) where
   pub symbol-in : symbolAt (storeOf ws ns n) i ≡ symbolIn ws i
   symbol-in =
-      let e : 6 * i + 0 ≡ 6 * i = omega arith in
-      ap (λ (r : Node). r .symbol) (front-in n i ws h) ∙ getD-drop (6 * i) ws 0 0 ∙ ap (λ (j : ℕ). getD ws j 0) e
+      let e : rowWidth * i + 0 ≡ rowWidth * i = omega arith in
+      ap (λ (r : Node). r .symbol) (front-in n i ws h) ∙ getD-drop (rowWidth * i) ws 0 0 ∙ ap (λ (j : ℕ). getD ws j 0) e
 
   pub places-in : rowWidth * n ≤ length ws → nodeAt (storeOf ws ns n) i .kids ≡ placesIn ws i
   places-in l =
-      ap (λ (r : Node). r .kids) (front-in n i ws h) ∙ take-four (drop 2 (drop (6 * i) ws)) (simp length-drop (omega arith)) ∙
+      ap (λ (r : Node). r .kids) (front-in n i ws h) ∙ take-four (drop 2 (drop (rowWidth * i) ws)) (simp length-drop (omega arith)) ∙
       (λ t. word ws i 0 t ∷ word ws i 1 t ∷ word ws i 2 t ∷ word ws i 3 t ∷ [])
 
   pub node-in : rowWidth * n ≤ length ws → nodeAt (storeOf ws ns n) i ≡ nodeIn ws i
@@ -65,15 +65,15 @@ unfolding answersIn
 answer-in zero i ws h = absurd (omega arith)
 answer-in (suc n) zero ws h = refl
 answer-in (suc n) (suc i) ws h =
-    let e : 6 + (6 * i + 1) ≡ 6 * suc i + 1 = omega arith in
-    answer-in n i (drop 6 ws) (omega arith) ∙ getD-drop 6 ws (6 * i + 1) 0 ∙ ap (λ (k : ℕ). getD ws k 0) e
+    let e : rowWidth + (rowWidth * i + 1) ≡ rowWidth * suc i + 1 = omega arith in
+    answer-in n i (drop rowWidth ws) (omega arith) ∙ getD-drop rowWidth ws (rowWidth * i + 1) 0 ∙ ap (λ (k : ℕ). getD ws k 0) e
 
 -- a row's six words stored one after the other
 pub row-stored : {us vs xs ys zs rs : List ℕ} (ws : List ℕ) (i a : ℕ) (ps : List ℕ) → us ≡ set ws (rowWidth * i + 0) a → vs ≡ set us (rowWidth * i + 1) 0 →
     xs ≡ set vs (rowWidth * i + 2) (getD ps 0 0) → ys ≡ set xs (rowWidth * i + 3) (getD ps 1 0) → zs ≡ set ys (rowWidth * i + 4) (getD ps 2 0) →
     rs ≡ set zs (rowWidth * i + 5) (getD ps 3 0) → rs ≡ withRow ws i a ps
 row-stored ws i a ps h₀ h₁ h₂ h₃ h₄ h₅ =
-    let m : ℕ = 6 * i in
+    let m : ℕ = rowWidth * i in
     let e₀ : m + 0 ≡ m = omega arith in
     let e₁ : m + 1 ≡ suc m = omega arith in
     let e₂ : m + 2 ≡ suc (suc m) = omega arith in
@@ -88,17 +88,17 @@ SameRows ws n vs = take (rowWidth * n) vs ≡ take (rowWidth * n) ws
 
 module _ (ws vs : List ℕ) (n : ℕ) (same : SameRows ws n vs) where
   pub word-kept : (j : ℕ) → j < rowWidth * n → getD vs j 0 ≡ getD ws j 0
-  word-kept j h = sym (getD-take (6 * n) vs j 0 h) ∙ ap (λ (l : List ℕ). getD l j 0) same ∙ getD-take (6 * n) ws j 0 h
+  word-kept j h = sym (getD-take (rowWidth * n) vs j 0 h) ∙ ap (λ (l : List ℕ). getD l j 0) same ∙ getD-take (rowWidth * n) ws j 0 h
 
   module _ (i : ℕ) (h : i < n) where
     pub symbol-kept : symbolIn vs i ≡ symbolIn ws i
-    symbol-kept = word-kept (6 * i) (omega arith)
+    symbol-kept = word-kept (rowWidth * i) (omega arith)
 
     pub answer-kept : answerIn vs i ≡ answerIn ws i
-    answer-kept = word-kept (6 * i + 1) (omega arith)
+    answer-kept = word-kept (rowWidth * i + 1) (omega arith)
 
     pub kid-kept : (k : ℕ) → k < 4 → kidIn vs i k ≡ kidIn ws i k
-    kid-kept k l = word-kept (6 * i + 2 + k) (omega arith)
+    kid-kept k l = word-kept (rowWidth * i + 2 + k) (omega arith)
 
     pub places-kept : placesIn vs i ≡ placesIn ws i
     places-kept = λ t. kid-kept 0 (omega arith) t ∷ kid-kept 1 (omega arith) t ∷ kid-kept 2 (omega arith) t ∷ kid-kept 3 (omega arith) t ∷ []
@@ -175,10 +175,10 @@ module _ (ws ns : List ℕ) (n : ℕ) (y : Store) (ext : Extends (storeOf ws ns 
   four-rest = four-drop n (y .nodes) four
 
   long-front : length (take (rowWidth * n) ws) ≡ rowWidth * n
-  long-front = length-take-le (6 * n) ws (omega (arith, more))
+  long-front = length-take-le (rowWidth * n) ws (omega (arith, more))
 
   long-rest : length (rowWords (drop n (y .nodes)) []) ≡ rowWidth * (used y - n)
-  long-rest = length-rowWords (drop n (y .nodes)) [] four-rest ∙ ap (λ (k : ℕ). 6 * k) (length-drop n (y .nodes))
+  long-rest = length-rowWords (drop n (y .nodes)) [] four-rest ∙ ap (λ (k : ℕ). rowWidth * k) (length-drop n (y .nodes))
 
   long-rows : length (take (rowWidth * n) ws ++ rowWords (drop n (y .nodes)) []) ≡ rowWidth * used y
   long-rows = rw length-append (omega (arith, long-front, long-rest, more))
@@ -203,34 +203,34 @@ module _ (ws ns : List ℕ) (n : ℕ) (y : Store) (ext : Extends (storeOf ws ns 
 
   pub store-withRows : storeOf (withRows ws n y) ns (used y) ≡ y
   store-withRows =
-      let a = ap (λ (l : List ℕ). nodesIn (used y) (l ++ drop (6 * used y) ws)) rows-answered ∙
-      nodesIn-rowWords (y .nodes) (answersMore ws n (used y)) (drop (6 * used y) ws) four in
+      let a = ap (λ (l : List ℕ). nodesIn (used y) (l ++ drop (rowWidth * used y) ws)) rows-answered ∙
+      nodesIn-rowWords (y .nodes) (answersMore ws n (used y)) (drop (rowWidth * used y) ws) four in
       λ t. record { counts = sym (ext .counts) t; room = (ap (λ (k : ℕ). k / rowWidth) length-withRows ∙ sym (ext .room)) t; nodes = a t }
 
   pub answers-withRows : answersIn (used y) (withRows ws n y) ≡ answersMore ws n (used y)
   answers-withRows =
-      ap (λ (l : List ℕ). answersIn (used y) (l ++ drop (6 * used y) ws)) rows-answered ∙
-      answersIn-rowWords (y .nodes) (answersMore ws n (used y)) (drop (6 * used y) ws) four long-answers
+      ap (λ (l : List ℕ). answersIn (used y) (l ++ drop (rowWidth * used y) ws)) rows-answered ∙
+      answersIn-rowWords (y .nodes) (answersMore ws n (used y)) (drop (rowWidth * used y) ws) four long-answers
 
   pub front-withRows : SameRows ws n (withRows ws n y)
   front-withRows =
-      ap (take (6 * n)) (append-assoc (take (6 * n) ws) (rowWords (drop n (y .nodes)) []) (drop (6 * used y) ws)) ∙
-      take-at (take (6 * n) ws) (rowWords (drop n (y .nodes)) [] ++ drop (6 * used y) ws) (6 * n) long-front
+      ap (take (rowWidth * n)) (append-assoc (take (rowWidth * n) ws) (rowWords (drop n (y .nodes)) []) (drop (rowWidth * used y) ws)) ∙
+      take-at (take (rowWidth * n) ws) (rowWords (drop n (y .nodes)) [] ++ drop (rowWidth * used y) ws) (rowWidth * n) long-front
 
   pub rows-withRows : take (rowWidth * used y) (withRows ws n y) ≡ take (rowWidth * n) ws ++ rowWords (drop n (y .nodes)) []
-  rows-withRows = take-at (take (6 * n) ws ++ rowWords (drop n (y .nodes)) []) (drop (6 * used y) ws) (6 * used y) long-rows
+  rows-withRows = take-at (take (rowWidth * n) ws ++ rowWords (drop n (y .nodes)) []) (drop (rowWidth * used y) ws) (rowWidth * used y) long-rows
 
   pub behind-withRows : drop (rowWidth * used y) (withRows ws n y) ≡ drop (rowWidth * used y) ws
-  behind-withRows = drop-at (take (6 * n) ws ++ rowWords (drop n (y .nodes)) []) (drop (6 * used y) ws) (6 * used y) long-rows
+  behind-withRows = drop-at (take (rowWidth * n) ws ++ rowWords (drop n (y .nodes)) []) (drop (rowWidth * used y) ws) (rowWidth * used y) long-rows
 
   -- more rows behind these: as if written at once
   module _ (z : Store) (later : Extends y z) where
     behind : drop (rowWidth * used z) (withRows ws n y) ≡ drop (rowWidth * used z) ws
     behind =
         let m = later .more in
-        let e : 6 * used y + 6 * (used z - used y) ≡ 6 * used z = omega arith in
-        ap (λ (k : ℕ). drop k (withRows ws n y)) (sym e) ∙ sym (drop-drop (6 * (used z - used y)) (6 * used y) (withRows ws n y)) ∙
-        ap (drop (6 * (used z - used y))) behind-withRows ∙ drop-drop (6 * (used z - used y)) (6 * used y) ws ∙ ap (λ (k : ℕ). drop k ws) e
+        let e : rowWidth * used y + rowWidth * (used z - used y) ≡ rowWidth * used z = omega arith in
+        ap (λ (k : ℕ). drop k (withRows ws n y)) (sym e) ∙ sym (drop-drop (rowWidth * (used z - used y)) (rowWidth * used y) (withRows ws n y)) ∙
+        ap (drop (rowWidth * (used z - used y))) behind-withRows ∙ drop-drop (rowWidth * (used z - used y)) (rowWidth * used y) ws ∙ ap (λ (k : ℕ). drop k ws) e
 
     both-parts : drop n (y .nodes) ++ drop (used y) (z .nodes) ≡ drop n (z .nodes)
     both-parts = sym (drop-append-le n (y .nodes) (drop (used y) (z .nodes)) more) ∙ ap (drop n) (nodes-split y z later)
@@ -247,8 +247,8 @@ module _ (ws ns : List ℕ) (n : ℕ) (y : Store) (ext : Extends (storeOf ws ns 
 
     pub withRows-twice : withRows (withRows ws n y) (used y) z ≡ withRows ws n z
     withRows-twice =
-        let a = append-assoc (take (6 * n) ws) (rowWords (drop n (y .nodes)) []) (rowWords (drop (used y) (z .nodes)) []) in
-        (λ t. (rows-withRows t ++ rowWords (drop (used y) (z .nodes)) []) ++ behind t) ∙ ap (λ (l : List ℕ). l ++ drop (6 * used z) ws) (a ∙ ap (λ (l : List ℕ). take (6 * n) ws ++ l) both-rows)
+        let a = append-assoc (take (rowWidth * n) ws) (rowWords (drop n (y .nodes)) []) (rowWords (drop (used y) (z .nodes)) []) in
+        (λ t. (rows-withRows t ++ rowWords (drop (used y) (z .nodes)) []) ++ behind t) ∙ ap (λ (l : List ℕ). l ++ drop (rowWidth * used z) ws) (a ∙ ap (λ (l : List ℕ). take (rowWidth * n) ws ++ l) both-rows)
 
 -- ONE ROW written
 four-is : (l : List ℕ) → length l ≡ 4 → getD l 0 0 ∷ getD l 1 0 ∷ getD l 2 0 ∷ getD l 3 0 ∷ [] ≡ l
@@ -260,45 +260,45 @@ four-is (a ∷ b ∷ c ∷ d ∷ []) h = refl
 four-is (a ∷ b ∷ c ∷ d ∷ e ∷ l) h = absurd (omega arith)
 
 pub length-withRow : (ws : List ℕ) (n a : ℕ) (ps : List ℕ) → length (withRow ws n a ps) ≡ length ws
-length-withRow ws n a ps = length-sets ws (6 * n) (a ∷ 0 ∷ getD ps 0 0 ∷ getD ps 1 0 ∷ getD ps 2 0 ∷ getD ps 3 0 ∷ [])
+length-withRow ws n a ps = length-sets ws (rowWidth * n) (a ∷ 0 ∷ getD ps 0 0 ∷ getD ps 1 0 ∷ getD ps 2 0 ∷ getD ps 3 0 ∷ [])
 
 module _ (ws : List ℕ) (n a : ℕ) (ps : List ℕ) (within : Within ws n) where
   withRow-parts : withRow ws n a ps ≡ take (rowWidth * n) ws ++ (a ∷ 0 ∷ getD ps 0 0 ∷ getD ps 1 0 ∷ getD ps 2 0 ∷ getD ps 3 0 ∷ []) ++ drop (rowWidth * n + rowWidth) ws
-  withRow-parts = sets-eq (a ∷ 0 ∷ getD ps 0 0 ∷ getD ps 1 0 ∷ getD ps 2 0 ∷ getD ps 3 0 ∷ []) ws (6 * n) within
+  withRow-parts = sets-eq (a ∷ 0 ∷ getD ps 0 0 ∷ getD ps 1 0 ∷ getD ps 2 0 ∷ getD ps 3 0 ∷ []) ws (rowWidth * n) within
 
   long-before : length (take (rowWidth * n) ws) ≡ rowWidth * n
-  long-before = length-take-le (6 * n) ws (omega arith)
+  long-before = length-take-le (rowWidth * n) ws (omega arith)
 
   pub front-withRow : SameRows ws n (withRow ws n a ps)
   front-withRow =
-      ap (take (6 * n)) (withRow-parts ∙ append-assoc (take (6 * n) ws) (a ∷ 0 ∷ getD ps 0 0 ∷ getD ps 1 0 ∷ getD ps 2 0 ∷ getD ps 3 0 ∷ []) (drop (6 * n + 6) ws)) ∙
-      take-at (take (6 * n) ws) ((a ∷ 0 ∷ getD ps 0 0 ∷ getD ps 1 0 ∷ getD ps 2 0 ∷ getD ps 3 0 ∷ []) ++ drop (6 * n + 6) ws) (6 * n) long-before
+      ap (take (rowWidth * n)) (withRow-parts ∙ append-assoc (take (rowWidth * n) ws) (a ∷ 0 ∷ getD ps 0 0 ∷ getD ps 1 0 ∷ getD ps 2 0 ∷ getD ps 3 0 ∷ []) (drop (rowWidth * n + rowWidth) ws)) ∙
+      take-at (take (rowWidth * n) ws) ((a ∷ 0 ∷ getD ps 0 0 ∷ getD ps 1 0 ∷ getD ps 2 0 ∷ getD ps 3 0 ∷ []) ++ drop (rowWidth * n + rowWidth) ws) (rowWidth * n) long-before
 
   written : (k : ℕ) → getD (withRow ws n a ps) (rowWidth * n + k) 0 ≡ getD ((a ∷ 0 ∷ getD ps 0 0 ∷ getD ps 1 0 ∷ getD ps 2 0 ∷ getD ps 3 0 ∷ []) ++ drop (rowWidth * n + rowWidth) ws) k 0
   written k =
-      ap (λ (l : List ℕ). getD l (6 * n + k) 0) (withRow-parts ∙ append-assoc (take (6 * n) ws) (a ∷ 0 ∷ getD ps 0 0 ∷ getD ps 1 0 ∷ getD ps 2 0 ∷ getD ps 3 0 ∷ []) (drop (6 * n + 6) ws)) ∙
-      ap (λ (m : ℕ). getD (take (6 * n) ws ++ ((a ∷ 0 ∷ getD ps 0 0 ∷ getD ps 1 0 ∷ getD ps 2 0 ∷ getD ps 3 0 ∷ []) ++ drop (6 * n + 6) ws)) (m + k) 0) (sym long-before) ∙
-      getD-append-add (take (6 * n) ws) ((a ∷ 0 ∷ getD ps 0 0 ∷ getD ps 1 0 ∷ getD ps 2 0 ∷ getD ps 3 0 ∷ []) ++ drop (6 * n + 6) ws) k 0
+      ap (λ (l : List ℕ). getD l (rowWidth * n + k) 0) (withRow-parts ∙ append-assoc (take (rowWidth * n) ws) (a ∷ 0 ∷ getD ps 0 0 ∷ getD ps 1 0 ∷ getD ps 2 0 ∷ getD ps 3 0 ∷ []) (drop (rowWidth * n + rowWidth) ws)) ∙
+      ap (λ (m : ℕ). getD (take (rowWidth * n) ws ++ ((a ∷ 0 ∷ getD ps 0 0 ∷ getD ps 1 0 ∷ getD ps 2 0 ∷ getD ps 3 0 ∷ []) ++ drop (rowWidth * n + rowWidth) ws)) (m + k) 0) (sym long-before) ∙
+      getD-append-add (take (rowWidth * n) ws) ((a ∷ 0 ∷ getD ps 0 0 ∷ getD ps 1 0 ∷ getD ps 2 0 ∷ getD ps 3 0 ∷ []) ++ drop (rowWidth * n + rowWidth) ws) k 0
 
   at-word : (k m : ℕ) → rowWidth * n + k ≡ m → getD (withRow ws n a ps) m 0 ≡ getD ((a ∷ 0 ∷ getD ps 0 0 ∷ getD ps 1 0 ∷ getD ps 2 0 ∷ getD ps 3 0 ∷ []) ++ drop (rowWidth * n + rowWidth) ws) k 0
   at-word k m e = ap (λ (j : ℕ). getD (withRow ws n a ps) j 0) (sym e) ∙ written k
 
   pub symbol-written : symbolIn (withRow ws n a ps) n ≡ a
-  symbol-written = at-word 0 (6 * n) (omega arith)
+  symbol-written = at-word 0 (rowWidth * n) (omega arith)
 
   pub answer-written : answerIn (withRow ws n a ps) n ≡ 0
-  answer-written = at-word 1 (6 * n + 1) (omega arith)
+  answer-written = at-word 1 (rowWidth * n + 1) (omega arith)
 
   pub places-written : length ps ≡ 4 → placesIn (withRow ws n a ps) n ≡ ps
   places-written l =
-      (λ t. at-word 2 (6 * n + 2 + 0) (omega arith) t ∷ at-word 3 (6 * n + 2 + 1) (omega arith) t ∷ at-word 4 (6 * n + 2 + 2) (omega arith) t ∷
-      at-word 5 (6 * n + 2 + 3) (omega arith) t ∷ []) ∙ four-is ps l
+      (λ t. at-word 2 (rowWidth * n + 2 + 0) (omega arith) t ∷ at-word 3 (rowWidth * n + 2 + 1) (omega arith) t ∷ at-word 4 (rowWidth * n + 2 + 2) (omega arith) t ∷
+      at-word 5 (rowWidth * n + 2 + 3) (omega arith) t ∷ []) ∙ four-is ps l
 
   pub one-row : (ns ks : List ℕ) → ps ≡ padded ks → length ps ≡ 4 → withRow ws n a ps ≡ withRows ws n (added (storeOf ws ns n) a ks)
   unfolding rowWords
   one-row ns ks e l =
       let d : drop n (nodesIn n ws ++ (node a ks ∷ [])) ≡ node a ks ∷ [] = drop-at (nodesIn n ws) (node a ks ∷ []) n (length-nodesIn n ws) in
       let r : rowWords (drop n (nodesIn n ws ++ (node a ks ∷ []))) [] ≡ a ∷ 0 ∷ ps = ap (λ (ms : List Node). rowWords ms []) d ∙ ap (λ (l : List ℕ). a ∷ 0 ∷ l) (append-nil (padded ks) ∙ sym e) in
-      let u : 6 * n + 6 ≡ 6 * used (added (storeOf ws ns n) a ks) = rw length-append (omega (arith, length-nodesIn n ws)) in
+      let u : rowWidth * n + rowWidth ≡ rowWidth * used (added (storeOf ws ns n) a ks) = rw length-append (omega (arith, length-nodesIn n ws)) in
       let f : a ∷ 0 ∷ getD ps 0 0 ∷ getD ps 1 0 ∷ getD ps 2 0 ∷ getD ps 3 0 ∷ [] ≡ a ∷ 0 ∷ ps = ap (λ (l : List ℕ). a ∷ 0 ∷ l) (four-is ps l) in
-      withRow-parts ∙ (λ t. take (6 * n) ws ++ (f ∙ sym r) t ++ drop (u t) ws)
+      withRow-parts ∙ (λ t. take (rowWidth * n) ws ++ (f ∙ sym r) t ++ drop (u t) ws)

@@ -10,7 +10,7 @@ use lib.Dec.{ltb, eqb}
 use borrow.Author.Tests.{lt-ltb, le-ltb, eq-eqb, ne-eqb}
 use lib.ListN.{length, getD, drop, set, length-set}
 use lib.Seq.{getD-set-same, getD-set-other}
-use Rattle.model.specs.Limits.{mostRows}
+use Rattle.model.specs.Limits.{mostRows, rowWidth}
 use Rattle.model.specs.Base.{Below, anyTrue}
 use Rattle.model.specs.Store.{Node, Store, full, built, Extends, used, kidsAt, hasHole, added, findFrom, findRow, rowFor}
 use Rattle.model.specs.Facts.{Good}
@@ -72,7 +72,7 @@ module _ {ws ns : List ℕ} {n : ℕ} {hs he ne m : List ℕ} (r : Ready ws ns n
       comes-by (rw t (ap (λ (k : ℕ). built k (storeOf ws ns n)) (sym f))) (comes-same r j)
 
   -- NO ROOM
-  comes-full : findIn ws n a ps ≡ 0 → length ws < 6 * n + 6 → Comes ws ns n (rowFor (storeOf ws ns n) a (kidsOf ns a ps)) Grown.Full ws hs he ne m
+  comes-full : findIn ws n a ps ≡ 0 → length ws < rowWidth * n + rowWidth → Comes ws ns n (rowFor (storeOf ws ns n) a (kidsOf ns a ps)) Grown.Full ws hs he ne m
   comes-full p l =
       let t : eqb (findRow (storeOf ws ns n) a (kidsOf ns a ps)) 0 ≡ true = eq-eqb (findRow (storeOf ws ns n) a (kidsOf ns a ps)) 0 (sym found-same ∙ p) in
       let s : ltb (used (storeOf ws ns n)) (rowsLent ws) ≡ false = le-ltb (used (storeOf ws ns n)) (rowsLent ws) (omega (arith, used-of ws ns n)) in

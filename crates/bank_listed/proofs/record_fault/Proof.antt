@@ -9,6 +9,7 @@ use lib.ListN.{length, getD, drop, drop-of-length-le}
 use lib.Seq.{drop-cons}
 use borrow.Author.Needs.{needs}
 use borrow.Author.Tests.{lt-ltb, le-ltb, le-leb, lt-leb, eq-eqb, ne-eqb}
+use Rattle.model.specs.Limits.{mostListed}
 use Rattle.model.specs.Terms.{symbolsFault, recordFault}
 use Rattle.bank_listed.proofs.record_fault.Statement.{statement}
 use Rattle.bank_listed.proofs.record_fault.Tie as tie
@@ -19,11 +20,11 @@ use Rattle.bank_listed.proofs.record_fault.Lts as lts
 no-symbol : (ns xs : List ℕ) → length xs ≡ 0 → 11 ≡ recordFault ns xs
 no-symbol ns xs h = simp (le-ltb 0 (length xs) (omega arith))
 
-too-long : (ns xs : List ℕ) → 1024 < length xs → 12 ≡ recordFault ns xs
-too-long ns xs h = simp (lt-ltb 0 (length xs) (omega arith), lt-leb (length xs) 1024 h)
+too-long : (ns xs : List ℕ) → mostListed < length xs → 12 ≡ recordFault ns xs
+too-long ns xs h = simp (lt-ltb 0 (length xs) (omega arith), lt-leb (length xs) mostListed h)
 
-within : (ns xs : List ℕ) → 0 < length xs → length xs ≤ 1024 → symbolsFault ns 0 xs ≡ recordFault ns xs
-within ns xs h l = simp (lt-ltb 0 (length xs) h, le-leb (length xs) 1024 l)
+within : (ns xs : List ℕ) → 0 < length xs → length xs ≤ mostListed → symbolsFault ns 0 xs ≡ recordFault ns xs
+within ns xs h l = simp (lt-ltb 0 (length xs) h, le-leb (length xs) mostListed l)
 
 -- what is left
 module _ (ns xs : List ℕ) (k at : ℕ) where

@@ -7,7 +7,7 @@ use borrow.Author.Needs.{needs}
 use lib.ListN.{getD}
 use Rattle.model.specs.Entry.{storeOf}
 use Rattle.bank.specs.Rows.{symbolIn}
-use Rattle.bank_sizes.specs.Sizes.{sizeOf, cut}
+use Rattle.bank_sizes.specs.Sizes.{sizeOf, cut, mostCounted}
 use Rattle.bank_sizes.proofs.Laws.Cut.{cut-low, cut-high}
 use Rattle.bank_sizes.proofs.Laws.Summed.{Summed, known, few-kids, starts, kid-early, entry-most, adds, ends}
 use Rattle.bank_sizes.proofs.row_size.Statement.{statement}
@@ -53,7 +53,7 @@ early c =
     let p = start (begun (c .before)) .pre in
     kid-early (p .0) (p .1) (p .2) (c .before .before .loop .k) (turn (c .before)) (c .kid-of .result) (c .kid-of .ensures)
 
-small : (c : Read) → getD (start (begun (c .before)) .args .sizes .now) (c .kid-of .result) 0 ≤ 1025
+small : (c : Read) → getD (start (begun (c .before)) .args .sizes .now) (c .kid-of .result) 0 ≤ mostCounted
 small c =
     let p = start (begun (c .before)) .pre in
     entry-most (p .0) (p .1) (p .2) (c .before .before .loop .k) (turn (c .before)) (c .kid-of .result) (c .kid-of .ensures)

@@ -5,6 +5,7 @@ use Prim.Native.Nat.{_+_, _-_, _≤_}
 use native.Mathlib.Omega.{arith}
 use borrow.Author.Needs.{needs}
 use lib.ListN.{replicate}
+use Rattle.model.specs.Limits.{mostRows}
 use Rattle.bank_sizes.specs.Sizes.{Sizing}
 use Rattle.bank_sizes.proofs.Laws.Passed.{sizing-start, sizing-more}
 use Rattle.bank_sizes.proofs.size_of.Statement.{statement}
@@ -20,7 +21,7 @@ array-write-sizes : tie.Need-array-write-sizes Inv-loop μ-loop
 array-write-sizes c = search needs
 
 loop-holds : tie.Need-loop-holds Inv-loop μ-loop
-loop-holds c = (sizing-start (c .before .before .pre .0) (replicate 16384 0) refl, omega arith, omega arith)
+loop-holds c = (sizing-start (c .before .before .pre .0) (replicate mostRows 0) refl, omega arith, omega arith)
 
 row-size-requires : tie.Need-row-size-requires Inv-loop μ-loop
 row-size-requires c κs =

@@ -6,6 +6,7 @@ use Prim.Native.Nat.{_*_, _≤_}
 use native.Mathlib.Omega.{arith}
 use borrow.Author.Tests.{not-true, not-false}
 use lib.ListN.{length}
+use Rattle.model.specs.Limits.{mostRows, rowWidth}
 use Rattle.model.specs.Sound.{alphabetFits, isHole}
 use Rattle.model.proofs.Laws.Lent.{sizeFits-facts}
 use Rattle.bank.specs.Rows.{nodeIn, answerIn}
@@ -28,10 +29,10 @@ start c = c .before .before .before .before .before .before .before .before .bef
 some : (c : tie.Else2) → 1 ≤ c .before .before .before .before .before .before .before .before .args .used
 some c = omega arith
 
-room : (c : Sized) → 6 * start c .args .used ≤ length (start c .args .words .now)
+room : (c : Sized) → rowWidth * start c .args .used ≤ length (start c .args .words .now)
 room c = omega arith
 
-few : (c : Sized) → start c .args .used ≤ 16384
+few : (c : Sized) → start c .args .used ≤ mostRows
 few c = let l = sizeFits-facts (start c .args .words .now) (start c .pre .0) in omega (arith, l .most, room c)
 
 hole : (c : tie.Else4) → isHole (nodeIn (start (c .before .before) .args .words .now) 0) (answerIn (start (c .before .before) .args .words .now) 0) ≡ true

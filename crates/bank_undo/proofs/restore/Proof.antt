@@ -3,13 +3,14 @@ use Prim.Native.Nat.{_*_, _-_, _≤_}
 use native.Mathlib.Omega.{arith}
 use borrow.Author.Needs.{needs}
 use lib.ListN.{length}
+use Rattle.model.specs.Limits.{rowWidth}
 use Rattle.bank_undo.specs.Saved.{BackTo}
 use Rattle.bank_undo.proofs.Laws.Words.{back-none, back-more, back-all}
 use Rattle.bank_undo.proofs.restore.Statement.{statement}
 use Rattle.bank_undo.proofs.restore.Tie as tie
 
 abbrev Inv-loop : tie.InvT-loop
-Inv-loop words₀ used saved start at₀ words at = (6 * used ≤ at) × (at ≤ length words₀) × BackTo words₀ used at saved words
+Inv-loop words₀ used saved start at₀ words at = (rowWidth * used ≤ at) × (at ≤ length words₀) × BackTo words₀ used at saved words
 
 abbrev μ-loop : tie.MeasureT-loop
 μ-loop words₀ used saved start at₀ words at = length words₀ - at

@@ -4,13 +4,14 @@ use Prim.Native.Nat.{_*_, _-_, _≤_}
 use native.Mathlib.Omega.{arith}
 use borrow.Author.Needs.{needs}
 use lib.ListN.{length, getD, length-set}
+use Rattle.model.specs.Limits.{rowWidth}
 use Rattle.bank_undo.specs.Saved.{SavedTo}
 use Rattle.bank_undo.proofs.Laws.Words.{save-none, save-more, save-all}
 use Rattle.bank_undo.proofs.save.Statement.{statement}
 use Rattle.bank_undo.proofs.save.Tie as tie
 
 abbrev Inv-loop : tie.InvT-loop
-Inv-loop words used saved₀ first i₀ saved i = (length saved ≡ length saved₀) × (6 * used ≤ i) × SavedTo words used i saved
+Inv-loop words used saved₀ first i₀ saved i = (length saved ≡ length saved₀) × (rowWidth * used ≤ i) × SavedTo words used i saved
 
 abbrev μ-loop : tie.MeasureT-loop
 μ-loop words used saved₀ first i₀ saved i = length words - i
@@ -46,7 +47,7 @@ loop-again : tie.Need-loop-again Inv-loop μ-loop
 loop-again c =
     let s = c .before .before .before in
     let l = c .before .before .loop in
-    (length-set (l .saved) (l .i - 6 * s .args .used) (getD (s .args .words .now) (l .i) 0) ∙ l .inv .0, omega arith, save-more (s .args .words .now) (s .args .used) (l .i) (l .saved) (l .inv .2) (l .inv .1) (omega arith))
+    (length-set (l .saved) (l .i - rowWidth * s .args .used) (getD (s .args .words .now) (l .i) 0) ∙ l .inv .0, omega arith, save-more (s .args .words .now) (s .args .used) (l .i) (l .saved) (l .inv .2) (l .inv .1) (omega arith))
 
 same-length : tie.Need-same-length Inv-loop μ-loop
 same-length c = c .before .loop .inv .0

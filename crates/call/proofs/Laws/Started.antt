@@ -33,7 +33,7 @@ over-next (x ∷ xs) [] a h l = absurd (omega arith)
 over-next (x ∷ xs) (o ∷ os) zero h l = refl
 over-next (x ∷ xs) (o ∷ os) (suc a) h l = ap (λ (vs : List ℕ). x ∷ vs) (over-next xs os a (omega arith) (omega arith))
 
-pub spread-more : (xs : List ℕ) (a : ℕ) (wide : List ℕ) → Spread xs a wide → a < length xs → length xs ≤ 64 → Spread xs (a + 1) (set wide a (getD xs a 0))
+pub spread-more : (xs : List ℕ) (a : ℕ) (wide : List ℕ) → Spread xs a wide → a < length xs → length xs ≤ mostSymbols → Spread xs (a + 1) (set wide a (getD xs a 0))
 spread-more xs a wide s h l =
     record {
       within = omega arith;
@@ -49,7 +49,7 @@ take-whole (x ∷ xs) (suc a) h = ap (λ (vs : List ℕ). x ∷ vs) (take-whole 
 pub spread-all : (xs : List ℕ) (a : ℕ) (wide : List ℕ) → Spread xs a wide → length xs ≤ a → wide ≡ over xs (zeroLists .counts)
 spread-all xs a wide s h = s .filled ∙ ap (λ (vs : List ℕ). over vs (zeroLists .counts)) (take-whole xs a h)
 
-pub alphabet-short : (ns : List ℕ) → alphabetFits ns ≡ true → length ns ≤ 64
+pub alphabet-short : (ns : List ℕ) → alphabetFits ns ≡ true → length ns ≤ mostSymbols
 alphabet-short ns e = leb-true (length ns) mostSymbols (and-right (leb 1 (length ns)) _ (and-left _ (all (λ (n : ℕ). leb n mostChildren) ns) e))
 
 -- ROW 0 written is the hole's row

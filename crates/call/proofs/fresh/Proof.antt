@@ -1,6 +1,7 @@
 -- `call::fresh` meets its contract: zeros, but for the alphabet, row 0 and the hole in C.
 use borrow.Author.Needs.{needs}
 use lib.ListN.{length, replicate}
+use Rattle.model.specs.Limits.{mostContexts, mostRules, mostStates}
 use Rattle.call.proofs.fresh.Statement.{statement}
 use Rattle.call.proofs.fresh.Tie as tie
 
@@ -13,7 +14,7 @@ spread-requires c κs = search needs
 returns : tie.Need-returns
 returns c =
     let s = c .before .before in
-    λ i. record { letters = length (s .args .counts .now); counts = c .spread .ensures i; used = 1; states = 0; s = replicate 32 0; rules = 0; t = replicate 256 0; contexts = 1; c = replicate 289 0; hand = 0; asked = 0; accepted = 0 }
+    λ i. record { letters = length (s .args .counts .now); counts = c .spread .ensures i; used = 1; states = 0; s = replicate mostStates 0; rules = 0; t = replicate mostRules 0; contexts = 1; c = replicate mostContexts 0; hand = 0; asked = 0; accepted = 0 }
 
 pub fresh-spec : {M : Type 1} → statement M
 fresh-spec = tie.close (tie.spec cast-t3 spread-requires returns)

@@ -9,6 +9,7 @@ use borrow.Author.Tests.{le-leb, lt-leb, eq-eqb, ne-eqb}
 use lib.Dec.{leb, eqb}
 use lib.ListN.{length, take}
 use lib.Seq.{length-take-le}
+use Rattle.model.specs.Limits.{mostRules, mostStates, mostSymbols}
 use Rattle.model.specs.Base.{over}
 use Rattle.model.specs.Automata.{Automaton}
 use Rattle.model.specs.Table.{automatonOf}
@@ -18,14 +19,14 @@ use Rattle.model.specs.Calls.{Outcome, refuses, leaves, emits, emitFault}
 use Rattle.model.specs.Entry.{sizeFits, listsFit, tablesOf, callBy, emittedBy, outBy, emitSeen, emitOut}
 use Rattle.model.specs.declared.Lists.{Lists}
 use Rattle.model.specs.declared.Emitted.{Emitted}
-use Rattle.list.specs.Flat.{Short}
+use Rattle.list.specs.Flat.{Short, ruleWidth}
 use Rattle.call_emit.specs.Proposal.{listedSeen, listedOut}
 
 -- A LIST put into an output, or 20; its parts are short
-pub parts-short : (ns fs us : List ℕ) (q n : ℕ) → length ns ≤ 64 → length fs ≡ 32 → q ≤ 32 → length us ≡ 1536 → n ≤ 256 → Short ns (take q fs) (take (6 * n) us)
+pub parts-short : (ns fs us : List ℕ) (q n : ℕ) → length ns ≤ mostSymbols → length fs ≡ mostStates → q ≤ mostStates → length us ≡ ruleWidth * mostRules → n ≤ mostRules → Short ns (take q fs) (take (ruleWidth * n) us)
 parts-short ns fs us q n k f l u m =
     let a = length-take-le q fs (omega (arith, f, l)) in
-    let b = length-take-le (6 * n) us (omega (arith, u, m)) in
+    let b = length-take-le (ruleWidth * n) us (omega (arith, u, m)) in
     record { symbols = k; states = omega (arith, a, l); rules = omega (arith, b, m) }
 
 module _ (a : Automaton) (o : List ℕ) where

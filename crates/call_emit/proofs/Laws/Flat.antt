@@ -6,17 +6,18 @@ use Prim.Native.Nat.{ℕ, zero, suc, _+_, _*_, _≤_, _<_}
 use native.Mathlib.Omega.{arith}
 use lib.ListN.{length, getD, set, take, drop, length-append, length-drop, List·getD-append}
 use lib.Seq.{sets, sets-eq, length-sets, length-take-le, getD-take, getD-drop, getD-append-add}
+use Rattle.model.specs.Limits.{mostRules}
 use Rattle.model.specs.Store.{Store}
 use Rattle.bank.proofs.Laws.Chains.{by-equal}
 use Rattle.table_verdict.specs.Rules.{ruleBy}
-use Rattle.list.specs.Flat.{flatRule}
+use Rattle.list.specs.Flat.{flatRule, ruleWidth}
 use Rattle.call_emit.specs.Proposal.{Flat, SixAt}
 use Rattle.call_emit.proofs.Laws.Rule.{same-rule}
 
 abbrev six : (bytes : List ℕ) → List ℕ
 six bs = getD bs 0 0 ∷ getD bs 1 0 ∷ getD bs 2 0 ∷ getD bs 3 0 ∷ getD bs 4 0 ∷ getD bs 5 0 ∷ []
 
-six-at : (bs : List ℕ) (j : ℕ) → j < 6 → getD (six bs) j 0 ≡ getD bs j 0
+six-at : (bs : List ℕ) (j : ℕ) → j < ruleWidth → getD (six bs) j 0 ≡ getD bs j 0
 six-at bs zero l = refl
 six-at bs (suc zero) l = refl
 six-at bs (suc (suc zero)) l = refl
@@ -38,8 +39,8 @@ stored-is us m bs =
     let e₅ : m + 5 ≡ suc (suc (suc (suc (suc m)))) = omega arith in
     cc
 
-module _ (us : List ℕ) (m : ℕ) (bs : List ℕ) (room : m + 6 ≤ length us) where
-  stored-parts : stored us m bs ≡ take m us ++ six bs ++ drop (m + 6) us
+module _ (us : List ℕ) (m : ℕ) (bs : List ℕ) (room : m + ruleWidth ≤ length us) where
+  stored-parts : stored us m bs ≡ take m us ++ six bs ++ drop (m + ruleWidth) us
   stored-parts = stored-is us m bs ∙ sets-eq (six bs) us m room
 
   front-long : length (take m us) ≡ m
@@ -50,36 +51,36 @@ module _ (us : List ℕ) (m : ℕ) (bs : List ℕ) (room : m + 6 ≤ length us) 
       record {
         long = ap length (stored-is us m bs) ∙ length-sets us m (six bs);
         here = λ j l.
-            let n : length (take m us ++ six bs) ≡ length (take m us) + 6 = length-append (take m us) (six bs) in
+            let n : length (take m us ++ six bs) ≡ length (take m us) + ruleWidth = length-append (take m us) (six bs) in
             let e : length (take m us) + j ≡ m + j = omega (arith, front-long) in
-            ap (λ (vs : List ℕ). getD vs (m + j) 0) stored-parts ∙ List·getD-append (take m us ++ six bs) (drop (m + 6) us) 0 (m + j) (omega (arith, n, front-long, l)) ∙
+            ap (λ (vs : List ℕ). getD vs (m + j) 0) stored-parts ∙ List·getD-append (take m us ++ six bs) (drop (m + ruleWidth) us) 0 (m + j) (omega (arith, n, front-long, l)) ∙
             ap (λ (k : ℕ). getD (take m us ++ six bs) k 0) (sym e) ∙ getD-append-add (take m us) (six bs) j 0 ∙ six-at bs j l;
         before = λ j l.
-            let n : length (take m us ++ six bs) ≡ length (take m us) + 6 = length-append (take m us) (six bs) in
-            ap (λ (vs : List ℕ). getD vs j 0) stored-parts ∙ List·getD-append (take m us ++ six bs) (drop (m + 6) us) 0 j (omega (arith, n, front-long, l)) ∙
+            let n : length (take m us ++ six bs) ≡ length (take m us) + ruleWidth = length-append (take m us) (six bs) in
+            ap (λ (vs : List ℕ). getD vs j 0) stored-parts ∙ List·getD-append (take m us ++ six bs) (drop (m + ruleWidth) us) 0 j (omega (arith, n, front-long, l)) ∙
             List·getD-append (take m us) (six bs) 0 j (omega (arith, front-long, l)) ∙ getD-take m us j 0 l;
       }
 
 module _ (x : Store) (s t reps : List ℕ) where
-  pub flat-none : (us : List ℕ) → length us ≡ 1536 → Flat x s t reps 0 us
+  pub flat-none : (us : List ℕ) → length us ≡ ruleWidth * mostRules → Flat x s t reps 0 us
   flat-none us l = record { long = l; rule = λ k h. absurd (omega arith) }
 
-  pub flat-rule : {us vs : List ℕ} {n : ℕ} (bs : List ℕ) → Flat x s t reps n us → n < 256 → length bs ≡ 6 → flatRule (x .counts) bs ≡ ruleBy x s reps (getD t n 0) → SixAt us (6 * n) bs vs →
+  pub flat-rule : {us vs : List ℕ} {n : ℕ} (bs : List ℕ) → Flat x s t reps n us → n < mostRules → length bs ≡ ruleWidth → flatRule (x .counts) bs ≡ ruleBy x s reps (getD t n 0) → SixAt us (ruleWidth * n) bs vs →
       Flat x s t reps (n + 1) vs
   flat-rule {us} {vs} {n} bs f few six is put = record { long = put .long ∙ f .long; rule = each }
     where
-      long : (k : ℕ) → k ≤ n → 6 ≤ length (drop (6 * k) vs)
-      long k l = let d = length-drop (6 * k) vs in omega (arith, d, put .long, f .long, l, few)
+      long : (k : ℕ) → k ≤ n → ruleWidth ≤ length (drop (ruleWidth * k) vs)
+      long k l = let d = length-drop (ruleWidth * k) vs in omega (arith, d, put .long, f .long, l, few)
 
-      long-before : (k : ℕ) → k ≤ n → 6 ≤ length (drop (6 * k) us)
-      long-before k l = let d = length-drop (6 * k) us in omega (arith, d, f .long, l, few)
+      long-before : (k : ℕ) → k ≤ n → ruleWidth ≤ length (drop (ruleWidth * k) us)
+      long-before k l = let d = length-drop (ruleWidth * k) us in omega (arith, d, f .long, l, few)
 
-      each : (k : ℕ) → k < n + 1 → flatRule (x .counts) (drop (6 * k) vs) ≡ ruleBy x s reps (getD t k 0)
+      each : (k : ℕ) → k < n + 1 → flatRule (x .counts) (drop (ruleWidth * k) vs) ≡ ruleBy x s reps (getD t k 0)
       each k l =
           by-equal k n
-          (λ z. ap (λ (j : ℕ). flatRule (x .counts) (drop (6 * j) vs)) z ∙
-          same-rule (x .counts) (drop (6 * n) vs) bs (long n (omega arith)) (omega (arith, six)) (λ j h. getD-drop (6 * n) vs j 0 ∙ put .here j h) ∙ is ∙
+          (λ z. ap (λ (j : ℕ). flatRule (x .counts) (drop (ruleWidth * j) vs)) z ∙
+          same-rule (x .counts) (drop (ruleWidth * n) vs) bs (long n (omega arith)) (omega (arith, six)) (λ j h. getD-drop (ruleWidth * n) vs j 0 ∙ put .here j h) ∙ is ∙
           ap (λ (j : ℕ). ruleBy x s reps (getD t j 0)) (sym z))
           (λ z. let g : k < n = let y : k ≡ n → ⊥ = z in omega (arith, y, l) in
-          same-rule (x .counts) (drop (6 * k) vs) (drop (6 * k) us) (long k (omega (arith, g))) (long-before k (omega (arith, g)))
-          (λ j h. getD-drop (6 * k) vs j 0 ∙ put .before (6 * k + j) (omega (arith, g, h)) ∙ sym (getD-drop (6 * k) us j 0)) ∙ f .rule k g)
+          same-rule (x .counts) (drop (ruleWidth * k) vs) (drop (ruleWidth * k) us) (long k (omega (arith, g))) (long-before k (omega (arith, g)))
+          (λ j h. getD-drop (ruleWidth * k) vs j 0 ∙ put .before (ruleWidth * k + j) (omega (arith, g, h)) ∙ sym (getD-drop (ruleWidth * k) us j 0)) ∙ f .rule k g)

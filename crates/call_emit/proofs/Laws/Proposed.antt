@@ -18,7 +18,7 @@ use Rattle.model.proofs.Laws.Lists.{at-place}
 use Rattle.model.proofs.Laws.ReflectTable.{idle-of, known-back}
 use Rattle.bank.proofs.Laws.Words.{used-of}
 use Rattle.table_verdict.specs.Rules.{ruleBy, rulesBy, Ruled}
-use Rattle.list.specs.Flat.{flatRulesIn, flatRules, flatAutomaton}
+use Rattle.list.specs.Flat.{flatRulesIn, flatRules, flatAutomaton, ruleWidth}
 use Rattle.list.proofs.Flat.{flat-part, flat-each}
 use Rattle.sound.specs.Working.{Arrays, Working, preparedFit, judgedFit}
 use Rattle.sound.proofs.Laws.Judged.{ruled, hypothesis-is, sound-parts}
@@ -60,7 +60,7 @@ module _ {ws : List ℕ} (l : Lists) {holes head next mix table places reps : Li
       omega (arith, d, r .1, used-of ws ns (l .used))
 
   rules-are : (us : List ℕ) → Flat (storeOf ws (take (l .letters) (l .counts)) (l .used)) (take (l .states) (l .s)) (l .t) reps (l .rules) us →
-      flatRules (take (l .letters) (l .counts)) (take (6 * l .rules) us) ≡ rulesBy (storeOf ws (take (l .letters) (l .counts)) (l .used)) (take (l .states) (l .s)) (take (l .rules) (l .t)) reps
+      flatRules (take (l .letters) (l .counts)) (take (ruleWidth * l .rules) us) ≡ rulesBy (storeOf ws (take (l .letters) (l .counts)) (l .used)) (take (l .states) (l .s)) (take (l .rules) (l .t)) reps
   rules-are us f =
       let e = length-take-le (l .rules) (l .t) (omega (arith, a .t-long, a .few-t)) in
       let rule : ℕ → Rule = ruleBy (storeOf ws ns (l .used)) (take (l .states) (l .s)) reps in
@@ -69,7 +69,7 @@ module _ {ws : List ℕ} (l : Lists) {holes head next mix table places reps : Li
 
   pub proposal-is : (fs us : List ℕ) → take (l .states) fs ≡ finalsOf (answersIn (l .used) ws) (take (l .states) (l .s)) →
       Flat (storeOf ws (take (l .letters) (l .counts)) (l .used)) (take (l .states) (l .s)) (l .t) reps (l .rules) us →
-      flatAutomaton (take (l .letters) (l .counts)) (take (l .states) fs) (take (6 * l .rules) us) ≡ automatonOf (tablesOf ws l)
+      flatAutomaton (take (l .letters) (l .counts)) (take (l .states) fs) (take (ruleWidth * l .rules) us) ≡ automatonOf (tablesOf ws l)
   proposal-is fs us e f =
       let r = rules-are us f in
       (λ i. record { counts = ns; finals = e i; rules = r i }) ∙ hypothesis-is a w prepared (l .hand) (l .asked) (eqb (l .accepted) 1) table-fits known

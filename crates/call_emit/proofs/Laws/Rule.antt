@@ -10,7 +10,7 @@ use Rattle.model.specs.Base.{placeOf}
 use Rattle.model.specs.Store.{Store, symbolAt, kidsAt}
 use Rattle.bank.proofs.Laws.Chains.{by-equal}
 use Rattle.table_verdict.specs.Rules.{ruleBy}
-use Rattle.list.specs.Flat.{flatWidth, flatRule}
+use Rattle.list.specs.Flat.{flatWidth, flatRule, ruleWidth}
 
 mapped-at : (f : ℕ → ℕ) (ks : List ℕ) (j : ℕ) → j < length ks → getD (map f ks) j 0 ≡ f (getD ks j 0)
 mapped-at f [] j l = absurd (omega arith)
@@ -18,14 +18,14 @@ mapped-at f (k ∷ ks) zero l = refl
 mapped-at f (k ∷ ks) (suc j) l = mapped-at f ks j (omega arith)
 
 -- THE CHILD STATES are four bytes at most, from the second on
-module _ (us : List ℕ) (long : 6 ≤ length us) (n : ℕ) (few : n ≤ 4) where
+module _ (us : List ℕ) (long : ruleWidth ≤ length us) (n : ℕ) (few : n ≤ 4) where
   pub states-long : length (take n (drop 1 us)) ≡ n
   states-long = let d = length-drop 1 us in length-take-le n (drop 1 us) (omega arith)
 
   pub states-at : (j : ℕ) → j < n → getD (take n (drop 1 us)) j 0 ≡ getD us (1 + j) 0
   states-at j l = getD-take n (drop 1 us) j 0 l ∙ getD-drop 1 us j 0
 
-pub same-rule : (ns us vs : List ℕ) → 6 ≤ length us → 6 ≤ length vs → ((j : ℕ) → j < 6 → getD us j 0 ≡ getD vs j 0) → flatRule ns us ≡ flatRule ns vs
+pub same-rule : (ns us vs : List ℕ) → ruleWidth ≤ length us → ruleWidth ≤ length vs → ((j : ℕ) → j < ruleWidth → getD us j 0 ≡ getD vs j 0) → flatRule ns us ≡ flatRule ns vs
 same-rule ns us vs l m agree =
     let n : ℕ = flatWidth ns (getD us 0 0) in
     let few : flatWidth ns (getD us 0 0) ≤ 4 = omega arith in
@@ -40,7 +40,7 @@ same-rule ns us vs l m agree =
 
 -- THE BYTES so far: the symbol and the states of the first n children
 pub record RuleTo (x : Store) (s : List ℕ) (row : ℕ) (bytes : List ℕ) (n : ℕ) : Type 0 where
-  pub long : length bytes ≡ 6
+  pub long : length bytes ≡ ruleWidth
   pub symbol : getD bytes 0 0 ≡ symbolAt x row
   pub kids : (j : ℕ) → j < n → getD bytes (1 + j) 0 ≡ placeOf (getD (kidsAt x row) j 0) 0 s
 
@@ -64,8 +64,8 @@ module _ (x : Store) (s : List ℕ) (i : ℕ) where
       let us : List ℕ = set bs 5 v in
       let ks : List ℕ = kidsAt x i in
       let f : ℕ → ℕ = λ k. placeOf k 0 s in
-      let l : length us ≡ 6 = length-set bs 5 v ∙ r .long in
-      let six : 6 ≤ length us = omega (arith, l) in
+      let l : length us ≡ ruleWidth = length-set bs 5 v ∙ r .long in
+      let six : ruleWidth ≤ length us = omega (arith, l) in
       let a : getD us 0 0 ≡ symbolAt x i = getD-set-other bs 5 0 v 0 (λ z. omega arith) ∙ r .symbol in
       let w : flatWidth (x .counts) (getD us 0 0) ≡ length ks = ap (flatWidth (x .counts)) a ∙ omega (arith, count, few) in
       let p : length (take (length ks) (drop 1 us)) ≡ length ks = states-long us six (length ks) few in

@@ -6,6 +6,7 @@ use Prim.Native.Nat.{ℕ, _≤_, _<_}
 use native.Mathlib.Omega.{arith}
 use lib.ListN.{length, getD, take}
 use lib.Seq.{length-take-le, getD-take}
+use Rattle.model.specs.Limits.{mostStates}
 use Rattle.model.specs.Base.{In, placeOf}
 use Rattle.model.specs.Store.{kidsAt}
 use Rattle.model.specs.Entry.{storeOf}
@@ -32,7 +33,7 @@ module _ {ws ns : List ℕ} {u : ℕ} {holes head next mix reps : List ℕ} (r :
   pub symbol-small : symbolIn ws (getD t k 0) < 256
   symbol-small = omega (arith, row-known r (getD t k 0) row-used row-some, r .good .letters)
 
-  place-small : (i : ℕ) → In i (take q s) → placeOf i 0 (take q s) < 32
+  place-small : (i : ℕ) → In i (take q s) → placeOf i 0 (take q s) < mostStates
   place-small i m = omega (arith, place-within i 0 (take q s) m, d .few)
 
   kid-in : (j : ℕ) → j < length (kidsAt (storeOf ws ns u) (getD t k 0)) → In (getD (kidsAt (storeOf ws ns u) (getD t k 0)) j 0) (take q s)
@@ -43,8 +44,8 @@ module _ {ws ns : List ℕ} {u : ℕ} {holes head next mix reps : List ℕ} (r :
       let i : ℕ = getD (kidsAt (storeOf ws ns u) (getD t k 0)) j 0 in
       omega (arith, d .row i (d .among i (kid-in j l)) .1, used-of ws ns u)
 
-  pub kid-place : (j : ℕ) → j < length (kidsAt (storeOf ws ns u) (getD t k 0)) → placeOf (getD (kidsAt (storeOf ws ns u) (getD t k 0)) j 0) 0 (take q s) < 32
+  pub kid-place : (j : ℕ) → j < length (kidsAt (storeOf ws ns u) (getD t k 0)) → placeOf (getD (kidsAt (storeOf ws ns u) (getD t k 0)) j 0) 0 (take q s) < mostStates
   kid-place j l = place-small (getD (kidsAt (storeOf ws ns u) (getD t k 0)) j 0) (kid-in j l)
 
-  pub target-place : placeOf (getD reps (getD t k 0) 0) 0 (take q s) < 32
+  pub target-place : placeOf (getD reps (getD t k 0) 0) 0 (take q s) < mostStates
   target-place = place-small (getD reps (getD t k 0) 0) (d .covered (getD t k 0) row-in)

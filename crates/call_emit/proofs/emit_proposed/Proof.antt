@@ -6,6 +6,8 @@ use native.Mathlib.Omega.{arith}
 use borrow.Author.Needs.{needs, length-unmapped}
 use lib.ListN.{length, take}
 use lib.Seq.{length-take-le}
+use Rattle.list.specs.Flat.{ruleWidth}
+use Rattle.model.specs.Limits.{mostContexts, mostSymbols}
 use Rattle.model.proofs.Laws.Lent.{listsFit-facts}
 use Rattle.sound.specs.Working.{Arrays}
 use Rattle.call_emit.proofs.Laws.Proposed.{rules-hold, reps-used, proposal-is}
@@ -24,14 +26,14 @@ Start = lts.Start (write-finals-reads.Asked, write-finals-reads.Learnt, write-ru
 arrays : (s : Start) → Arrays (s .args .lists .s) (s .args .lists .states) (s .args .lists .t) (s .args .lists .rules) (s .args .lists .c) (s .args .lists .contexts)
 arrays s =
     let f = listsFit-facts (s .args .lists) (s .pre .1) in
-    record { s-long = search needs; few-s = f .states; t-long = search needs; few-t = f .rules; c-long = length-unmapped ℕ (s .args .lists .c) 289 (s .good .1 .0 .1 .1 .1 .1 .1 .1 .1 .1 .1 .1 .0 .1 .0 .1); few-c = f .contexts }
+    record { s-long = search needs; few-s = f .states; t-long = search needs; few-t = f .rules; c-long = length-unmapped ℕ (s .args .lists .c) mostContexts (s .good .1 .0 .1 .1 .1 .1 .1 .1 .1 .1 .1 .1 .0 .1 .0 .1); few-c = f .contexts }
 
-few-letters : (s : Start) → s .args .lists .letters ≤ 64
+few-letters : (s : Start) → s .args .lists .letters ≤ mostSymbols
 few-letters s = listsFit-facts (s .args .lists) (s .pre .1) .letters
 
 letters-within : (s : Start) → s .args .lists .letters ≤ length (s .args .lists .counts)
 letters-within s =
-    let e : length (s .args .lists .counts) ≡ 64 = search needs in
+    let e : length (s .args .lists .counts) ≡ mostSymbols = search needs in
     omega (arith, e, few-letters s)
 
 counts-long : (s : Start) → length (take (s .args .lists .letters) (s .args .lists .counts)) ≡ s .args .lists .letters
@@ -97,7 +99,7 @@ slice-aggregate-write-listed-3 : tie.Need-slice-aggregate-write-listed-3
 slice-aggregate-write-listed-3 c =
     let s : Start = c .before .before .before .before .before .before .before .before .before .before .before .before .before .before .before .before .before .before .before .before .before .before .before .before in
     let w = c .before .before .before .write-rules in
-    sym (length-take-le (6 * s .args .lists .rules) _ (omega (arith, w .ensures .long, arrays s .few-t)))
+    sym (length-take-le (ruleWidth * s .args .lists .rules) _ (omega (arith, w .ensures .long, arrays s .few-t)))
 
 write-listed-requires : tie.Need-write-listed-requires
 write-listed-requires c κs =

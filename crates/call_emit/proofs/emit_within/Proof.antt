@@ -4,6 +4,7 @@ use mathlib.Core.Path.{refl, sym, _∙_}
 use borrow.Author.Tests.{not-true, not-false}
 use borrow.Author.Needs.{needs}
 use native.Mathlib.Omega.{arith}
+use Rattle.model.specs.Limits.{mostRows}
 use Rattle.model.proofs.Laws.Lent.{listsFit-facts}
 use Rattle.sound.proofs.Laws.Rooms.{words-few, room-for}
 use Rattle.call_emit.proofs.Laws.Emitting.{unsound-refused, asking-refused, refusal}
@@ -29,7 +30,7 @@ lists-sound-requires : tie.Need-lists-sound-requires
 lists-sound-requires c κs =
     let s = c .before .before .before .before .before .before .before .before .before in
     let f = listsFit-facts (s .args .lists) (s .pre .1) in
-    (s .pre .0, s .pre .1, room-for 16384 (words-few (s .args .words .now) (s .pre .0)) refl (omega arith) (omega arith) refl refl (omega (arith, f .rules)) refl refl)
+    (s .pre .0, s .pre .1, room-for mostRows (words-few (s .args .words .now) (s .pre .0)) refl (omega arith) (omega arith) refl refl (omega (arith, f .rules)) refl refl)
 
 refuse-requires : tie.Need-refuse-requires
 refuse-requires c κs = search needs

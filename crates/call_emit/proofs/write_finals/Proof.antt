@@ -6,6 +6,7 @@ use Prim.Native.Nat.{ℕ, _-_, _≤_}
 use native.Mathlib.Omega.{arith}
 use borrow.Author.Needs.{needs}
 use lib.ListN.{length, take}
+use Rattle.model.specs.Limits.{mostStates}
 use Rattle.model.specs.Table.{finalsOf}
 use Rattle.model.specs.Entry.{answersIn}
 use Rattle.call_emit.proofs.Laws.Finals.{finals-more}
@@ -13,7 +14,7 @@ use Rattle.call_emit.proofs.write_finals.Statement.{statement}
 use Rattle.call_emit.proofs.write_finals.Tie as tie
 
 abbrev Inv-loop : tie.InvT-loop
-Inv-loop words used s states finals₀ q₀ finals q = (q ≤ states) × (length finals ≡ 32) × (take q finals ≡ finalsOf (answersIn used words) (take q s))
+Inv-loop words used s states finals₀ q₀ finals q = (q ≤ states) × (length finals ≡ mostStates) × (take q finals ≡ finalsOf (answersIn used words) (take q s))
 
 abbrev μ-loop : tie.MeasureT-loop
 μ-loop words used s states finals₀ q₀ finals q = states - q

@@ -5,6 +5,7 @@ use borrow.Author.Needs.{needs}
 use Prim.Native.Nat.{ℕ, _≤_, _<_}
 use lib.ListN.{length}
 use lib.Seq.{length-take-le}
+use Rattle.model.specs.Limits.{mostListed, mostSymbols}
 use Rattle.model.specs.Terms.{knownRow}
 use Rattle.model.specs.Table.{answerAt}
 use Rattle.model.specs.Facts.{Parses}
@@ -67,7 +68,7 @@ first c = start (fitting (differs c))
 tested : (c : Fitting) → Tested (start c .args .lists) (start c .args .symbols .now) (start c .args .mark)
 tested c = c .before .input-fault .ensures .free (c .if1 .left)
 
-parsed : (c : Fitting) → Parses (countsIn (start c .args .lists)) 0 (start c .args .symbols .now) × (length (start c .args .symbols .now) ≤ 1024)
+parsed : (c : Fitting) → Parses (countsIn (start c .args .lists)) 0 (start c .args .symbols .now) × (length (start c .args .symbols .now) ≤ mostListed)
 parsed c =
     let p = recordFault-parses (countsIn (start c .args .lists)) (start c .args .symbols .now) (tested c .faultless) in
     (p .0, p .2)
@@ -104,13 +105,13 @@ cast-letters c = search needs
 array-share-prefix-counts : tie.Need-array-share-prefix-counts
 array-share-prefix-counts c =
     let s : Start = c .before .before .before .before .before .before .before .before .before .before .before .before .before in
-    let e : length (s .args .lists .counts) ≡ 64 = search needs in
+    let e : length (s .args .lists .counts) ≡ mostSymbols = search needs in
     omega (arith, listsFit-facts (s .args .lists) (s .pre .1) .letters)
 
 slice-aggregate-known-row : tie.Need-slice-aggregate-known-row
 slice-aggregate-known-row c =
     let s : Start = c .before .before .before .before .before .before .before .before .before .before .before .before .before .before in
-    let e : length (s .args .lists .counts) ≡ 64 = search needs in
+    let e : length (s .args .lists .counts) ≡ mostSymbols = search needs in
     sym (length-take-le (s .args .lists .letters) (s .args .lists .counts) (omega (arith, listsFit-facts (s .args .lists) (s .pre .1) .letters)))
 
 known-row-requires : tie.Need-known-row-requires

@@ -4,6 +4,7 @@ use native.Mathlib.Omega.{arith}
 use borrow.Author.Needs.{needs}
 use lib.ListN.{length}
 use lib.Seq.{length-take-le}
+use Rattle.model.specs.Limits.{mostSymbols}
 use Rattle.model.proofs.Laws.Lent.{listsFit-facts}
 use Rattle.call_faults.proofs.Laws.OfferLines.{line-asking, line-accepted, line-record, line-mark}
 use Rattle.call_faults.proofs.input_fault.Statement.{statement}
@@ -25,13 +26,13 @@ cast-letters c = search needs
 array-share-prefix-counts : tie.Need-array-share-prefix-counts
 array-share-prefix-counts c =
     let s = c .before .before .before .before .before .before .before in
-    let e : length (s .args .lists .counts) ≡ 64 = search needs in
+    let e : length (s .args .lists .counts) ≡ mostSymbols = search needs in
     omega (arith, listsFit-facts (s .args .lists) (s .pre) .letters)
 
 slice-aggregate-record-fault : tie.Need-slice-aggregate-record-fault
 slice-aggregate-record-fault c =
     let s = c .before .before .before .before .before .before .before .before in
-    let e : length (s .args .lists .counts) ≡ 64 = search needs in
+    let e : length (s .args .lists .counts) ≡ mostSymbols = search needs in
     sym (length-take-le (s .args .lists .letters) (s .args .lists .counts) (omega (arith, listsFit-facts (s .args .lists) (s .pre) .letters)))
 
 record-fault-requires : tie.Need-record-fault-requires

@@ -5,6 +5,7 @@ use borrow.Author.Needs.{needs, length-unmapped}
 use Prim.Native.Nat.{ℕ}
 use lib.ListN.{length}
 use lib.Seq.{length-take-le}
+use Rattle.model.specs.Limits.{mostContexts, mostSymbols}
 use Rattle.model.proofs.Laws.Lent.{listsFit-facts}
 use Rattle.model.proofs.Laws.Trees.{recordFault-parses}
 use Rattle.sound.specs.Working.{Arrays}
@@ -27,7 +28,7 @@ arrays s =
       few-s = f .states;
       t-long = search needs;
       few-t = f .rules;
-      c-long = length-unmapped ℕ (s .args .lists .c) 289 (s .good .1 .0 .1 .1 .1 .1 .1 .1 .1 .1 .1 .1 .0 .1 .0 .1);
+      c-long = length-unmapped ℕ (s .args .lists .c) mostContexts (s .good .1 .0 .1 .1 .1 .1 .1 .1 .1 .1 .1 .1 .0 .1 .0 .1);
       few-c = f .contexts;
     }
 
@@ -37,13 +38,13 @@ cast-letters c = search needs
 array-share-prefix-counts : tie.Need-array-share-prefix-counts
 array-share-prefix-counts c =
     let s : Start = c .before .before .before .before .before .before .before .before .before .before .before in
-    let e : length (s .args .lists .counts) ≡ 64 = search needs in
+    let e : length (s .args .lists .counts) ≡ mostSymbols = search needs in
     omega (arith, listsFit-facts (s .args .lists) (s .pre .0) .letters)
 
 slice-aggregate-accepts-list : tie.Need-slice-aggregate-accepts-list
 slice-aggregate-accepts-list c =
     let s : Start = c .before .before .before .before .before .before .before .before .before .before .before .before in
-    let e : length (s .args .lists .counts) ≡ 64 = search needs in
+    let e : length (s .args .lists .counts) ≡ mostSymbols = search needs in
     sym (length-take-le (s .args .lists .letters) (s .args .lists .counts) (omega (arith, listsFit-facts (s .args .lists) (s .pre .0) .letters)))
 
 cast-accepts-list : tie.Need-cast-accepts-list

@@ -6,6 +6,7 @@ use native.Mathlib.Omega.{arith}
 use borrow.Author.Tests.{not-true, not-false}
 use borrow.Author.Needs.{needs}
 use lib.Seq.{length-take-le}
+use Rattle.model.specs.Limits.{rowWidth}
 use Rattle.model.specs.Entry.{sizeFits, listsFit}
 use Rattle.call_look.proofs.Laws.Looked.{size-refused, lists-refused, used-fit, used-looked}
 use Rattle.call_look.proofs.look.Statement.{statement}
@@ -49,14 +50,14 @@ slice-aggregate-look-few : tie.Need-slice-aggregate-look-few
 slice-aggregate-look-few c =
     let s = c .before .before .before .before .before .before .before .before .before in
     let k = c .before .before .before .is-small .ensures (c .before .before .if3 .taken) in
-    sym (length-take-le (6 * s .args .lists .used) (s .args .words .now) (k .2))
+    sym (length-take-le (rowWidth * s .args .lists .used) (s .args .words .now) (k .2))
 
 look-few-requires : tie.Need-look-few-requires
 look-few-requires c κs =
     let s = c .before .before .before .before .before .before .before .before .before in
     let e = c .before .before .before .before in
     let k = c .before .before .before .is-small .ensures (c .before .before .if3 .taken) in
-    let d = length-take-le (6 * s .args .lists .used) (s .args .words .now) (k .2) in
+    let d = length-take-le (rowWidth * s .args .lists .used) (s .args .words .now) (k .2) in
     (used-fit (s .args .words .now) (s .args .lists) (size-true (e .before .before)) (lists-true e) (k .0) (k .2), lists-true e, omega (arith, k .1, d), k .3)
 
 returns-3 : tie.Need-returns-3

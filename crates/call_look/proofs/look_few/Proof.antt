@@ -3,6 +3,7 @@ use mathlib.Core.Path.{refl, sym, _∙_}
 use native.Mathlib.Omega.{arith}
 use borrow.Author.Tests.{not-true, not-false}
 use borrow.Author.Needs.{needs}
+use Rattle.bank.specs.Ladder.{smallRows}
 use Rattle.sound.proofs.Laws.Rooms.{room-for}
 use Rattle.call_look.proofs.Laws.Looked.{unsound-refused, looked}
 use Rattle.call_look.proofs.look_few.Statement.{statement}
@@ -26,7 +27,7 @@ slice-aggregate-lists-sound-5 c = search needs
 lists-sound-requires : tie.Need-lists-sound-requires
 lists-sound-requires c κs =
     let s = c .before .before .before .before .before .before .before .before in
-    (s .pre .0, s .pre .1, room-for 1024 (s .pre .2) refl (omega arith) (omega arith) refl refl (omega (arith, s .pre .3)) refl refl)
+    (s .pre .0, s .pre .1, room-for smallRows (s .pre .2) refl (omega arith) (omega arith) refl refl (omega (arith, s .pre .3)) refl refl)
 
 refusal-requires : tie.Need-refusal-requires
 refusal-requires c κs = search needs

@@ -5,6 +5,7 @@ use mathlib.Core.Logic.{⊎-elim}
 use borrow.Author.Needs.{needs, length-unmapped}
 use Prim.Native.Nat.{ℕ}
 use lib.ListN.{length}
+use Rattle.model.specs.Limits.{mostContexts, mostRules, mostStates}
 use Rattle.model.proofs.Laws.Lent.{listsFit-facts}
 use Rattle.call_look.proofs.Laws.Looked.{told-is, phase-accepted, phase-asking, phase-proposing}
 use Rattle.call_look.proofs.told.Statement.{statement}
@@ -15,9 +16,9 @@ returns c =
     let s = c .before .before .before .before in
     let l = s .args .lists in
     let f = listsFit-facts l (s .pre) in
-    let a : length (l .s) ≡ 32 = search needs in
-    let b : length (l .t) ≡ 256 = search needs in
-    let d : length (l .c) ≡ 289 = length-unmapped ℕ (l .c) 289 (s .good .1 .0 .1 .1 .1 .1 .1 .1 .1 .1 .1 .1 .0 .1 .0 .1) in
+    let a : length (l .s) ≡ mostStates = search needs in
+    let b : length (l .t) ≡ mostRules = search needs in
+    let d : length (l .c) ≡ mostContexts = length-unmapped ℕ (l .c) mostContexts (s .good .1 .0 .1 .1 .1 .1 .1 .1 .1 .1 .1 .1 .0 .1 .0 .1) in
     told-is (s .args .words .now) l (omega (arith, f .states)) (omega (arith, f .rules)) (omega (arith, f .contexts)) 2 (phase-accepted (s .args .words .now) l (c .if2 .taken))
 
 returns-2 : tie.Need-returns-2
@@ -25,9 +26,9 @@ returns-2 c =
     let s = c .before .before .before .before in
     let l = s .args .lists in
     let f = listsFit-facts l (s .pre) in
-    let a : length (l .s) ≡ 32 = search needs in
-    let b : length (l .t) ≡ 256 = search needs in
-    let d : length (l .c) ≡ 289 = length-unmapped ℕ (l .c) 289 (s .good .1 .0 .1 .1 .1 .1 .1 .1 .1 .1 .1 .1 .0 .1 .0 .1) in
+    let a : length (l .s) ≡ mostStates = search needs in
+    let b : length (l .t) ≡ mostRules = search needs in
+    let d : length (l .c) ≡ mostContexts = length-unmapped ℕ (l .c) mostContexts (s .good .1 .0 .1 .1 .1 .1 .1 .1 .1 .1 .1 .1 .0 .1 .0 .1) in
     told-is (s .args .words .now) l (omega (arith, f .states)) (omega (arith, f .rules)) (omega (arith, f .contexts)) (c .before .before .if1 .phase)
     (⊎-elim (λ w. w .1 ∙ phase-asking (s .args .words .now) l (c .if2 .left) (w .0 .taken)) (λ w. w .1 ∙ phase-proposing (s .args .words .now) l (c .if2 .left) (w .0 .left)) (c .before .before .if1 .came))
 

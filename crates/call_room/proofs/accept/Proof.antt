@@ -4,6 +4,7 @@ use mathlib.Core.Bool.{true}
 use Prim.Native.Nat.{ℕ}
 use lib.ListN.{length}
 use borrow.Author.Needs.{needs, length-unmapped}
+use Rattle.model.specs.Limits.{mostContexts, mostRules, mostStates, mostSymbols}
 use Rattle.model.specs.Calls.{look}
 use Rattle.model.specs.Entry.{tablesOf, listsFit, seenOf}
 use Rattle.model.specs.declared.Lists.{Lists}
@@ -54,10 +55,10 @@ returns-3 c =
     let n = c .before .before .before .before .before .if1 .left in
     let l = s .args .lists in
     let t = look-taken (s .args .words .now) l (k .result) (k .ensures) n in
-    let a : length (l .counts) ≡ 64 = search needs in
-    let d : length (l .s) ≡ 32 = length-unmapped ℕ (l .s) 32 (s .good .1 .0 .1 .1 .1 .1 .1 .1 .0 .1 .0 .1) in
-    let e : length (l .t) ≡ 256 = length-unmapped ℕ (l .t) 256 (s .good .1 .0 .1 .1 .1 .1 .1 .1 .1 .1 .0 .1 .0 .1) in
-    let f : length (l .c) ≡ 289 = length-unmapped ℕ (l .c) 289 (s .good .1 .0 .1 .1 .1 .1 .1 .1 .1 .1 .1 .1 .0 .1 .0 .1) in
+    let a : length (l .counts) ≡ mostSymbols = search needs in
+    let d : length (l .s) ≡ mostStates = length-unmapped ℕ (l .s) mostStates (s .good .1 .0 .1 .1 .1 .1 .1 .1 .0 .1 .0 .1) in
+    let e : length (l .t) ≡ mostRules = length-unmapped ℕ (l .t) mostRules (s .good .1 .0 .1 .1 .1 .1 .1 .1 .1 .1 .0 .1 .0 .1) in
+    let f : length (l .c) ≡ mostContexts = length-unmapped ℕ (l .c) mostContexts (s .good .1 .0 .1 .1 .1 .1 .1 .1 .1 .1 .1 .1 .0 .1 .0 .1) in
     accept-taken (s .args .words .now) l (k .result) (k .ensures) n _ (in-arrays l (t .1) a d e f) (c .before .before .before .if2 .left)
     (c .told .ensures ∙ ap (λ (m : Lists). seenOf (look (tablesOf (s .args .words .now) m))) (c .before .before .accepting .ensures)) (c .before .before .accepting .ensures)
 

@@ -7,7 +7,7 @@ use Prim.Native.Nat.{ℕ, _*_, _≤_}
 use native.Mathlib.Omega.{arith}
 use lib.ListN.{length}
 use lib.Seq.{length-take-le}
-use Rattle.model.specs.Limits.{rowWidth}
+use Rattle.model.specs.Limits.{rowWidth, mostContexts, mostRules, mostStates, mostSymbols}
 use Rattle.model.specs.Terms.{unless}
 use Rattle.model.specs.Table.{Tables, tables}
 use Rattle.model.specs.Sound.{isSound}
@@ -38,7 +38,7 @@ pub record InArrays (l : Lists) : Type 0 where
   pub rules : l .rules ≤ length (l .t)
   pub contexts : l .contexts ≤ length (l .c)
 
-pub in-arrays : (l : Lists) → listsFit l ≡ true → length (l .counts) ≡ 64 → length (l .s) ≡ 32 → length (l .t) ≡ 256 → length (l .c) ≡ 289 → InArrays l
+pub in-arrays : (l : Lists) → listsFit l ≡ true → length (l .counts) ≡ mostSymbols → length (l .s) ≡ mostStates → length (l .t) ≡ mostRules → length (l .c) ≡ mostContexts → InArrays l
 in-arrays l e a b c d =
     let f = listsFit-facts l e in
     record { letters = omega (arith, f .letters); states = omega (arith, f .states); rules = omega (arith, f .rules); contexts = omega (arith, f .contexts) }

@@ -11,7 +11,7 @@ use borrow.Author.Tests.{eq-eqb, ne-eqb, le-leb, lt-leb, not-true, not-false}
 use lib.Dec.{leb}
 use lib.ListN.{length, getD, set}
 use lib.Seq.{getD-set-other, length-take-le}
-use Rattle.model.specs.Limits.{mostRows}
+use Rattle.model.specs.Limits.{mostRows, mostContexts}
 use Rattle.model.specs.Base.{In, here, later, same}
 use Rattle.model.specs.Terms.{orElse, unless}
 use Rattle.model.specs.Store.{used, filledRow, framesOf}
@@ -154,13 +154,13 @@ module _ (ws : List ℕ) (l : Lists) (m : ℕ) (fit : listsFit l ≡ true) (soun
       go (inl q) = absurd (w .known (q .0) (q .1) (q .2) (q .3) (q .4))
       go (inr f) = f
 
-  room : InArrays l → Whole X → l .contexts < 289
+  room : InArrays l → Whole X → l .contexts < mostContexts
   room a w = go (few w)
     where
       c-long : length (X .c) ≡ l .contexts
       c-long = length-take-le (l .contexts) (l .c) (a .contexts)
 
-      go : Few X → l .contexts < 289
+      go : Few X → l .contexts < mostContexts
       go (inl h) = omega (arith, h, c-long)
       go (inr h) = let d = sound-facts X sound .nearly .tidy in omega (arith, h, c-long, d .few-s, d .few-t)
 

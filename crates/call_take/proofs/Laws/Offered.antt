@@ -8,7 +8,7 @@ use Prim.Native.Nat.{ℕ, _+_, _*_, _≤_, _<_}
 use native.Mathlib.Omega.{arith}
 use lib.ListN.{length, take, set, length-set}
 use lib.Seq.{length-take-le}
-use Rattle.model.specs.Limits.{rowWidth}
+use Rattle.model.specs.Limits.{rowWidth, mostContexts, mostSymbols}
 use Rattle.model.specs.Base.{over, each-nil}
 use Rattle.model.specs.Store.{Store, used, Extends, Built, full, built}
 use Rattle.model.specs.Terms.{storeFrom}
@@ -58,7 +58,7 @@ pub record Given (ws : List ℕ) (l : Lists) (xs : List ℕ) (m : ℕ) (holes he
   pub sound : isSound (tablesOf ws l) ≡ true
   pub free : offerFault (tablesOf ws l) xs m ≡ 0
   pub working : Working ws (countsIn l) (l .used) (l .s) (l .states) (l .t) (l .rules) (l .c) (l .contexts) holes head next mix table places reps
-  pub counts-long : length (l .counts) ≡ 64
+  pub counts-long : length (l .counts) ≡ mostSymbols
   pub arrays : Arrays (l .s) (l .states) (l .t) (l .rules) (l .c) (l .contexts)
 
 -- THE RECORD STORED as row j of the v rows then used
@@ -89,7 +89,7 @@ module _ {ws : List ℕ} {l : Lists} {xs : List ℕ} {m : ℕ} {holes head next 
   tidy : Tidy X
   tidy = sounds .nearly .tidy
 
-  pub rows-held : 6 * l .used ≤ length ws
+  pub rows-held : rowWidth * l .used ≤ length ws
   rows-held = t .working .ready .finding .room
 
   -- ROWS RAN OUT
@@ -104,7 +104,7 @@ module _ {ws : List ℕ} {l : Lists} {xs : List ℕ} {m : ℕ} {holes head next 
   pub full-size : {us hs he ne : List ℕ} → Comes ws (countsIn l) (l .used) (storeFrom (storeOf ws (countsIn l) (l .used)) xs []) Grown.Full us hs he ne mix → length us ≡ length ws
   full-size d = offer-full d .1 .same-size
 
-  pub full-held : {us hs he ne : List ℕ} → Comes ws (countsIn l) (l .used) (storeFrom (storeOf ws (countsIn l) (l .used)) xs []) Grown.Full us hs he ne mix → 6 * l .used ≤ length us
+  pub full-held : {us hs he ne : List ℕ} → Comes ws (countsIn l) (l .used) (storeFrom (storeOf ws (countsIn l) (l .used)) xs []) Grown.Full us hs he ne mix → rowWidth * l .used ≤ length us
   full-held d = omega (arith, rows-held, offer-full d .1 .same-size)
 
   pub full-called : {us hs he ne vs after : List ℕ} {r : Done} → Comes ws (countsIn l) (l .used) (storeFrom (storeOf ws (countsIn l) (l .used)) xs []) Grown.Full us hs he ne mix →
@@ -222,13 +222,13 @@ module _ {ws : List ℕ} {l : Lists} {xs : List ℕ} {m : ℕ} {holes head next 
       pub offer-stepping : Stepping us' l' hs he ne mix
       offer-stepping = record { ready = ready-now; orderly = subst Orderly (sym back) (core-orderly Z (whole-now .core)); fit = fit-now }
 
-      few-contexts : (length (X .c) ≤ 1) ⊎ (length (X .c) ≤ size X) → l .contexts < 289
+      few-contexts : (length (X .c) ≤ 1) ⊎ (length (X .c) ≤ size X) → l .contexts < mostContexts
       few-contexts c =
           let w = listsFit-facts l (t .fit) in
           let a = length-take-le (l .contexts) (l .c) (omega (arith, t .arrays .c-long, w .contexts)) in
           go a c
         where
-          go : length (X .c) ≡ l .contexts → (length (X .c) ≤ 1) ⊎ (length (X .c) ≤ size X) → l .contexts < 289
+          go : length (X .c) ≡ l .contexts → (length (X .c) ≤ 1) ⊎ (length (X .c) ≤ size X) → l .contexts < mostContexts
           go a (inl h) = omega arith
           go a (inr h) = omega (arith, tidy .few-s, tidy .few-t)
 
@@ -237,7 +237,7 @@ module _ {ws : List ℕ} {l : Lists} {xs : List ℕ} {m : ℕ} {holes head next 
           record {
             whole = subst Whole (sym back) whole-now;
             fits = subst (λ (z : Tables). HandFits (z .store) (z .answers) (z .s) (z .t) (z .c) (z .hand)) (sym back) (taken-fits X whole xs m brought j y (q .is));
-            room = subst (λ (k : Lists). k .contexts < 289) (sym up) (few-contexts few);
+            room = subst (λ (k : Lists). k .contexts < mostContexts) (sym up) (few-contexts few);
             handling =
                 subst (λ (z : Tables). Handling (z .store) (z .answers) (z .s) (z .t) (z .c) reps) (sym back)
                 (handling-offered X whole xs m brought j y (q .is) reps-are (omega (arith, used-of ws (countsIn l) (l .used), t .working .ready .finding .few)) (omega (arith, q .ext .room, t .working .reps-long)));
@@ -268,7 +268,7 @@ module _ {ws : List ℕ} {l : Lists} {xs : List ℕ} {m : ℕ} {holes head next 
             pub back-size : length vs' ≡ length ws
             back-size = kept-again .same-size
 
-            pub back-held : 6 * l .used ≤ length vs'
+            pub back-held : rowWidth * l .used ≤ length vs'
             back-held = omega (arith, rows-held, kept-again .same-size)
 
             module _ {zs after : List ℕ} (s : Saved ws (l .used) zs) (b : PutBack vs' (l .used) zs after) where

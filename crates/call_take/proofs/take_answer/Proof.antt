@@ -4,6 +4,7 @@ use Prim.Native.Nat.{ℕ}
 use native.Mathlib.Omega.{arith}
 use borrow.Author.Needs.{needs, length-unmapped}
 use lib.ListN.{length}
+use Rattle.model.specs.Limits.{mostContexts, mostRules, mostStates, mostSymbols}
 use Rattle.model.specs.declared.Lists.{Lists}
 use Rattle.call_take.proofs.Laws.Accepted.{in-arrays}
 use Rattle.call_take.proofs.Laws.Answered.{asked-within, stepping-answered, table-answered, hand-answered}
@@ -34,10 +35,10 @@ advance-requires c κs =
     let e = c .before .before .before .before .before .before .before .before .set-answer .ensures in
     let k = c .before .before .before .before .before .closed in
     let f = k .ensures in
-    let a : length (l .counts) ≡ 64 = length-unmapped ℕ (l .counts) 64 (s .good .1 .0 .1 .1 .1 .0 .1 .0 .1) in
-    let b : length (l .s) ≡ 32 = length-unmapped ℕ (l .s) 32 (s .good .1 .0 .1 .1 .1 .1 .1 .1 .0 .1 .0 .1) in
-    let d : length (l .t) ≡ 256 = length-unmapped ℕ (l .t) 256 (s .good .1 .0 .1 .1 .1 .1 .1 .1 .1 .1 .0 .1 .0 .1) in
-    let g : length (l .c) ≡ 289 = length-unmapped ℕ (l .c) 289 (s .good .1 .0 .1 .1 .1 .1 .1 .1 .1 .1 .1 .1 .0 .1 .0 .1) in
+    let a : length (l .counts) ≡ mostSymbols = length-unmapped ℕ (l .counts) mostSymbols (s .good .1 .0 .1 .1 .1 .0 .1 .0 .1) in
+    let b : length (l .s) ≡ mostStates = length-unmapped ℕ (l .s) mostStates (s .good .1 .0 .1 .1 .1 .1 .1 .1 .0 .1 .0 .1) in
+    let d : length (l .t) ≡ mostRules = length-unmapped ℕ (l .t) mostRules (s .good .1 .0 .1 .1 .1 .1 .1 .1 .1 .1 .0 .1 .0 .1) in
+    let g : length (l .c) ≡ mostContexts = length-unmapped ℕ (l .c) mostContexts (s .good .1 .0 .1 .1 .1 .1 .1 .1 .1 .1 .1 .1 .0 .1 .0 .1) in
     let arrays = in-arrays l (s .pre .1) a b d g in (
       stepping-answered ws l (s .args .mark) (s .pre .1) (s .pre .2) (s .pre .3) (s .pre .4) arrays w _ (k .result) e f,
       omega (arith, ap (λ (o : Lists). o .rules) f, s .pre .7),

@@ -6,6 +6,7 @@ use Prim.Native.Nat.{ℕ, _/_, _%_, _≤_, _<_}
 use lib.Dec.{leb}
 use borrow.Author.Tests.{ne-eqb, eq-eqb, lt-leb, le-leb}
 use lib.ListN.{length}
+use Rattle.model.specs.Limits.{mostRows, rowWidth}
 use Rattle.model.specs.Base.{isIn}
 use Rattle.model.specs.Table.{tables}
 use Rattle.model.specs.Sound.{isT1}
@@ -13,18 +14,18 @@ use Rattle.model.specs.Entry.{sizeFits, storeOf, answersIn}
 use Rattle.probe.specs.Probed.{isPassed}
 
 module _ (ws : List ℕ) where
-  pub not-whole : (length ws % 6 ≡ 0 → ⊥) → false ≡ sizeFits ws
-  not-whole e = sym (ap (λ (b : Bool). b && isIn 1 16384 (length ws / 6)) (ne-eqb (length ws % 6) 0 e))
+  pub not-whole : (length ws % rowWidth ≡ 0 → ⊥) → false ≡ sizeFits ws
+  not-whole e = sym (ap (λ (b : Bool). b && isIn 1 mostRows (length ws / rowWidth)) (ne-eqb (length ws % rowWidth) 0 e))
 
-  module _ (w : length ws % 6 ≡ 0) where
-    whole : sizeFits ws ≡ isIn 1 16384 (length ws / 6)
-    whole = ap (λ (b : Bool). b && isIn 1 16384 (length ws / 6)) (eq-eqb (length ws % 6) 0 w)
+  module _ (w : length ws % rowWidth ≡ 0) where
+    whole : sizeFits ws ≡ isIn 1 mostRows (length ws / rowWidth)
+    whole = ap (λ (b : Bool). b && isIn 1 mostRows (length ws / rowWidth)) (eq-eqb (length ws % rowWidth) 0 w)
 
-    pub no-row : length ws / 6 < 1 → false ≡ sizeFits ws
-    no-row l = sym (whole ∙ ap (λ (b : Bool). b && leb (length ws / 6) 16384) (lt-leb 1 (length ws / 6) l))
+    pub no-row : length ws / rowWidth < 1 → false ≡ sizeFits ws
+    no-row l = sym (whole ∙ ap (λ (b : Bool). b && leb (length ws / rowWidth) mostRows) (lt-leb 1 (length ws / rowWidth) l))
 
-    pub rows-few : 1 ≤ length ws / 6 → leb (length ws / 6) 16384 ≡ sizeFits ws
-    rows-few l = sym (whole ∙ ap (λ (b : Bool). b && leb (length ws / 6) 16384) (le-leb 1 (length ws / 6) l))
+    pub rows-few : 1 ≤ length ws / rowWidth → leb (length ws / rowWidth) mostRows ≡ sizeFits ws
+    rows-few l = sym (whole ∙ ap (λ (b : Bool). b && leb (length ws / rowWidth) mostRows) (le-leb 1 (length ws / rowWidth) l))
 
 module _ (ws ns : List ℕ) (n : ℕ) where
   abbrev first : Bool

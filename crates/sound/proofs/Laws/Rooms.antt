@@ -5,7 +5,7 @@ use mathlib.Core.List.{List}
 use Prim.Native.Nat.{ℕ, _*_, _≤_, _<_}
 use native.Mathlib.Omega.{arith}
 use lib.ListN.{length}
-use Rattle.model.specs.Limits.{rowWidth, mostRows, mostContexts}
+use Rattle.model.specs.Limits.{rowWidth, mostRows, mostContexts, mostStates}
 use Rattle.model.specs.Entry.{sizeFits}
 use Rattle.bank.specs.Index.{mostBuckets}
 use Rattle.model.proofs.Laws.Lent.{sizeFits-facts}
@@ -17,7 +17,7 @@ words-few ws e = let w = sizeFits-facts ws e in omega (arith, w .whole, w .most)
 
 -- arrays for k rows
 pub room-for : {ws : List ℕ} {n : ℕ} {holes head next mix table places reps : List ℕ} (k : ℕ) → length ws ≤ rowWidth * k → length holes ≡ k → 0 < length head → length head ≤ mostBuckets →
-    length next ≡ k → length mix ≡ 5 → mostContexts * n ≤ length table → length places ≡ 32 → length reps ≡ k → Room ws n holes head next mix table places reps
+    length next ≡ k → length mix ≡ 5 → mostContexts * n ≤ length table → length places ≡ mostStates → length reps ≡ k → Room ws n holes head next mix table places reps
 room-for k l a b c d e f g h =
     record {
       rows = record { holes-long = omega arith; some-heads = b; few-heads = c; next-long = omega arith };

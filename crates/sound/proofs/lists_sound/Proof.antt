@@ -5,6 +5,7 @@ use borrow.Author.Needs.{needs, length-unmapped}
 use Prim.Native.Nat.{ℕ}
 use lib.ListN.{length}
 use lib.Seq.{length-take-le}
+use Rattle.model.specs.Limits.{mostContexts, mostRules, mostStates, mostSymbols}
 use Rattle.model.proofs.Laws.Lent.{listsFit-facts}
 use Rattle.sound.proofs.lists_sound.Statement.{statement}
 use Rattle.sound.proofs.lists_sound.Tie as tie
@@ -15,13 +16,13 @@ cast-letters c = search needs
 array-share-prefix-counts : tie.Need-array-share-prefix-counts
 array-share-prefix-counts c =
     let s = c .before .before .before .before .before .before .before .before .before .before .before in
-    let e : length (s .args .lists .counts) ≡ 64 = search needs in
+    let e : length (s .args .lists .counts) ≡ mostSymbols = search needs in
     omega (arith, listsFit-facts (s .args .lists) (s .pre .1) .letters)
 
 slice-aggregate-is-sound : tie.Need-slice-aggregate-is-sound
 slice-aggregate-is-sound c =
     let s = c .before .before .before .before .before .before .before .before .before .before .before .before in
-    let e : length (s .args .lists .counts) ≡ 64 = search needs in
+    let e : length (s .args .lists .counts) ≡ mostSymbols = search needs in
     sym (length-take-le (s .args .lists .letters) (s .args .lists .counts) (omega (arith, listsFit-facts (s .args .lists) (s .pre .1) .letters)))
 
 cast-is-sound : tie.Need-cast-is-sound
@@ -39,11 +40,11 @@ is-sound-requires c κs =
     let f = listsFit-facts (s .args .lists) (s .pre .1) in (
       s .pre .0,
       record {
-        s-long = length-unmapped ℕ (s .args .lists .s) 32 (s .good .1 .0 .1 .1 .1 .1 .1 .1 .0 .1 .0 .1);
+        s-long = length-unmapped ℕ (s .args .lists .s) mostStates (s .good .1 .0 .1 .1 .1 .1 .1 .1 .0 .1 .0 .1);
         few-s = f .states;
-        t-long = length-unmapped ℕ (s .args .lists .t) 256 (s .good .1 .0 .1 .1 .1 .1 .1 .1 .1 .1 .0 .1 .0 .1);
+        t-long = length-unmapped ℕ (s .args .lists .t) mostRules (s .good .1 .0 .1 .1 .1 .1 .1 .1 .1 .1 .0 .1 .0 .1);
         few-t = f .rules;
-        c-long = length-unmapped ℕ (s .args .lists .c) 289 (s .good .1 .0 .1 .1 .1 .1 .1 .1 .1 .1 .1 .1 .0 .1 .0 .1);
+        c-long = length-unmapped ℕ (s .args .lists .c) mostContexts (s .good .1 .0 .1 .1 .1 .1 .1 .1 .1 .1 .1 .1 .0 .1 .0 .1);
         few-c = f .contexts;
       },
       s .pre .2,

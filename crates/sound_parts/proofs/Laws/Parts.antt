@@ -9,6 +9,7 @@ use borrow.Author.Tests.{eq-eqb, ne-eqb, le-leb}
 use lib.Dec.{leb, eqb}
 use lib.ListN.{length, getD, take, set, length-set}
 use lib.Seq.{getD-take, length-take-le, getD-set-same, getD-set-other}
+use Rattle.model.specs.Limits.{mostRules, mostStates}
 use Rattle.model.specs.Base.{In, all, allAmong, noRepeats, placeOf}
 use Rattle.model.specs.Store.{isRecord, kidsAt}
 use Rattle.model.specs.Sound.{isT2, isT3, contextsFit}
@@ -78,16 +79,16 @@ module _ (few differ yes : Bool) (missing once : Bool) where
 
 -- T2, T3 AND T4's FIRST CLAUSES of the tables given
 module _ {ws ns : List ℕ} {u : ℕ} {hs head next mix : List ℕ} (r : Ready ws ns u hs head next mix) (s : List ℕ) (q : ℕ) (t : List ℕ) (n : ℕ) (c : List ℕ) (m : ℕ)
-    (a : q ≤ length s) (a' : q ≤ 32) (b : n ≤ length t) (b' : n ≤ 256) where
+    (a : q ≤ length s) (a' : q ≤ mostStates) (b : n ≤ length t) (b' : n ≤ mostRules) where
   pub t2-given : noRepeats (take n t) && (all (isRecord (storeOf ws ns u)) (take n t) && all (λ (i : ℕ). allAmong (kidsAt (storeOf ws ns u) i) (take q s)) (take n t)) ≡
       isT2 (given ws ns u s q t n c m 0 0 false)
   t2-given =
       let e = length-take-le n t b in
-      rw (le-leb (length (take n t)) 256 (omega arith))
+      rw (le-leb (length (take n t)) mostRules (omega arith))
       (and-assoc (noRepeats (take n t)) (all (isRecord (storeOf ws ns u)) (take n t)) (all (λ (i : ℕ). allAmong (kidsAt (storeOf ws ns u) i) (take q s)) (take n t)))
 
   pub t3-given : noRepeats (take q s) && allAmong (take q s) (take n t) ≡ isT3 (given ws ns u s q t n c m 0 0 false)
-  t3-given = let e = length-take-le q s a in rw (le-leb (length (take q s)) 32 (omega arith))
+  t3-given = let e = length-take-le q s a in rw (le-leb (length (take q s)) mostStates (omega arith))
 
   pub t4-given : contextsFitBy hs u (q + n) (take m c) ≡ contextsFit (given ws ns u s q t n c m 0 0 false)
   t4-given =
@@ -96,7 +97,7 @@ module _ {ws ns : List ℕ} {u : ℕ} {hs head next mix : List ℕ} (r : Ready w
 
 -- PLACES of S in T, the first i of them found
 pub record Finding (s : List ℕ) (q : ℕ) (t : List ℕ) (n : ℕ) (places : List ℕ) (i : ℕ) : Type 0 where
-  pub long : length places ≡ 32
+  pub long : length places ≡ mostStates
   pub most : i ≤ q
   pub within : (j : ℕ) → j < i → getD places j 0 < n
   pub names : (j : ℕ) → j < i → getD t (getD places j 0) 0 ≡ getD s j 0
@@ -113,7 +114,7 @@ module _ (s : List ℕ) (q : ℕ) (t : List ℕ) (n : ℕ) (a : q ≤ length s) 
       let g : placeOf (getD s i 0) 0 (take n t) ≡ p .0 = p .1 ∙ (let y : 0 + p .0 ≡ p .0 = omega arith in y) in
       (w, sym (getD-take n t (placeOf (getD s i 0) 0 (take n t)) 0 w) ∙ ap (λ (j : ℕ). getD (take n t) j 0) g ∙ p .2)
 
-  pub place-next : {places : List ℕ} {i : ℕ} → q ≤ 32 → Finding s q t n places i → i < q → Finding s q t n (set places i (placeOf (getD s i 0) 0 (take n t))) (i + 1)
+  pub place-next : {places : List ℕ} {i : ℕ} → q ≤ mostStates → Finding s q t n places i → i < q → Finding s q t n (set places i (placeOf (getD s i 0) 0 (take n t))) (i + 1)
   place-next {places} {i} few y l =
       let p : ℕ = placeOf (getD s i 0) 0 (take n t) in
       let here : getD (set places i p) i 0 ≡ p = getD-set-same places i p 0 (omega (arith, y .long)) in
@@ -129,11 +130,11 @@ module _ (s : List ℕ) (q : ℕ) (t : List ℕ) (n : ℕ) (a : q ≤ length s) 
       }
 
 -- all of them found
-pub places-found : {s : List ℕ} {q : ℕ} {t : List ℕ} {n : ℕ} {places : List ℕ} {i : ℕ} → q ≤ 32 → n ≤ 256 → Finding s q t n places i → q ≤ i → Placing places q n × Placed t n s q places
+pub places-found : {s : List ℕ} {q : ℕ} {t : List ℕ} {n : ℕ} {places : List ℕ} {i : ℕ} → q ≤ mostStates → n ≤ mostRules → Finding s q t n places i → q ≤ i → Placing places q n × Placed t n s q places
 places-found few b y l = (
   record { long = y .long; few = few; within = λ j h. omega (arith, y .within j (omega arith)) },
   λ j h. (y .within j (omega arith), y .names j (omega arith)),
 )
 
-pub places-none : (s : List ℕ) (q : ℕ) (t : List ℕ) (n : ℕ) (places : List ℕ) → length places ≡ 32 → Finding s q t n places 0
+pub places-none : (s : List ℕ) (q : ℕ) (t : List ℕ) (n : ℕ) (places : List ℕ) → length places ≡ mostStates → Finding s q t n places 0
 places-none s q t n places e = record { long = e; most = omega arith; within = λ j h. absurd (omega arith); names = λ j h. absurd (omega arith) }

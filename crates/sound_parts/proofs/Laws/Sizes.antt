@@ -8,20 +8,20 @@ use native.Mathlib.Omega.{arith}
 use borrow.Author.Tests.{eq-eqb, ne-eqb, lt-leb, le-leb, leb-true, leb-false}
 use lib.Dec.{leb}
 use lib.ListN.{length}
-use Rattle.model.specs.Limits.{mostRows}
+use Rattle.model.specs.Limits.{mostRows, mostWords, rowWidth}
 use Rattle.model.specs.Entry.{sizeFits, rowsLent}
 
 module _ (ws : List ℕ) where
-  pub not-whole : (length ws % 6 ≡ 0 → ⊥) → false ≡ sizeFits ws
-  not-whole e = rw (ne-eqb (length ws % 6) 0 e)
+  pub not-whole : (length ws % rowWidth ≡ 0 → ⊥) → false ≡ sizeFits ws
+  not-whole e = rw (ne-eqb (length ws % rowWidth) 0 e)
 
-  module _ (e : length ws % 6 ≡ 0) where
-    pub no-row : length ws < 6 → false ≡ sizeFits ws
-    no-row l = rw (eq-eqb (length ws % 6) 0 e, lt-leb 1 (rowsLent ws) (omega arith))
+  module _ (e : length ws % rowWidth ≡ 0) where
+    pub no-row : length ws < rowWidth → false ≡ sizeFits ws
+    no-row l = rw (eq-eqb (length ws % rowWidth) 0 e, lt-leb 1 (rowsLent ws) (omega arith))
 
-    pub few-rows : 6 ≤ length ws → leb (length ws) 98304 ≡ sizeFits ws
-    few-rows l = rw (eq-eqb (length ws % 6) 0 e, le-leb 1 (rowsLent ws) (omega arith)) (go (leb (length ws) 98304) refl)
+    pub few-rows : rowWidth ≤ length ws → leb (length ws) mostWords ≡ sizeFits ws
+    few-rows l = rw (eq-eqb (length ws % rowWidth) 0 e, le-leb 1 (rowsLent ws) (omega arith)) (go (leb (length ws) mostWords) refl)
       where
-        go : (b : Bool) → leb (length ws) 98304 ≡ b → b ≡ leb (rowsLent ws) mostRows
-        go true p = sym (le-leb (rowsLent ws) mostRows (let q = leb-true (length ws) 98304 p in omega arith))
-        go false p = sym (lt-leb (rowsLent ws) mostRows (let q = leb-false (length ws) 98304 p in omega arith))
+        go : (b : Bool) → leb (length ws) mostWords ≡ b → b ≡ leb (rowsLent ws) mostRows
+        go true p = sym (le-leb (rowsLent ws) mostRows (let q = leb-true (length ws) mostWords p in omega arith))
+        go false p = sym (lt-leb (rowsLent ws) mostRows (let q = leb-false (length ws) mostWords p in omega arith))

@@ -5,6 +5,7 @@ use native.Mathlib.Omega.{arith}
 use borrow.Author.Needs.{needs}
 use lib.ListN.{length, take}
 use lib.Seq.{length-take-le}
+use Rattle.model.specs.Limits.{mostSymbols}
 use Rattle.model.proofs.Laws.Lent.{listsFit-facts}
 use Rattle.step.proofs.find.Statement.{statement}
 use Rattle.step.proofs.find.Tie as tie
@@ -17,7 +18,7 @@ Start = lts.Start (find-reads.Asked, find-reads.Learnt) reads.Pre reads.Post
 
 letters : (s : Start) → s .args .lists .letters ≤ length (s .args .lists .counts)
 letters s =
-    let e : length (s .args .lists .counts) ≡ 64 = search needs in
+    let e : length (s .args .lists .counts) ≡ mostSymbols = search needs in
     omega (arith, listsFit-facts (s .args .lists) (s .pre .0 .fit) .letters)
 
 letters-long : (s : Start) → s .args .lists .letters ≡ length (take (s .args .lists .letters) (s .args .lists .counts))

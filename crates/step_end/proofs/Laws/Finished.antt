@@ -9,6 +9,7 @@ use native.Mathlib.Omega.{arith}
 use lib.Dec.{eqb}
 use lib.ListN.{length, getD, take}
 use lib.Seq.{length-take-le, getD-take}
+use Rattle.model.specs.Limits.{mostContexts, mostRules, mostStates, mostSymbols}
 use Rattle.model.specs.Base.{In, over}
 use Rattle.model.specs.Store.{Built, full, built, used, framesOf, fill}
 use Rattle.model.specs.Table.{Tables, tables, rowOf}
@@ -39,10 +40,10 @@ finished-by {ws} {l} {e} {f} {r} {us} p t = subst (λ (d : Ended). Finished ws l
 
 -- the sizes of the arrays
 pub record Arrays (l : Lists) : Type 0 where
-  pub counts : length (l .counts) ≡ 64
-  pub s : length (l .s) ≡ 32
-  pub t : length (l .t) ≡ 256
-  pub c : length (l .c) ≡ 289
+  pub counts : length (l .counts) ≡ mostSymbols
+  pub s : length (l .s) ≡ mostStates
+  pub t : length (l .t) ≡ mostRules
+  pub c : length (l .c) ≡ mostContexts
 
 -- WHAT SETTLING LEAVES of tables: the alphabet, T and C; rows and S may be more
 pub record Grows (x y : Tables) : Type 0 where

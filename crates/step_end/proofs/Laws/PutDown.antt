@@ -8,7 +8,7 @@ use Prim.Native.Nat.{ℕ, suc, _+_, _-_, _*_, _≤_, _<_}
 use native.Mathlib.Omega.{arith}
 use lib.ListN.{length, take, drop, set, length-append}
 use lib.Seq.{length-take-le, set-split, append-snoc}
-use Rattle.model.specs.Limits.{rowWidth, mostContexts}
+use Rattle.model.specs.Limits.{rowWidth, mostContexts, mostRules}
 use Rattle.model.specs.Base.{In, among, over}
 use Rattle.model.specs.Store.{Store, Frame, Built, full, built, used, fill}
 use Rattle.model.specs.Table.{Tables, tables}
@@ -70,7 +70,7 @@ more-in false i xs h = in-snoc xs h
 abbrev pub downTables : Tables → (context : ℕ) → Store → Tables
 downTables x c y = tables y (blanked (x .store) y (x .answers)) (x .s) (x .t) (contextsWith c (x .c)) 0 0 false
 
-module _ {ws : List ℕ} {l : Lists} {hs he ne mix : List ℕ} (p : Stepping ws l hs he ne mix) (a : Arrays l) (room : l .contexts < 289) {fs : List Frame} {j n : ℕ} {us hs' he' ne' : List ℕ}
+module _ {ws : List ℕ} {l : Lists} {hs he ne mix : List ℕ} (p : Stepping ws l hs he ne mix) (a : Arrays l) (room : l .contexts < mostContexts) {fs : List Frame} {j n : ℕ} {us hs' he' ne' : List ℕ}
     (d : Reached ws (countsIn l) (l .used) fs 0 j n us hs' he' ne' mix) where
   abbrev X : Tables
   X = tablesOf ws l
@@ -144,7 +144,7 @@ module _ {ws : List ℕ} {l : Lists} {hs he ne mix : List ℕ} (p : Stepping ws 
   fit-after =
       let f = listsFit-facts l (p .fit) in
       let k = more-few (among j (X .c)) (l .contexts) j (l .c) within in
-      let c : length (Y .c) ≤ 289 = omega (arith, k, room) in
+      let c : length (Y .c) ≤ mostContexts = omega (arith, k, room) in
       let b = ap length (d .filled .ext .counts) ∙ length-take-le (l .letters) (l .counts) (few-letters p a) in
       let s = length-take-le (l .states) (l .s) (few-states p a) in
       let t = length-take-le (l .rules) (l .t) (few-rules p a) in
@@ -161,7 +161,7 @@ module _ {ws : List ℕ} {l : Lists} {hs he ne mix : List ℕ} (p : Stepping ws 
       })
 
   -- of the table no row is known, after it was forgotten
-  pub few-after : (left : Lists) → left ≡ withContext l j n → left .rules ≤ 256
+  pub few-after : (left : Lists) → left ≡ withContext l j n → left .rules ≤ mostRules
   few-after left e = listsFit-facts left (stepping-after left e .fit) .rules
 
   pub long-after : (left : Lists) → left ≡ withContext l j n → (tb : List ℕ) → mostContexts * l .rules ≤ length tb → mostContexts * left .rules ≤ length tb

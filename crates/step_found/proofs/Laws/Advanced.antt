@@ -156,12 +156,12 @@ ended-ruled ws l i r us t n (proposes y) (with-proposes e) d = (d .0, d .1 ∙ l
 -- WHAT PUTTING DOWN NEEDS, along a way down from a record
 pub record Putting (ws : List ℕ) (l : Lists) (hs head next mix ds : List ℕ) (h : ℕ) : Type 0 where
   pub stepping : Stepping ws l hs head next mix
-  pub room : l .contexts < 289
+  pub room : l .contexts < mostContexts
   pub record-row : IsRecord (tablesOf ws l .store) h
   pub fits : Fits (tablesOf ws l .store) (pathOf ds (tablesOf ws l .store) h)
 
 -- ONE MORE TRANSITION
-module _ {ws : List ℕ} {l : Lists} {hs head next mix ds : List ℕ} {h : ℕ} (p : Putting ws l hs head next mix ds h) (long : length (l .t) ≡ mostRules) (room : l .rules < 256) (i : ℕ) where
+module _ {ws : List ℕ} {l : Lists} {hs head next mix ds : List ℕ} {h : ℕ} (p : Putting ws l hs head next mix ds h) (long : length (l .t) ≡ mostRules) (room : l .rules < mostRules) (i : ℕ) where
   appended : take (l .rules + 1) (set (l .t) (l .rules) i) ≡ take (l .rules) (l .t) ++ (i ∷ [])
   appended =
       let n : l .rules + 1 ≡ suc (l .rules) = omega arith in
@@ -221,7 +221,7 @@ module _ {ws : List ℕ} {l : Lists} {hs head next mix ds : List ℕ} {h : ℕ} 
     rule-put r us d = put (pathOf ds (tablesOf ws l .store) h) r us (subst (λ (k : Lists). Ends ws k (putDown (tablesOf ws k) (pathOf ds (tablesOf ws k .store) h)) r us) e d)
 
 -- no place for one more
-pub rules-full : (ws : List ℕ) (l : Lists) → length (l .t) ≡ mostRules → l .rules ≡ 256 → (h : ℕ) (p : Spot) (r : Stepped) → r .number ≡ 36 → Ends ws l (searched (tablesOf ws l) (atNewTransition h p)) r ws
+pub rules-full : (ws : List ℕ) (l : Lists) → length (l .t) ≡ mostRules → l .rules ≡ mostRules → (h : ℕ) (p : Spot) (r : Stepped) → r .number ≡ 36 → Ends ws l (searched (tablesOf ws l) (atNewTransition h p)) r ws
 rules-full ws l long e h p r z =
     let x : Tables = tablesOf ws l in
     let n : mostRules ≤ length (x .t) = omega (arith, length-take-le (l .rules) (l .t) (omega arith)) in

@@ -4,6 +4,7 @@ use native.Mathlib.Omega.{arith}
 use borrow.Author.Needs.{needs, length-unmapped}
 use Prim.Native.Nat.{ℕ}
 use lib.Seq.{length-take-le}
+use Rattle.model.specs.Limits.{mostContexts}
 use Rattle.model.specs.Store.{fill}
 use Rattle.model.specs.Entry.{tablesOf}
 use Rattle.model.proofs.Laws.Lent.{listsFit-facts}
@@ -36,7 +37,7 @@ long s =
       counts = search needs;
       s = search needs;
       t = search needs;
-      c = length-unmapped ℕ (s .args .lists .c) 289 (s .good .1 .0 .1 .1 .1 .1 .1 .1 .1 .1 .1 .1 .0 .1 .0 .1);
+      c = length-unmapped ℕ (s .args .lists .c) mostContexts (s .good .1 .0 .1 .1 .1 .1 .1 .1 .1 .1 .1 .1 .0 .1 .0 .1);
     }
 
 came : (c : Filled) →

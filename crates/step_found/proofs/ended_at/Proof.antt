@@ -4,6 +4,7 @@ use native.Mathlib.Omega.{arith}
 use borrow.Author.Needs.{needs}
 use lib.ListN.{getD}
 use Prim.Native.Nat.{_<_}
+use Rattle.model.specs.Limits.{mostRows}
 use Rattle.step_found.proofs.Laws.Searched.{Ending, in-at, in-reps, down-used, held-new, held-unknown, held-different, rep-low, ended-new, ended-unknown, ended-different}
 use Rattle.step_found.proofs.ended_at.Statement.{statement}
 use Rattle.step_found.proofs.ended_at.Tie as tie
@@ -40,7 +41,7 @@ ending : (s : Start) →
     (s .args .exchanged .now) (s .args .found)
 ending s = record { stepping = s .pre .0; hand = s .pre .2; descended = s .pre .3; end = s .pre .4 }
 
-spot : (n : Unknown) → getD (unknown n .args .at .now) (n .found2 .given .0 .0 .0) 0 < 16384
+spot : (n : Unknown) → getD (unknown n .args .at .now) (n .found2 .given .0 .0 .0) 0 < mostRows
 spot n = held-unknown (ending (unknown n)) (n .found2 .given .1) .spot-small
 
 enum-known-found : tie.Need-enum-known-found

@@ -4,6 +4,7 @@ use Prim.Native.Nat.{_<_}
 use native.Mathlib.Omega.{arith}
 use borrow.Author.Needs.{needs}
 use lib.ListN.{length}
+use Rattle.model.specs.Limits.{mostRules}
 use Rattle.model.specs.declared.Lists.{Lists}
 use Rattle.model.proofs.Laws.Lent.{listsFit-facts}
 use Rattle.step_found.proofs.Laws.Advanced.{Putting, rules-full, rule-putting, rule-put}
@@ -25,10 +26,10 @@ Ruled = lts.After-with-rule (short-reads.Asked, short-reads.Learnt, with-rule-re
 abbrev begun : Ruled → Start
 begun w = w .before .before .before .before .before .before .before .before .before
 
-room : (s : Start) → (s .args .lists .rules ≡ 256 → ⊥) → s .args .lists .rules < 256
+room : (s : Start) → (s .args .lists .rules ≡ mostRules → ⊥) → s .args .lists .rules < mostRules
 room s n = let f = listsFit-facts (s .args .lists) (s .pre .0 .fit) .rules in omega arith
 
-long : (s : Start) → length (s .args .lists .t) ≡ 256
+long : (s : Start) → length (s .args .lists .t) ≡ mostRules
 long s = search needs
 
 putting : (s : Start) → Putting (s .args .words .now) (s .args .lists) (s .args .holes .now) (s .args .head .now) (s .args .next .now) (s .args .mix .now) (s .args .down .now) (s .args .hand .0)

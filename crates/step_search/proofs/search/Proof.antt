@@ -4,6 +4,7 @@ use Prim.Native.Nat.{_<_}
 use native.Mathlib.Omega.{arith}
 use borrow.Author.Needs.{needs}
 use lib.ListN.{getD, take}
+use Rattle.model.specs.Limits.{mostRows}
 use Rattle.model.specs.Store.{outside}
 use Rattle.model.specs.Entry.{storeOf, answersIn}
 use Rattle.step_search.proofs.Laws.Children.{row-within}
@@ -29,7 +30,7 @@ start c = c .before .before .before .before .before .before .before .before .bef
 used-row : (c : Turn) → c .loop .h < start c .args .used
 used-row c = let s = start c in in-hand (s .pre .0) (s .pre .1) (s .pre .2) (c .loop .inv)
 
-spot : (c : Turn) → getD (start c .args .at .now) (c .loop .h) 0 < 16384
+spot : (c : Turn) → getD (start c .args .at .now) (c .loop .h) 0 < mostRows
 spot c = let s = start c in spot-few (s .pre .0) (s .pre .1) (s .pre .2) (c .loop .inv)
 
 loop-holds : tie.Need-loop-holds Inv-loop μ-loop

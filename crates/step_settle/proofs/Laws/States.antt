@@ -9,6 +9,7 @@ use native.Mathlib.Numerals.{add-one}
 use native.Mathlib.Omega.{arith}
 use lib.ListN.{length, getD, take, set, length-map}
 use lib.Seq.{length-take-le}
+use Rattle.model.specs.Limits.{mostStates}
 use Rattle.model.specs.Base.{over}
 use Rattle.table.specs.Answers.{grownBy, rowsAt}
 use Rattle.table.specs.declared.Growth.{Growth}
@@ -27,7 +28,7 @@ module _ (o : Option (List ℕ)) (r : Growth) (e : grownBy o r) (f : r .ok ≡ t
       go none d = absurd (true≢false (sym f ∙ d))
       go (some v) d = ap length (d .1) ∙ sym (d .2)
 
-  pub grown-few : length (r .places) ≡ 32 → r .states ≤ 32
+  pub grown-few : length (r .places) ≡ mostStates → r .states ≤ mostStates
   grown-few l = omega (arith, grown-count, take-few (r .states) (r .places))
 
   pub grown-rows-count : (t : List ℕ) → length (rowsAt t (take (r .states) (r .places))) ≡ r .states

@@ -6,6 +6,7 @@ use mathlib.Core.List.{List}
 use Prim.Native.Nat.{ℕ, _≤_, _<_}
 use native.Mathlib.Omega.{arith}
 use lib.ListN.{length, getD, take}
+use Rattle.model.specs.Limits.{mostContexts, mostRules, mostStates}
 use Rattle.model.specs.Base.{over}
 use Rattle.model.specs.Store.{Store, Built, full, built, hasHole, framesOf, fill}
 use Rattle.model.specs.Facts.{IsContext}
@@ -70,7 +71,7 @@ module _ {ws ns : List ℕ} {u : ℕ} {s : List ℕ} {q : ℕ} {t : List ℕ} {n
       ap (settledBy (given ws ns u s q t n c m 0 0 false)) (sym (sought-to-gap (l .to-gap) (long-t l) h) ∙ ap (soughtBy t c) (l .gap))
 
   -- NONE UNKNOWN: S by its places, grown
-  module _ (l : Looked ws ns u s q t n c m tb Gap.Closed) (ps : List ℕ) (long : length ps ≡ 32) (placed : Placed t n s q ps) (r : Growth)
+  module _ (l : Looked ws ns u s q t n c m tb Gap.Closed) (ps : List ℕ) (long : length ps ≡ mostStates) (placed : Placed t n s q ps) (r : Growth)
       (grown : grownBy (growAt tb m n (take q ps)) r) where
     long-s : q ≤ length s
     long-s = omega (arith, l .settling .s-long, l .settling .few-s)
@@ -99,10 +100,10 @@ module _ {ws ns : List ℕ} {u : ℕ} {s : List ℕ} {q : ℕ} {t : List ℕ} {n
         let w = gap-within tb (l .rows) m (l .to-gap .observed .sized) k j (l .gap) in
         record { rule = omega (arith, w .rule, l .to-gap .few); context = w .context }
 
-    pub rule-within : k < 256
+    pub rule-within : k < mostRules
     rule-within = omega (arith, places .rule, l .settling .few-t)
 
-    pub context-within : j < 289
+    pub context-within : j < mostContexts
     context-within = omega (arith, places .context, l .settling .few-c)
 
     is-context : IsContext (storeOf ws ns u) (getD c j 0)

@@ -5,6 +5,7 @@ use native.Mathlib.Omega.{arith}
 use borrow.Author.Tests.{not-true, not-false}
 use borrow.Author.Needs.{needs}
 use lib.ListN.{length, getD, take}
+use Rattle.model.specs.Limits.{mostRules, mostStates}
 use Rattle.table.specs.Answers.{growAt}
 use Rattle.step_settle.proofs.Laws.States.{grown-few}
 use Rattle.step_settle.proofs.Laws.Stepped.{looked-whole, no-states, proposes-grown}
@@ -35,9 +36,9 @@ write-states-requires c κs =
     let s = c .before .before .before .before .before .before .before .before .before .before .before in
     let places = c .before .before .before .before .before .find-places .last .1 .1 .1 .1 .0 in
     let g = c .before .before .before .before .grow in
-    let long : length (g .result .places) ≡ 32 = search needs in
+    let long : length (g .result .places) ≡ mostStates = search needs in
     let grown = growAt (s .args .table .now) (s .args .contexts) (s .args .rules) (take (s .args .states) places) in
-    let below : (i : ℕ) → i < g .result .states → getD (g .result .places) i 0 < 256 = λ i l. omega (arith, g .ensures .1 i l, s .pre .0 .few-t) in
+    let below : (i : ℕ) → i < g .result .states → getD (g .result .places) i 0 < mostRules = λ i l. omega (arith, g .ensures .1 i l, s .pre .0 .few-t) in
     (s .pre .0 .t-long, long, grown-few grown (g .result) (g .ensures .0) (not-false (g .result .ok) (c .before .before .before .if1 .left)) long, s .pre .0 .s-long, below)
 
 returns-2 : tie.Need-returns-2

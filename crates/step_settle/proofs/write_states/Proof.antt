@@ -4,6 +4,7 @@ use Prim.Native.Nat.{ℕ, _-_, _≤_, _<_}
 use native.Mathlib.Omega.{arith}
 use borrow.Author.Needs.{needs}
 use lib.ListN.{length, getD, take, length-set}
+use Rattle.model.specs.Limits.{mostRules, mostStates}
 use Rattle.model.specs.Base.{over}
 use Rattle.table.specs.Answers.{rowsAt}
 use Rattle.step_settle.proofs.Laws.States.{states-more}
@@ -13,7 +14,7 @@ use Rattle.step_settle.proofs.write_states.Reads as reads
 use Rattle.step_settle.proofs.write_states.Lts as lts
 
 abbrev Inv-loop : tie.InvT-loop
-Inv-loop t places states s₀ i₀ s i = (i ≤ states) × (length s ≡ 32) × (s ≡ over (rowsAt t (take i places)) s₀)
+Inv-loop t places states s₀ i₀ s i = (i ≤ states) × (length s ≡ mostStates) × (s ≡ over (rowsAt t (take i places)) s₀)
 
 abbrev μ-loop : tie.MeasureT-loop
 μ-loop t places states s₀ i₀ s i = states - i
@@ -32,7 +33,7 @@ element-copy-out-at : tie.Need-element-copy-out-at Inv-loop μ-loop
 element-copy-out-at c = search needs
 
 -- the place is one of T
-placed : (c : In) → getD (c .before .before .args .places .now) (c .before .loop .i) 0 < 256
+placed : (c : In) → getD (c .before .before .args .places .now) (c .before .loop .i) 0 < mostRules
 placed c = c .before .before .pre .4 (c .before .loop .i) (c .loop-test .taken)
 
 cast-at : tie.Need-cast-at Inv-loop μ-loop

@@ -8,6 +8,7 @@ use native.Mathlib.Nat.{sub-zero}
 use native.Mathlib.Omega.{arith}
 use borrow.Author.Needs.{needs}
 use lib.ListN.{length, take}
+use Rattle.model.specs.Limits.{mostStates}
 use Rattle.model.specs.Steps.{grow}
 use Rattle.table.specs.Answers.{rowAt, growAt, placesFrom}
 use Rattle.table.proofs.Laws.Growth as G
@@ -37,7 +38,7 @@ within m =
 
 loop-holds : tie.Need-loop-holds Inv-loop μ-loop
 loop-holds c =
-    let h : length (c .before .args .places) ≡ 32 = c .before .good .1 .1 .1 .0 .1 .0 .1 in (
+    let h : length (c .before .args .places) ≡ mostStates = c .before .good .1 .1 .1 .0 .1 .0 .1 in (
       search needs,
       record {
         few = c .before .pre .1;
@@ -57,6 +58,9 @@ state-of-requires c κs =
 
 cast-if1 : tie.Need-cast-if1 Inv-loop μ-loop
 cast-if1 c = let w = within (c .before) in omega arith
+
+cast-if2 : tie.Need-cast-if2 Inv-loop μ-loop
+cast-if2 c = search needs
 
 returns : tie.Need-returns Inv-loop μ-loop
 returns c =
@@ -115,6 +119,7 @@ grow-spec =
     cast-state-of
     state-of-requires
     cast-if1
+    cast-if2
     returns
     cast-ps
     cast-ps-2

@@ -9,6 +9,7 @@ use lib.Dec.{leb, eqb}
 use borrow.Author.Tests.{leb-true}
 use borrow.Rule.Slice.PartAt.{part-to-end}
 use lib.ListN.{length, getD, take, drop, length-take, length-drop}
+use Rattle.model.specs.Limits.{mostSymbols}
 use Rattle.model.specs.Base.{same}
 use Rattle.model.specs.Calls.{Call, offers, answers, accept}
 use Rattle.model.proofs.Laws.Tests.{both-true, and-right}
@@ -112,7 +113,7 @@ module _ (line old : List ℕ) {after : List ℕ} {len : ℕ} (put : after ≡ p
   copied = let e : len ≡ length Part = omega (arith, is) in ap (λ (n : ℕ). take n after) e ∙ ap (take (length Part)) (put ∙ put-over Part old) ∙ take-over Part old ∙ part-to-end line 2
 
 -- its symbols, over the alphabet's part of the two arrays
-module _ (z : Script) (letters : length (z .letters) ≡ 64) (counts : length (z .lists .counts) ≡ 64) {n : ℕ} (in-it : n ≡ min (z .lists .letters) 64) where
+module _ (z : Script) (letters : length (z .letters) ≡ mostSymbols) (counts : length (z .lists .counts) ≡ mostSymbols) {n : ℕ} (in-it : n ≡ min (z .lists .letters) mostSymbols) where
   pub text-read : (copy : List ℕ) (len : ℕ) {text : List ℕ} → take len copy ≡ text → {k : ℕ} {after : List ℕ} →
       TextAs (readText (take n (z .letters)) (take n (z .lists .counts)) (take len copy)) k after → TextAs (readText (lettersOf z) (countsOf z) text) k after
   text-read copy len e {k} {after} t = subst (λ (xs : List ℕ). TextAs xs k after) (λ i. readText (letters-in z letters counts in-it i) (counts-in z letters counts in-it i) (e i)) t

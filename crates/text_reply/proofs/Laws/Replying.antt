@@ -9,6 +9,7 @@ use lib.Dec.{ltb, leb, eqb}
 use borrow.Author.Tests.{leb-true, leb-false, eqb-true, eq-eqb, ne-eqb, lt-ltb, le-ltb}
 use lib.ListN.{length, take}
 use lib.Seq.{take-all, length-take-le}
+use Rattle.model.specs.Limits.{mostSymbols}
 use Rattle.model.specs.Base.{over}
 use Rattle.model.specs.Calls.{refuses, leaves, started}
 use Rattle.model.specs.Entry.{rowsLent, storeOf, seenBy, wordsBy, startNumber, startSeen, startWords, startLists}
@@ -27,22 +28,22 @@ use Rattle.text_print.specs.Tells.{Tellable}
 use Rattle.text_reply.specs.Replies.{ReplyAs}
 
 -- THE ALPHABET'S PART of an array of 64
-module _ (xs : List ℕ) (long : length xs ≡ 64) (n : ℕ) where
-  pub take-in : take (min n 64) xs ≡ take n xs
-  take-in = go (leb n 64) refl
+module _ (xs : List ℕ) (long : length xs ≡ mostSymbols) (n : ℕ) where
+  pub take-in : take (min n mostSymbols) xs ≡ take n xs
+  take-in = go (leb n mostSymbols) refl
     where
-      go : (b : Bool) → leb n 64 ≡ b → take (min n 64) xs ≡ take n xs
-      go true e = let l = leb-true n 64 e in let m : min n 64 ≡ n = omega arith in ap (λ (k : ℕ). take k xs) m
-      go false e = let l = leb-false n 64 e in take-all (min n 64) xs (omega arith) ∙ sym (take-all n xs (omega arith))
+      go : (b : Bool) → leb n mostSymbols ≡ b → take (min n mostSymbols) xs ≡ take n xs
+      go true e = let l = leb-true n mostSymbols e in let m : min n mostSymbols ≡ n = omega arith in ap (λ (k : ℕ). take k xs) m
+      go false e = let l = leb-false n mostSymbols e in take-all (min n mostSymbols) xs (omega arith) ∙ sym (take-all n xs (omega arith))
 
-  pub in-within : {k : ℕ} → k ≡ min n 64 → k ≤ length xs
+  pub in-within : {k : ℕ} → k ≡ min n mostSymbols → k ≤ length xs
   in-within e = omega (arith, e, long)
 
-  pub in-counted : {k : ℕ} → k ≡ min n 64 → k ≡ length (take k xs)
+  pub in-counted : {k : ℕ} → k ≡ min n mostSymbols → k ≡ length (take k xs)
   in-counted {k} e = sym (length-take-le k xs (in-within e))
 
 -- WHAT WAS SEEN, told
-module _ (z : Script) (letters : length (z .letters) ≡ 64) (counts : length (z .lists .counts) ≡ 64) {n : ℕ} (in-it : n ≡ min (z .lists .letters) 64) where
+module _ (z : Script) (letters : length (z .letters) ≡ mostSymbols) (counts : length (z .lists .counts) ≡ mostSymbols) {n : ℕ} (in-it : n ≡ min (z .lists .letters) mostSymbols) where
   pub letters-in : take n (z .letters) ≡ lettersOf z
   letters-in = ap (λ (k : ℕ). take k (z .letters)) in-it ∙ take-in (z .letters) letters (z .lists .letters)
 

@@ -6,6 +6,7 @@ use native.Mathlib.Omega.{arith}
 use lib.ListN.{length, take, drop, replicate}
 use lib.Seq.{length-take-le}
 use borrow.Author.Needs.{needs}
+use Rattle.model.specs.Limits.{mostSymbols}
 use Rattle.model.specs.Calls.{offers}
 use Rattle.text.specs.Reading.{readText}
 use Rattle.text.specs.Script.{lettersOf, countsOf}
@@ -65,10 +66,10 @@ lettered c = c .before .before .before
 abbrev copying : Parsed → Copied
 copying c = c .before .before .before .before .before
 
-letters-long : (c : Lettered) → length (begun c .args .script .letters) ≡ 64
+letters-long : (c : Lettered) → length (begun c .args .script .letters) ≡ mostSymbols
 letters-long c = search needs
 
-counts-long : (c : Lettered) → length (begun c .args .script .lists .counts) ≡ 64
+counts-long : (c : Lettered) → length (begun c .args .script .lists .counts) ≡ mostSymbols
 counts-long c = search needs
 
 -- the copy: of the text's length, and the record's text at its start

@@ -4,11 +4,12 @@ use mathlib.Core.Path.{refl}
 use Prim.Native.Nat.{_*_, _≤_, _<_}
 use native.Mathlib.Nat.{mul-le-mul, mul-lt-mul-of-pos-right}
 use native.Mathlib.Omega.{arith}
+use Rattle.bank.specs.Index.{mostBuckets}
 use Rattle.bank.proofs.index.scaled.Statement.{statement}
 use Rattle.bank.proofs.index.scaled.Tie as tie
 
-bounded : (c : tie.Start) → c .args .x * c .args .size ≤ 2147483647 * 16384
-bounded c = mul-le-mul {n₂ = 2147483647} {m₂ = 16384} (omega arith) (omega arith)
+bounded : (c : tie.Start) → c .args .x * c .args .size ≤ 2147483647 * mostBuckets
+bounded c = mul-le-mul {n₂ = 2147483647} {m₂ = mostBuckets} (omega arith) (omega arith)
 
 below : (c : tie.Start) → c .args .x * c .args .size < 2147483648 * c .args .size
 below c = mul-lt-mul-of-pos-right (c .pre .0) (c .pre .1)

@@ -8,6 +8,7 @@ use native.Mathlib.Omega.{arith}
 use borrow.Author.Needs.{needs}
 use borrow.Fn.Kinds.{In}
 use borrow.Fn.PlainCycle.{Measures, is, falls, and}
+use Rattle.model.specs.Limits.{mostRows}
 use Rattle.model.specs.Store.{Store, fill}
 use Rattle.model.specs.Entry.{storeOf}
 use Rattle.bank.specs.Ready.{pathOf}
@@ -84,7 +85,7 @@ below-inner : (t : ℕ) (c : BelowFilled t) (ns : List ℕ) → BelowAskedBy t (
 below-inner t c ns q = record { came = c .fill-frames .ensures ns (down-asked q (below-read t c .kid-of .result) (below-read t c .kid-of .ensures) (c .before .before .before .before .before .if1 .left)) }
 
 -- the child is one of the table's rows
-below-early : (t : ℕ) (c : BelowRead t) → c .kid-of .result < 16384
+below-early : (t : ℕ) (c : BelowRead t) → c .kid-of .result < mostRows
 below-early t c = omega (arith, down-falls (below-asked t c) (c .kid-of .result) (c .kid-of .ensures), below-asked t c .row-used, below-asked t c .ready .finding .few)
 
 below-cast-i : (t : ℕ) → fill-below-lts.Need-cast-i (below-claims t) (fill-below-at t) fill-below.Post
@@ -226,7 +227,7 @@ frames-inner : (t : ℕ) (c : FramesFilled t) (ns : List ℕ) → FramesAskedBy 
 frames-inner t c ns q = record { came = c .fill-below .ensures ns (down-asked q (frames-read t c .kid-of .result) (frames-read t c .kid-of .ensures) (c .before .before .before .before .before .if1 .left)) }
 
 -- the child is one of the table's rows
-frames-early : (t : ℕ) (c : FramesRead t) → c .kid-of .result < 16384
+frames-early : (t : ℕ) (c : FramesRead t) → c .kid-of .result < mostRows
 frames-early t c = omega (arith, down-falls (frames-asked t c) (c .kid-of .result) (c .kid-of .ensures), frames-asked t c .row-used, frames-asked t c .ready .finding .few)
 
 frames-cast-i : (t : ℕ) → fill-frames-lts.Need-cast-i (frames-claims t) (fill-frames-at t) fill-frames.Post

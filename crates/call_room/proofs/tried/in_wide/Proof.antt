@@ -1,6 +1,7 @@
 -- `tried::in_wide` meets its contract: each array of its room is as long as it must be.
 use mathlib.Core.Path.{refl}
 use native.Mathlib.Omega.{arith}
+use Rattle.model.specs.Limits.{mostRows}
 use Rattle.model.proofs.Laws.Lent.{listsFit-facts}
 use Rattle.sound.proofs.Laws.Rooms.{words-few, room-for}
 use borrow.Author.Needs.{needs}
@@ -26,7 +27,7 @@ call-in-requires : tie.Need-call-in-requires
 call-in-requires c κs =
     let s = c .before .before .before .before .before .before .before .before .before .before .before .before in
     let f = listsFit-facts (s .args .lists) (s .pre .1) in
-    (s .pre .0, s .pre .1, s .pre .2, room-for 16384 (words-few (s .args .words .now) (s .pre .0)) refl (omega arith) (omega arith) refl refl (omega (arith, f .rules)) refl refl, omega (arith, f .rules))
+    (s .pre .0, s .pre .1, s .pre .2, room-for mostRows (words-few (s .args .words .now) (s .pre .0)) refl (omega arith) (omega arith) refl refl (omega (arith, f .rules)) refl refl, omega (arith, f .rules))
 
 same-length : tie.Need-same-length
 same-length c = search needs

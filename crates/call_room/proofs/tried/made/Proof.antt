@@ -52,8 +52,8 @@ returns-2 c =
     let y = c .before .before .lists-fit in
     called-lists (s .args .words .now) (s .args .lists) (callOf (s .args .said) (s .args .symbols .now)) (c .refuse2 .result) (size-true (c .before .before .before)) (sym (y .ensures) ∙ not-true (y .result) (c .before .if2 .taken)) (c .refuse2 .ensures .0) (c .refuse2 .ensures .1)
 
-is-small-requires : tie.Need-is-small-requires
-is-small-requires c κs = search needs
+is-short-requires : tie.Need-is-short-requires
+is-short-requires c κs = search needs
 
 tried-more-requires : tie.Need-tried-more-requires
 tried-more-requires c κs =
@@ -69,7 +69,7 @@ returns-3 c = search needs
 first-few-requires : tie.Need-first-few-requires
 first-few-requires c κs =
     let e = c .before .before .before in
-    let z = c .before .before .is-small in
+    let z = c .before .before .is-short in
     let k = z .ensures (not-false (z .result) (c .before .if3 .left)) in
     (size-true (e .before .before), lists-true e, k .0, k .1)
 
@@ -120,7 +120,7 @@ made-spec =
     refuse-requires-2
     same-length-2
     returns-2
-    is-small-requires
+    is-short-requires
     tried-more-requires
     same-length-3
     returns-3

@@ -8,6 +8,7 @@ use lib.ListN.{length, take, replicate}
 use lib.Seq.{length-take-le}
 use borrow.Author.Needs.{needs}
 use borrow.Author.Tests.{not-true, not-false}
+use Rattle.model.specs.Limits.{mostRules}
 use Rattle.model.specs.Listing.{ruleIn}
 use Rattle.model.specs.Entry.{loadedBy}
 use Rattle.model.proofs.Laws.RulesRead.{behind-less}
@@ -49,7 +50,7 @@ tested r =
 loop-holds : tie.Need-loop-holds Inv-loop μ-loop
 loop-holds c =
     let a = c .before .before .before .args in
-    (reading-first (a .counts .now) (a .finals .now) (a .bytes .now), keyed-first (a .counts .now) (length (a .finals .now)) (a .bytes .now) (replicate 256 0) refl)
+    (reading-first (a .counts .now) (a .finals .now) (a .bytes .now), keyed-first (a .counts .now) (length (a .finals .now)) (a .bytes .now) (replicate mostRules 0) refl)
 
 refused-requires : tie.Need-refused-requires Inv-loop μ-loop
 refused-requires c κs = search needs

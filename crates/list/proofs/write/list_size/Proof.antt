@@ -8,7 +8,7 @@ use lib.ListN.{length, getD, take, drop, length-drop}
 use borrow.Author.Needs.{needs}
 use Rattle.model.specs.Listing.{ruleBlocks}
 use Rattle.model.proofs.Laws.Listing.{length-emitted}
-use Rattle.list.specs.Flat.{flatRules, flatWidth, flatAutomaton}
+use Rattle.list.specs.Flat.{ruleWidth, flatRules, flatWidth, flatAutomaton}
 use Rattle.list.proofs.Flat.{others, length-more, blocks-none, blocks-few}
 use Rattle.list.proofs.write.list_size.Statement.{statement}
 use Rattle.list.proofs.write.list_size.Tie as tie
@@ -56,8 +56,8 @@ part-left-end c = search needs
 loop-less : tie.Need-loop-less Inv-loop μ-loop
 loop-less c =
     let us : List ℕ = c .before .before .before .before .loop .left .now in
-    let some : 6 ≤ length us = c .before .before .before .loop-test .taken in
-    let less : length (take (length us - 6) (drop 6 us)) < length us = omega (arith, length-drop 6 us, ap length (others us some)) in
+    let some : ruleWidth ≤ length us = c .before .before .before .loop-test .taken in
+    let less : length (take (length us - ruleWidth) (drop ruleWidth us)) < length us = omega (arith, length-drop ruleWidth us, ap length (others us some)) in
     less
 
 loop-again : tie.Need-loop-again Inv-loop μ-loop
@@ -67,12 +67,12 @@ loop-again c =
     let s = l .before .before .before .before in
     let us : List ℕ = l .loop .left .now in
     let ns : List ℕ = s .args .counts .now in
-    let some : 6 ≤ length us = w .before .before .loop-test .taken in
+    let some : ruleWidth ≤ length us = w .before .before .loop-test .taken in
     let e : w .width .result ≡ flatWidth ns (getD us 0 0) = w .width .ensures ∙ ap (flatWidth ns) (w .before .byte-at .ensures .0) in
-    let o : take (length us - 6) (drop 6 us) ≡ drop 6 us = others us some in
+    let o : take (length us - ruleWidth) (drop ruleWidth us) ≡ drop ruleWidth us = others us some in
     let b = ap (λ (vs : List ℕ). length (ruleBlocks (flatRules ns vs))) o in
-    let fewer : length (take (length us - 6) (drop 6 us)) ≤ length (s .args .rules .now) = omega (arith, length-drop 6 us, ap length o, l .loop .inv .0) in
-    let sum : l .loop .size + (8 + w .width .result) + length (ruleBlocks (flatRules ns (take (length us - 6) (drop 6 us)))) ≡
+    let fewer : length (take (length us - ruleWidth) (drop ruleWidth us)) ≤ length (s .args .rules .now) = omega (arith, length-drop ruleWidth us, ap length o, l .loop .inv .0) in
+    let sum : l .loop .size + (8 + w .width .result) + length (ruleBlocks (flatRules ns (take (length us - ruleWidth) (drop ruleWidth us)))) ≡
     12 + length ns + length (s .args .finals .now) + length (ruleBlocks (flatRules ns (s .args .rules .now))) =
     omega (arith, l .loop .inv .1, length-more ns us some) in
     (fewer, sum)

@@ -46,8 +46,8 @@ loop-less : tie.Need-loop-less Inv-loop μ-loop
 loop-less c =
     let l : Here = c .before .before .before .before .before .before in
     let us : List ℕ = l .loop .left .now in
-    let some : 6 ≤ length us = c .before .before .before .before .before .loop-test .taken in
-    let less : length (take (length us - 6) (drop 6 us)) < length us = omega (arith, length-drop 6 us, ap length (others us some)) in
+    let some : ruleWidth ≤ length us = c .before .before .before .before .before .loop-test .taken in
+    let less : length (take (length us - ruleWidth) (drop ruleWidth us)) < length us = omega (arith, length-drop ruleWidth us, ap length (others us some)) in
     less
 
 loop-again : tie.Need-loop-again Inv-loop μ-loop
@@ -55,7 +55,7 @@ loop-again c =
     let p = c .before .before .before in
     let l : Here = p .before .before .before in
     let us : List ℕ = l .loop .left .now in
-    writing-next (l .loop .inv) (start l .pre) (p .before .before .loop-test .taken) (p .put-rule .last .1 .1 .0) (take (length us - 6) (drop 6 us)) (p .put-rule .result)
+    writing-next (l .loop .inv) (start l .pre) (p .before .before .loop-test .taken) (p .put-rule .last .1 .1 .0) (take (length us - ruleWidth) (drop ruleWidth us)) (p .put-rule .result)
     (p .put-rule .ensures .0) (p .put-rule .ensures .1) refl
 
 same-length : tie.Need-same-length Inv-loop μ-loop

@@ -5,6 +5,7 @@ use Prim.Native.Nat.{ℕ, _≤_}
 use borrow.Author.Needs.{needs, length-unmapped}
 use lib.ListN.{length}
 use lib.Seq.{length-take-le}
+use Rattle.model.specs.Limits.{mostContexts}
 use Rattle.step_end.proofs.Laws.Finished.{Arrays, few-letters, settling, finished}
 use Rattle.step_end.proofs.finish.finish.Statement.{statement}
 use Rattle.step_end.proofs.finish.finish.Tie as tie
@@ -26,7 +27,7 @@ arrays s =
       counts = search needs;
       s = search needs;
       t = search needs;
-      c = length-unmapped ℕ (s .args .lists .c) 289 (s .good .1 .0 .1 .1 .1 .1 .1 .1 .1 .1 .1 .1 .0 .1 .0 .1);
+      c = length-unmapped ℕ (s .args .lists .c) mostContexts (s .good .1 .0 .1 .1 .1 .1 .1 .1 .1 .1 .1 .1 .0 .1 .0 .1);
     }
 
 letters : (s : Start) → s .args .lists .letters ≤ length (s .args .lists .counts)

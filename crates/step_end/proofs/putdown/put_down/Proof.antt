@@ -7,6 +7,7 @@ use native.Mathlib.Omega.{arith}
 use borrow.Author.Needs.{needs, length-unmapped}
 use lib.ListN.{length}
 use lib.Seq.{length-take-le}
+use Rattle.model.specs.Limits.{mostContexts}
 use Rattle.model.specs.Store.{Frame, fill}
 use Rattle.model.specs.Entry.{tablesOf}
 use Rattle.model.specs.declared.Lists.{Lists}
@@ -78,7 +79,7 @@ arrays s =
       counts = search needs;
       s = search needs;
       t = search needs;
-      c = length-unmapped ℕ (s .args .lists .c) 289 (s .good .1 .0 .1 .1 .1 .1 .1 .1 .1 .1 .1 .1 .0 .1 .0 .1);
+      c = length-unmapped ℕ (s .args .lists .c) mostContexts (s .good .1 .0 .1 .1 .1 .1 .1 .1 .1 .1 .1 .1 .0 .1 .0 .1);
     }
 
 letters : (s : Start) → s .args .lists .letters ≤ length (s .args .lists .counts)

@@ -7,6 +7,7 @@ use native.Mathlib.Omega.{arith}
 use borrow.Author.Tests.{not-true, not-false}
 use borrow.Author.Needs.{needs, length-unmapped}
 use lib.ListN.{length}
+use Rattle.model.specs.Limits.{mostContexts}
 use Rattle.step_end.specs.Stepping.{contextIn}
 use Rattle.step_end.proofs.putdown.with_context.Statement.{statement}
 use Rattle.step_end.proofs.putdown.with_context.Tie as tie
@@ -20,7 +21,7 @@ cast-is-among c = search needs
 is-among-requires : tie.Need-is-among-requires
 is-among-requires c κs =
     let s = c .before .before in
-    let e : length (s .args .lists .c) ≡ 289 = length-unmapped ℕ (s .args .lists .c) 289 (s .good .0 .1 .1 .1 .1 .1 .1 .1 .1 .1 .1 .0 .1 .0 .1) in
+    let e : length (s .args .lists .c) ≡ mostContexts = length-unmapped ℕ (s .args .lists .c) mostContexts (s .good .0 .1 .1 .1 .1 .1 .1 .1 .1 .1 .1 .0 .1 .0 .1) in
     omega (arith, s .pre)
 
 cast-left : tie.Need-cast-left

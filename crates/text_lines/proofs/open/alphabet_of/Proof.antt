@@ -8,6 +8,7 @@ use native.Mathlib.Omega.{arith}
 use borrow.Author.Needs.{needs}
 use borrow.Author.Tests.{not-true, not-false}
 use lib.ListN.{length}
+use Rattle.model.specs.Limits.{mostSymbols}
 use Rattle.text_lines.proofs.Laws.Opening.{Opening, fitsAt, alphabet-none, opened-not, opened-by, opening-first, opening-short, opening-stop, opening-room, opening-digit, opening-unparted, opening-more, opening-last}
 use Rattle.text_lines.proofs.open.alphabet_of.Statement.{statement}
 use Rattle.text_lines.proofs.open.alphabet_of.Tie as tie
@@ -73,7 +74,7 @@ returns-2 c =
 fits : (c : tie.Else2 Inv-loop μ-loop) → fitsAt (line (c .before)) (head (c .before) .loop .letters) (head (c .before) .loop .size) (at (c .before)) ≡ true
 fits c = sym (c .before .pair-fits .ensures) ∙ not-false (c .before .pair-fits .result) (c .if2 .left)
 
-room : (c : tie.Else2 Inv-loop μ-loop) → head (c .before) .loop .size < 64
+room : (c : tie.Else2 Inv-loop μ-loop) → head (c .before) .loop .size < mostSymbols
 room c = opening-room (head (c .before) .loop .inv) (three (c .before)) (fits c)
 
 element-write-letters : tie.Need-element-write-letters Inv-loop μ-loop

@@ -9,6 +9,7 @@ use borrow.Author.Needs.{needs}
 use borrow.Author.Tests.{not-true, not-false}
 use lib.ListN.{length, getD, take, drop}
 use lib.Seq.{length-take-le, getD-take}
+use Rattle.model.specs.Limits.{mostSymbols}
 use Rattle.model.specs.Base.{among}
 use Rattle.model.proofs.Laws.Scans.{among-done}
 use Rattle.list.proofs.Scan.{among-stop, among-pass}
@@ -40,7 +41,7 @@ returns c =
     let k = earlier-long s in
     sym (pair-full (earlier s) (s .args .letter) (s .args .between) (s .args .digit) (omega arith))
 
-room : (c : tie.Else1 Inv-loop μ-loop) → length (earlier (c .before)) < 64
+room : (c : tie.Else1 Inv-loop μ-loop) → length (earlier (c .before)) < mostSymbols
 room c = let k = earlier-long (c .before) in let n = c .if1 .left in omega arith
 
 is-letter-requires : tie.Need-is-letter-requires Inv-loop μ-loop
