@@ -1,5 +1,5 @@
 //! Tables whose rows fall into few buckets under the pass's multipliers (`crates/bank/src/index.rt`,
-//! `bucket`, and `crates/pass/src/lib.rt`, `mix_of`).
+//! `bucket`, and `crates/bank_t1/src/lib.rt`, `mix_of`).
 
 use crate::lent::Lent;
 use crate::random::Random;

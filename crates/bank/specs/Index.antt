@@ -1,4 +1,4 @@
--- The hash index over the used rows: bucket heads and chains, from the latest row to the first. Assumes nothing: these are definitions.
+-- The hash index over the used rows: bucket heads and chains, from the latest row to the first.
 use mathlib.Core.Path.{_≡_}
 use mathlib.Core.List.{List, [], _∷_}
 use Prim.Native.Nat.{ℕ, _+_, _*_, _/_, _%_, _≤_, _<_}
@@ -10,7 +10,7 @@ use Rattle.bank.specs.Rows.{symbolIn, kidIn, placesIn}
 use Rattle.model.specs.declared.Row.{Row}
 use Rattle.bank.specs.declared.index.Sight.{Sight}
 
--- the bucket of a symbol and four places among so many, under five multipliers
+-- the bucket of a symbol and four places, among a number of buckets, under five multipliers
 abbrev pub bucketOf : (mix : List ℕ) → (size symbol kid0 kid1 kid2 kid3 : ℕ) → ℕ
 bucketOf m z a k l n o =
     (a * getD m 0 0 + k * getD m 1 0 + l * getD m 2 0 + n * getD m 3 0 + o * getD m 4 0) % 2147483648 * z / 2147483648
@@ -21,7 +21,7 @@ bucketAt m z ws i = bucketOf m z (symbolIn ws i) (kidIn ws i 0) (kidIn ws i 1) (
 abbrev pub bucketFor : (mix : List ℕ) → (size symbol : ℕ) → (places : List ℕ) → ℕ
 bucketFor m z a ps = bucketOf m z a (getD ps 0 0) (getD ps 1 0) (getD ps 2 0) (getD ps 3 0)
 
--- so many buckets as there may be
+-- the most buckets that there may be
 abbrev pub mostBuckets : ℕ
 mostBuckets = mostRows
 
@@ -30,7 +30,7 @@ pub record Mixing (mix : List ℕ) : Type 0 where
   pub five : length mix ≡ 5
   pub small : (k : ℕ) → getD mix k 0 < 536870912
 
--- rows 1 to n - 1 are in the chains of so many buckets
+-- rows 1 to n - 1 are in the chains of the buckets
 pub record Chained (mix : List ℕ) (size : ℕ) (words : List ℕ) (n : ℕ) (head next : List ℕ) : Type 0 where
   pub heads : (h : ℕ) → h < size → getD head h 0 < n
   pub head-bucket : (h : ℕ) → h < size → (getD head h 0 ≡ 0 → ⊥) → bucketAt mix size words (getD head h 0) ≡ h

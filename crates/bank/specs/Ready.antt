@@ -1,5 +1,5 @@
 -- What helpers rely on: a good store over the lent words, the place of each row's hole, a right index; the frames along
--- an array of places; and rows written behind the used ones. Assumes nothing: these are definitions.
+-- an array of places; and rows written behind the used ones.
 use mathlib.Core.Path.{_≡_}
 use mathlib.Core.Bool.{Bool, cond}
 use mathlib.Core.List.{List, [], _∷_, _++_}

@@ -1,5 +1,5 @@
--- What adding rows comes to, and a row asked for by its places; then rows put behind the used ones, and frames filled, as the helpers have it:
--- no code reads the counts, so what they promise is of words, marks and chains alone, or of every alphabet. Assumes nothing: these are definitions.
+-- How adding rows ends, and a row asked for by its places; then rows put behind the used ones, and frames filled, as the helpers have it:
+-- no code reads the counts, so what they promise is of words, marks and chains alone, or of every alphabet.
 use mathlib.Core.Path.{_≡_}
 use mathlib.Core.Bool.{cond}
 use mathlib.Core.List.{List}

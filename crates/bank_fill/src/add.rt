@@ -15,7 +15,7 @@ use bank::rows;
 use model::Row;
 use model::limits::ROW_WIDTH;
 
-// What adding rows came to: rows ran out, or the row with the rows used afterwards.
+// How adding rows ends: rows ran out, or the row with the rows used afterwards.
 pub enum Grown {
     Full,
     At(Row, u16),
@@ -93,7 +93,7 @@ pub fn fill(
     fill_frames(words, down, row, with, used, holes, head, next, mix)
 }
 
-// The frames from a row whose entry names a place: the innermost filled with `with`, each other one with what those below it came to.
+// The frames from a row whose entry names a place: the innermost filled with `with`, each other one with the row that those below it gave.
 // Two functions that call each other, of which the compiler makes one: two levels share a frame of stack. No counts are passed, and two
 // calls of `above` keep that out of line.
 fn fill_frames(

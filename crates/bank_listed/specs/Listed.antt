@@ -1,4 +1,4 @@
--- A stack of rows in an array, as the definitions have it: newest first. Assumes nothing: these are definitions.
+-- A stack of rows in an array, as the definitions have it: newest first.
 use mathlib.Core.List.{List, []}
 use Prim.Native.Nat.{ℕ}
 use lib.ListN.{take}

@@ -1,4 +1,4 @@
-// Listed records (§1.2, §3.4): what is wrong with a list of symbols, and the row that a right one has or gets (§4.4).
+// bank: records listed by their symbols: what is wrong with one, and the row that it has or gets (§3.4, §4.4).
 ghost use mathlib.Core.Path.{_≡_};
 ghost use mathlib.Core.List.{[]};
 ghost use Prim.Native.Nat.{_≤_};

@@ -1,5 +1,4 @@
 -- The size of a row (§8.5): how many symbols its unfolded record has, and the same cut at one more than a listed record may have.
--- Assumes nothing: these are definitions.
 use mathlib.Core.Path.{_≡_}
 use mathlib.Core.Bool.{cond}
 use mathlib.Core.List.{List}

@@ -1,4 +1,5 @@
-// The size of a row's unfolded record (§8.5), counted only up to 1,025 and never by unfolding: rows are shared, so a row can stand for a huge record.
+// bank: the size of a row's unfolded record, counted up to 1,025 and never by unfolding (§8.5).
+// Rows are shared, so one row can be a huge record.
 ghost use mathlib.Core.Path.{_≡_};
 ghost use Prim.Native.Nat.{_<_};
 ghost use Rattle.model.specs.Entry.{storeOf};

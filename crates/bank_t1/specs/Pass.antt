@@ -1,5 +1,4 @@
--- T1 in one pass over the used rows (§2.3): what the helpers of the pass say of a row, what holds before it begins, what it came to.
--- Assumes nothing: these are definitions.
+-- T1 in one pass over the used rows (§2.3): what the helpers of the pass say of a row, what holds before it begins, how it ends.
 use mathlib.Core.Path.{_≡_}
 use mathlib.Core.Bool.{Bool, true, false, _&&_, _||_, not, cond}
 use mathlib.Core.List.{List, [], _∷_}

@@ -1,4 +1,5 @@
-// T1 (§2.3) in one pass over the used rows, which also marks holes and builds the index. A twin is a lookup that hits.
+// bank: T1 in one pass over the used rows, which marks the holes and builds the index (§2.3).
+// A twin is a lookup that hits.
 ghost use mathlib.Core.Path.{_≡_};
 ghost use mathlib.Core.Bool.{true, false};
 ghost use mathlib.Core.List.{[]};
@@ -16,6 +17,7 @@ use bank::index;
 use bank::index::Sight;
 use bank::rows;
 use model::Row;
+use model::limits::HOLE_SYMBOL;
 use model::limits::MOST_SYMBOLS;
 use model::limits::ROW_WIDTH;
 
@@ -44,7 +46,7 @@ fn is_hole(words: &[u32]) -> bool
     requires { ⌜ Within (now words) 0 ⌝ }
     ensures { λ r. ⌜ r ≡ isHole (nodeIn (now (words .entry)) 0) (answerIn (now (words .entry)) 0) ⌝ }
 {
-    if !index::row_is(words, Row(0), 255, [0, 0, 0, 0]) {
+    if !index::row_is(words, Row(0), HOLE_SYMBOL, [0, 0, 0, 0]) {
         return false;
     }
     rows::answer_of(words, Row(0)) == 0
@@ -157,7 +159,7 @@ fn twin_of(
     index::find_within(words, row.0, head, next, mix, h, symbol, places, most)
 }
 
-// What a pass under some multipliers came to.
+// How a pass under some multipliers ended.
 enum Passed {
     Broken,
     Crowded,

@@ -1,5 +1,4 @@
 -- What a step leaves of the lent words: a store's rows with their answers, and behind them the words as they were.
--- Assumes nothing: these are definitions.
 use mathlib.Core.Path.{_≡_}
 use mathlib.Core.List.{List}
 use Prim.Native.Nat.{ℕ, _*_}

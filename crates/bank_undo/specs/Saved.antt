@@ -1,4 +1,4 @@
--- The words past the used rows, saved and put back: the first of them at the front of what is saved. Assumes nothing: these are definitions.
+-- The words past the used rows, saved and put back: the first of them at the front of what is saved.
 use mathlib.Core.Path.{_≡_}
 use mathlib.Core.List.{List}
 use Prim.Native.Nat.{ℕ, _+_, _*_, _-_, _≤_, _<_}

@@ -1,5 +1,5 @@
-// Refused means untouched (§5.3): the rows past the used ones belong to the host, so what they held is saved before a step and put back
-// where the step runs short.
+// bank: the rows past the used ones, saved before a step and put back where the step runs short (§5.3).
+// These rows belong to the host: a refused call leaves them as they were.
 ghost use Prim.Native.Nat.{_+_, _*_, _≤_};
 ghost use lib.ListN.{length};
 ghost use Rattle.model.specs.Limits.{rowWidth};

@@ -1,4 +1,4 @@
--- What a call by value returns and leaves: what is seen, the lists, the words, each as model's Entry has it. Assumes nothing: these are definitions.
+-- What a call by value returns and leaves: what is seen, the lists, the words, each as model's Entry has it.
 use mathlib.Core.Path.{_≡_}
 use mathlib.Core.List.{List}
 use Prim.Native.Nat.{ℕ}

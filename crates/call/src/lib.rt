@@ -1,5 +1,5 @@
-// Start (§3.2), by value: 18, 17, then row 0 is the hole and the lists are those of a run that has learnt nothing. With it stands what
-// every call that changes a run returns.
+// call: start, by value, and what a call that changes a run returns (§3.2).
+// Start leaves row 0 the hole and the lists of a run that has learnt nothing; 18 and 17 refuse it.
 ghost use mathlib.Core.Path.{_≡_};
 ghost use Prim.Native.Nat.{_≤_};
 ghost use lib.ListN.{length};
@@ -12,6 +12,7 @@ use bank::rows;
 use model::Lists;
 use model::Row;
 use model::Seen;
+use model::limits::HOLE_SYMBOL;
 use model::limits::MOST_CONTEXTS;
 use model::limits::MOST_RULES;
 use model::limits::MOST_STATES;
@@ -78,7 +79,7 @@ pub fn start(words: &mut [u32], lists: Lists, counts: &[u8]) -> Done
     if !bank_t1::alphabet_fits(counts) {
         return refuse(17, lists);
     }
-    rows::write_row(words, Row(0), 255, [0, 0, 0, 0]);
+    rows::write_row(words, Row(0), HOLE_SYMBOL, [0, 0, 0, 0]);
     Done {
         seen: Seen {
             number: 0,

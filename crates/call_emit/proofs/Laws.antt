@@ -1,4 +1,4 @@
--- The laws, in reading order: a file leans on those above it.
+-- The laws, in reading order: a file uses those above it.
 pub mod Finals
 pub mod Transition
 pub mod Rule

@@ -1,4 +1,4 @@
--- The proposed automaton as bytes: a final byte for each state, six bytes for each rule. Assumes nothing: these are definitions.
+-- The proposed automaton as bytes: a final byte for each state, six bytes for each rule.
 use mathlib.Core.Path.{_≡_}
 use mathlib.Core.Bool.{cond}
 use mathlib.Core.List.{List}

@@ -1,4 +1,5 @@
-// Emitting (§3.7), by value: 18, 30, 31, 20, then the list of the proposed automaton (§6.1); the bytes past it stay.
+// call: emitting, by value: 18, 30, 31, 20, then the list of the proposed automaton (§3.7).
+// The bytes past the list stay.
 ghost use mathlib.Core.Path.{_≡_};
 ghost use mathlib.Core.Bool.{true};
 ghost use Prim.Native.Nat.{ℕ, _+_, _*_, _<_, _≤_};

@@ -1,4 +1,4 @@
--- The lines of an offer that need no table (§5.3): 31, 11 to 16. Assumes nothing: these are definitions.
+-- The lines of an offer that need no table (§5.3): 31, 11 to 16.
 use mathlib.Core.Path.{_≡_}
 use mathlib.Core.List.{List}
 use Prim.Native.Nat.{ℕ, _≤_}

@@ -1,4 +1,4 @@
-// The lines that refuse an offer to sound tables (§5.3): 31, 11 to 16, 32, 33, the first that applies.
+// call: the lines that refuse an offer to sound tables: 31, 11 to 16, 32, 33, the first that applies (§5.3).
 ghost use mathlib.Core.Path.{_≡_};
 ghost use mathlib.Core.Bool.{true};
 ghost use Rattle.model.specs.Calls.{offerFault, verdictIs};

@@ -1,4 +1,4 @@
--- What the archive said, as a call of model (§3.4, §3.5). Assumes nothing: this is a definition.
+-- What the archive said, as a call of model (§3.4, §3.5).
 use mathlib.Core.List.{List}
 use Prim.Native.Nat.{ℕ}
 use Rattle.model.specs.Calls.{Call, answers, offers}

@@ -1,4 +1,4 @@
-// An answer or an offer to tables of a size that fits, in the room lent: 30, the lines of its own (§5.3), then what it comes to.
+// call: one answer or offer, given its working memory: 30, the lines of its own, then the step (§5.3).
 ghost use mathlib.Core.Path.{_≡_};
 ghost use mathlib.Core.Bool.{true};
 ghost use Prim.Native.Nat.{_+_, _*_, _≤_};

@@ -1,4 +1,5 @@
-// Looking (§3.3), on any words and any lists: 18, 30, then the phase, the open row and the counts.
+// call: looking, and what the other calls tell as looking does (§3.3).
+// 18, 30, then the phase, the open row and the counts, on any words and any lists.
 ghost use mathlib.Core.Path.{_≡_};
 ghost use mathlib.Core.Bool.{true};
 ghost use Prim.Native.Nat.{_*_, _<_, _≤_};

@@ -1,4 +1,4 @@
--- What a call tried with part of the rows returns and leaves. Assumes nothing: this is a definition.
+-- What a call tried with part of the rows returns and leaves.
 use mathlib.Core.Path.{_≡_}
 use mathlib.Core.List.{List}
 use Prim.Native.Nat.{ℕ, _≤_}

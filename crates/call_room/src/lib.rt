@@ -1,4 +1,5 @@
-// The calls on a run (§3), by value: words by reference, lists in and out. A refusal returns its number and leaves both as they were.
+// call: offers, answers and acceptance, by value, each in as much working memory as its tables need (§3).
+// Words by reference, lists in and out. A refusal returns its number and leaves both as they were.
 ghost use mathlib.Core.Path.{_≡_};
 ghost use Rattle.model.specs.Calls.{answers, offers, accept as acceptCall};
 ghost use Rattle.step_end.specs.Stepping.{accepting as acceptingOf};

@@ -1,4 +1,4 @@
-// An answer or an offer that no line refuses (§3.4, §3.5): stored, then the step; where it runs short, the words are put back.
+// call: an answer or an offer that no line refuses: stored, then the step; where it runs short, all is put back (§3.4, §3.5).
 ghost use mathlib.Core.Path.{_≡_};
 ghost use mathlib.Core.Bool.{true};
 ghost use Prim.Native.Nat.{_+_, _*_, _≤_};

@@ -1,4 +1,5 @@
-// The calls that a host makes, from C and Rust: thin functions over the calls by value. Nothing is required of what a host lends.
+// products: the calls that a host makes from C and Rust: thin functions over the calls by value (§3).
+// Nothing is required of what a host lends.
 ghost use mathlib.Core.Path.{_≡_};
 ghost use Rattle.model.specs.Calls.{offers, answers, accept as acceptCall, looks};
 ghost use Rattle.model.specs.Entry.{startSeen, startWords, startLists, callSeen, callWords, callLists, emitSeen, emitOut, loadSeen};

@@ -154,7 +154,7 @@ rules-front (suc n) ns xs ys l =
 pub flat-part : (n : ℕ) (ns us : List ℕ) → ruleWidth * n ≤ length us → flatRules ns (take (ruleWidth * n) us) ≡ flatRulesIn n ns us
 flat-part n ns us l =
     let t = length-take-le (ruleWidth * n) us l in
-    let e : length (take (ruleWidth * n) us\) / ruleWidth ≡ n = omega arith in
+    let e : length (take (ruleWidth * n) us) / ruleWidth ≡ n = omega arith in
     ap (λ (k : ℕ). flatRulesIn k ns (take (ruleWidth * n) us)) e ∙ sym (rules-front n ns (take (ruleWidth * n) us) (drop (ruleWidth * n) us) (omega arith)) ∙
     ap (flatRulesIn n ns) (take-append-drop (ruleWidth * n) us)
 

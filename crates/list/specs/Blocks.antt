@@ -1,4 +1,4 @@
--- Rule blocks in a row (§6.1), as the reader walks them. Assumes nothing: these are definitions.
+-- Rule blocks in a row (§6.1), as the reader walks them.
 use mathlib.Core.Bool.{Bool, _&&_, not}
 use mathlib.Core.List.{List, [], _∷_}
 use Prim.Native.Nat.{ℕ, zero, suc, _+_, _*_, min}

@@ -1,5 +1,4 @@
 -- Rules given flat, six numbers a rule: symbol, four child states of which the places not needed hold anything, target.
--- Assumes nothing: these are definitions.
 use mathlib.Core.List.{List, [], _∷_}
 use Prim.Native.Nat.{ℕ, zero, suc, _*_, _/_, _≤_, min}
 use lib.ListN.{length, getD, take, drop}

@@ -1,4 +1,4 @@
--- Bytes over those that stand at a place: the ones before stay, and the ones behind. Assumes nothing: this is a definition.
+-- Bytes over those that stand at a place: the ones before stay, and the ones behind.
 use mathlib.Core.List.{List, _++_}
 use Prim.Native.Nat.{ℕ, _+_}
 use lib.ListN.{length, take, drop}

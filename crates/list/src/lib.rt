@@ -1,4 +1,5 @@
-// The emitted list (§6): blocks read and written, each function equal to a definition of model.
+// list: the emitted list: blocks read and written (§6).
+// Each function is equal to a definition of model.
 mod blocks;
 mod read;
 mod write;

@@ -1,4 +1,4 @@
--- What the view shows (§6.3): lookups of any bytes, block by block; of bytes that are no list it shows none. Assumes nothing: these are definitions.
+-- What the view shows (§6.3): lookups of any bytes, block by block; of bytes that are no list it shows none.
 use mathlib.Core.Path.{_≡_}
 use mathlib.Core.List.{List, [], _∷_}
 use mathlib.Core.Option.{Option, none, some}

@@ -1,4 +1,5 @@
-// A loaded list, shown over a host's bytes (§6.3) without being copied, each function equal to a definition of model.
+// list: a loaded list, shown over a host's bytes without being copied (§6.3).
+// Each function is equal to a definition of model.
 mod held;
 mod lookup;
 

@@ -1,4 +1,4 @@
--- Partial deterministic bottom-up tree automata (§1.4) and their one run, on trees, on stored rows and on listed records. Assumes nothing: these are definitions.
+-- Partial deterministic bottom-up tree automata (§1.4) and their one run, on trees, on stored rows and on listed records.
 use mathlib.Core.Bool.{Bool, true, false, _&&_, _||_, not, cond}
 use mathlib.Core.List.{List, [], _∷_}
 use mathlib.Core.Option.{Option, none, some}

@@ -1,4 +1,4 @@
--- The calls on a run (§3): refused by the first line that applies (§5.3), or taken. Assumes nothing: these are definitions.
+-- The calls on a run (§3): refused by the first line that applies (§5.3), or taken.
 use mathlib.Core.Bool.{Bool, true, false, _&&_, _||_, not, cond}
 use mathlib.Core.List.{List, [], _∷_}
 use Prim.Native.Nat.{ℕ, _+_}

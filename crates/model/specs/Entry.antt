@@ -1,4 +1,4 @@
--- What each call of a host returns and leaves (§3), over the lent words and Lists: the definitions that the contracts name. Assumes nothing: these are definitions.
+-- What each call of a host returns and leaves (§3), over the lent words and Lists: the definitions that the contracts name.
 use mathlib.Core.Bool.{Bool, true, false, _&&_, _||_, not, cond}
 use mathlib.Core.List.{List, [], _∷_, _++_}
 use Prim.Native.Nat.{ℕ, zero, suc, _+_, _*_, _/_, _%_}

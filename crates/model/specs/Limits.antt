@@ -1,4 +1,4 @@
--- The numbers of the specification (§11), each under one name. Assumes nothing: these are definitions.
+-- The numbers of the specification (§11), each under one name.
 use Prim.Native.Nat.{ℕ, _*_}
 
 -- an alphabet has 1 to 64 symbols of at most 4 children (§1.1)

@@ -1,5 +1,4 @@
 -- Sound tables as facts: T1 to T5, and one of three phases; nearly sound ones, which a step leaves, may fail T4's last clause alone.
--- Assumes nothing: these are definitions.
 use mathlib.Core.Path.{_≡_}
 use mathlib.Core.Logic.{_⊎_}
 use mathlib.Core.Bool.{false}

@@ -1,5 +1,4 @@
 -- What is promised of the definitions (§7.3), in the order of the demands. Each promise is a type; a term of it in proofs/Promises is its proof.
--- Assumes nothing: these are definitions.
 use mathlib.Core.Path.{_≡_}
 use mathlib.Core.Logic.{_≢_, _⊎_}
 use mathlib.Core.Bool.{Bool, true, false, _&&_, not, cond}

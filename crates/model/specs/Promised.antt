@@ -1,4 +1,4 @@
--- Every promise at once, in the order of the demands (§7.3): one record, of which proofs/Promises/All.antt has the one value. Assumes nothing.
+-- Every promise at once, in the order of the demands (§7.3): one record, of which proofs/Promises/All.antt has the one value.
 use Rattle.model.specs.Promise.{RefusedUntouched, ReadsUntouched, UnsoundRefused, SoundMeans, StaysSound, StaysNearlySound, SearchEnds, TakenWhenDue, CountsTold, Ordered, AskedOnce, AnswersTaken, OneAutomaton, ListBack, Vouched, GrowsEach, LearnsEach, TakenAlone}
 use Rattle.model.specs.Worked.{Runs, Corners, PremisesHold}
 

@@ -1,4 +1,4 @@
--- A whole run (§7): the list of calls on the lent tables, what is taken, said, asked and shown along it. Assumes nothing: these are definitions.
+-- A whole run (§7): the list of calls on the lent tables, what is taken, said, asked and shown along it.
 use mathlib.Core.Bool.{Bool, true, false, _&&_, _||_, not, cond}
 use mathlib.Core.List.{List, [], _∷_, _++_}
 use Prim.Native.Nat.{ℕ, zero, suc, _+_}

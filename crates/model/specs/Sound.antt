@@ -1,4 +1,4 @@
--- Sound tables (§2.3): T1 to T8, one definition each. Assumes nothing: these are definitions.
+-- Sound tables (§2.3): T1 to T8, one definition each.
 use mathlib.Core.Bool.{Bool, true, false, _&&_, _||_, not, cond}
 use mathlib.Core.List.{List, [], _∷_, map}
 use Prim.Native.Nat.{ℕ, zero, suc, _+_, _-_}

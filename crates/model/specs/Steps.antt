@@ -1,4 +1,4 @@
--- The steps (§4) in their order of choices, and how each ends. Assumes nothing: these are definitions.
+-- The steps (§4) in their order of choices, and how each ends.
 use mathlib.Core.Bool.{Bool, true, false, _&&_, _||_, not, cond}
 use mathlib.Core.List.{List, [], _∷_, _++_}
 use mathlib.Core.Option.{Option, none, some}

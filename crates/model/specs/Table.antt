@@ -1,4 +1,4 @@
--- The observation table (§1.5): stored records with their answers, S, T and C, and the automaton that it proposes. Assumes nothing: these are definitions.
+-- The observation table (§1.5): stored records with their answers, S, T and C, and the automaton that it proposes.
 use mathlib.Core.Bool.{Bool, true, false, _&&_, _||_, not, cond}
 use mathlib.Core.List.{List, [], _∷_, map}
 use Prim.Native.Nat.{ℕ, zero, suc, _+_}

@@ -1,4 +1,4 @@
--- The rules of the table as facts (§2.3), for the laws and for the contracts between our crates; as tests they are in Sound. Assumes nothing: these are definitions.
+-- The rules of the table as facts (§2.3), for the laws and for the contracts between our crates; as tests they are in Sound.
 use mathlib.Core.Path.{_≡_}
 use mathlib.Core.Logic.{_≢_, _⊎_}
 use mathlib.Core.Bool.{Bool, true, false, not}
@@ -105,7 +105,7 @@ module _ (x : Store) (w s t cs : List ℕ) where
     pub small : answerAt w h ≤ 2
     pub against-it : proposedVerdict (proposedState h) ≡ not (eqb (answerAt w h) 2)
 
-  -- T1 to T6 with nothing missing, as far as the search leans on them
+  -- T1 to T6 with nothing missing, as far as the search uses them
   pub record Full : Type 0 where
     pub good : Good x
     pub shaped : Shaped x (answersOf x w cs) s t

@@ -1,10 +1,10 @@
--- The worked runs (§9) as one claim about the definitions: line by line, the record asked, the rows used, the refusals, the bytes. Assumes nothing.
+-- The worked runs (§9) as one claim about the definitions: line by line, the record asked, the rows used, the refusals, the bytes.
 use mathlib.Core.Path.{_≡_}
 use mathlib.Core.Bool.{Bool, true}
 use mathlib.Core.List.{List, [], _∷_, _++_}
 use Prim.Native.Nat.{ℕ, _+_, _*_}
 use lib.ListN.{length, getD, take, drop, replicate}
-use Rattle.model.specs.Limits.{rowWidth, mostContexts, mostListed, mostRows, mostRules, mostStates, mostSymbols}
+use Rattle.model.specs.Limits.{holeSymbol, rowWidth, mostContexts, mostListed, mostRows, mostRules, mostStates, mostSymbols}
 use Rattle.model.specs.Base.{all}
 use Rattle.model.specs.Automata.{Automaton, isDeterministic}
 use Rattle.model.specs.Listing.{Read, loaded, readList}
@@ -115,7 +115,7 @@ abbrev pub emitting : Lent → (room : ℕ) → Emitted
 emitting l r = emitSeen (l .words) (l .lists) (replicate r 9)
 
 pub record Starts : Type 0 where
-  pub first-row : startWords (oldWords 2) counts ≡ (255 ∷ 0 ∷ 0 ∷ 0 ∷ 0 ∷ 0 ∷ []) ++ replicate 6 7
+  pub first-row : startWords (oldWords 2) counts ≡ (holeSymbol ∷ 0 ∷ 0 ∷ 0 ∷ 0 ∷ 0 ∷ []) ++ replicate rowWidth 7
   pub lists :
       startLists (oldWords 2) counts oldLists ≡
       record {

@@ -1,4 +1,5 @@
-// What a host lends and what a call returns. No function stands here: specs/ says what the calls do, proofs/ what is proved of it.
+// model: what a host lends and what a call returns; the definitions of the calls, the laws about them and the promises.
+// No function is here: specs/ has the definitions, proofs/ the laws and the proofs of the promises.
 use limits::MOST_CONTEXTS;
 use limits::MOST_RULES;
 use limits::MOST_STATES;

@@ -3,6 +3,9 @@
 // An alphabet has 1 to this many symbols (§1.1).
 pub const MOST_SYMBOLS: usize = 64;
 
+// The symbol of row 0, the hole, which no alphabet has (§2.1).
+pub const HOLE_SYMBOL: u32 = 255;
+
 // Numbers in a row of the record table: symbol, answer, four children (§2.1).
 pub const ROW_WIDTH: usize = 6;
 

@@ -1,4 +1,4 @@
--- What the probes return and leave: T1 behind the test of the size, and where it holds what model defines. Assumes nothing: these are definitions.
+-- What the probes return and leave: T1 behind the test of the size, and where it holds what model defines.
 use mathlib.Core.Path.{_≡_}
 use mathlib.Core.Bool.{Bool, true, false, _&&_, cond}
 use mathlib.Core.List.{List, []}

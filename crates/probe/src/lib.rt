@@ -1,4 +1,5 @@
-// For tests alone: the calls by which the second program in harness/ runs the functions over the record table, on whatever it lends.
+// products: the functions of the bank as calls that require nothing, for tests alone.
+// The second program in harness/ runs them on whatever it lends.
 ghost use mathlib.Core.Path.{_≡_};
 ghost use mathlib.Core.Bool.{true};
 ghost use mathlib.Core.List.{[], _∷_};
@@ -16,7 +17,7 @@ use model::Row;
 use model::limits::MOST_ROWS;
 use model::limits::ROW_WIDTH;
 
-// What adding rows came to: 0 rows ran out, 1 the row and the rows used afterwards, 2 refused.
+// How adding rows ended: 0 rows ran out, 1 the row and the rows used afterwards, 2 refused.
 #[repr(C)]
 pub struct Reply {
     pub code: u8,
@@ -149,7 +150,7 @@ fn refused() -> Reply
     }
 }
 
-// What adding rows came to, as numbers.
+// How adding rows ended, as numbers.
 fn reply_of(grown: Grown) -> Reply
     ensures { λ r. ⌜ r ≡ saidOf grown ⌝ }
 {

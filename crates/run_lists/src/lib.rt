@@ -1,4 +1,4 @@
-// Members of the run's lists (§2.2): a number looked for among the first numbers of a slice, repeats, inclusion.
+// run: numbers looked for in the run's lists: members, repeats, inclusion (§2.2).
 // Proved equal to model's tests on lists.
 ghost use mathlib.Core.Path.{_≡_};
 ghost use Prim.Native.Nat.{_+_, _<_, _≤_};

@@ -1,5 +1,4 @@
 -- Where a line ends (§8.1): at its newline, or at the end of the input; cut there, the lines are the script's.
--- Assumes nothing: these are definitions and a statement.
 use mathlib.Core.Path.{_≡_}
 use mathlib.Core.Bool.{cond}
 use mathlib.Core.List.{List, [], _∷_}

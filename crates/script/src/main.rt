@@ -1,4 +1,4 @@
-// The script program (§8): reads standard input, hands each line to the library and writes its reply.
+// products: the script program: it hands each line of standard input to the reply function and writes the reply (§8).
 ghost use mathlib.Core.Path.{_≡_};
 ghost use Prim.Native.Nat.{_≤_};
 ghost use lib.ListN.{length};

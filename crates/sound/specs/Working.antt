@@ -1,4 +1,4 @@
--- The soundness test in its parts (§2.3), and what it leaves for a step to work with. Assumes nothing: these are definitions.
+-- The soundness test in its parts (§2.3), and what it leaves for a step to work with.
 use mathlib.Core.Path.{_≡_}
 use mathlib.Core.Bool.{Bool, false, _&&_, _||_, not, cond}
 use mathlib.Core.List.{List}

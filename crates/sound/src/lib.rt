@@ -1,4 +1,4 @@
-// The soundness test whole (§2.3), on any words and any lists, and what it leaves for a step to work with.
+// sound: the soundness test whole, on any words and any lists, and what it leaves for a step (§2.3).
 ghost use mathlib.Core.Path.{_≡_};
 ghost use mathlib.Core.Bool.{true, false};
 ghost use Prim.Native.Nat.{ℕ, _*_, _<_, _≤_};

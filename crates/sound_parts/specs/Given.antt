@@ -1,5 +1,4 @@
 -- The tables that a call is given, by their parts, and the parts of the soundness test in the order in which a call makes them.
--- Assumes nothing: these are definitions.
 use mathlib.Core.Path.{_≡_}
 use mathlib.Core.Bool.{Bool, true, false, _&&_, _||_, not, cond}
 use mathlib.Core.List.{List, map}

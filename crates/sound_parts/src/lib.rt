@@ -1,4 +1,4 @@
-// Looking (§3.3), and the soundness test with which every call begins (§2.3), on any words and any lists.
+// sound: the sizes of words and lists, and T2 to T8 in parts (§2.3).
 ghost use mathlib.Core.Path.{_≡_};
 ghost use Rattle.model.specs.Entry.{listsFit, sizeFits, refused};
 use model::Lists;

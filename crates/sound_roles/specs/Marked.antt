@@ -1,4 +1,4 @@
--- Records and contexts by the marks of holes, and the lists of a run tested by them. Assumes nothing: these are definitions.
+-- Records and contexts by the marks of holes, and the lists of a run tested by them.
 use mathlib.Core.Bool.{Bool, _&&_, not}
 use mathlib.Core.List.{List}
 use Prim.Native.Nat.{ℕ, _+_}

@@ -1,5 +1,5 @@
-// What S, T and C are made of (§2.3), over a record table that T1 has passed: T2, T3, and T4 but for its last clause.
-// Each function is equal to a definition over the marks of holes; proofs/Laws say that these are model's.
+// sound: which rows are records and contexts: T2, T3, and T4 without its last clause (§2.3).
+// Each function is equal to a definition over the marks of holes; proofs/Laws show that these are model's, where T1 holds.
 ghost use mathlib.Core.Path.{_≡_};
 ghost use mathlib.Core.Bool.{_&&_};
 ghost use Prim.Native.Nat.{_+_, _<_, _≤_};

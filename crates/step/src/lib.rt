@@ -1,5 +1,5 @@
-// A step (§4): with a record in hand the search goes on, with none the first unknown is asked. Each function mirrors its definition in
-// model's Steps.
+// step: one step over the lent words and lists, with a record in hand or with none (§4).
+// Each function mirrors its definition in model's Steps.
 ghost use mathlib.Core.Path.{_≡_};
 ghost use Prim.Native.Nat.{_+_, _*_, _≤_};
 ghost use lib.ListN.{length};

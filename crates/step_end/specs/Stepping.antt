@@ -1,4 +1,4 @@
--- A step over the lent words and lists (§4): what it needs, and what it came to. Assumes nothing: these are definitions.
+-- A step over the lent words and lists (§4): what it needs, and how it ended.
 use mathlib.Core.Path.{_≡_}
 use mathlib.Core.Bool.{Bool, true, cond}
 use mathlib.Core.List.{List}

@@ -9,7 +9,7 @@ use model::Row;
 use model::limits::MOST_STATES;
 use step_settle::Step;
 
-// What a step came to: the number of a shortage, or 0 and the lists left.
+// How a step ended: the number of a shortage, or 0 and the lists left.
 pub struct Stepped {
     pub number: u8,
     pub lists: Lists,
@@ -50,14 +50,13 @@ fn proposing(lists: Lists, s: [u16; MOST_STATES], states: u8) -> Lists
     left
 }
 
-// What settling came to, as a shortage or as lists.
+// How settling ends, as a shortage or as lists.
 fn left_by(step: Step, lists: Lists, s: [u16; MOST_STATES]) -> Stepped
     ensures { λ r. ⌜ FinishedAs lists step s r ⌝ }
 {
     match step {
         Step::NoRows => short(34, lists),
         Step::NoStates => short(35, lists),
-        Step::NoRules => short(36, lists),
         Step::Asks(row, n) => Stepped {
             number: 0,
             lists: asking(lists, 0, row, n),

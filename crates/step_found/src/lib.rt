@@ -1,4 +1,4 @@
-// What the search with a record in hand found (§4.1): a record to ask about, a transition that is missing, or answers that differ.
+// step: what the search in hand found: a question, a missing transition, or answers that differ (§4.1).
 // Each end mirrors its definition in model's Steps.
 ghost use mathlib.Core.Path.{_≡_};
 ghost use Prim.Native.Nat.{_+_, _*_, _≤_, _<_};

@@ -1,5 +1,4 @@
 -- The record in hand (§4.1): for each row the way down to its leftmost innermost row outside S, and the row after the exchange.
--- Assumes nothing: these are definitions.
 use mathlib.Core.Path.{_≡_}
 use mathlib.Core.Bool.{not}
 use mathlib.Core.List.{List}

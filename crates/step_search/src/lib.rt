@@ -1,5 +1,6 @@
-// The record in hand (§4.1): its leftmost innermost row outside S is exchanged for its representative while the answers agree.
-// What a row becomes depends on the row alone, so one loop from the bottom works it out for all rows, and the turns follow that.
+// step: the search with a record in hand, one lookup a row (§4.1).
+// The leftmost innermost row outside S is exchanged for its representative while the answers agree. What a row becomes depends on the row
+// alone, so one loop from the bottom works it out for all rows, and the turns follow that.
 ghost use mathlib.Core.Path.{_≡_};
 ghost use Prim.Native.Nat.{_+_, _≤_, _<_};
 ghost use lib.ListN.{length, take};

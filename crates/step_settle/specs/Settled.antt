@@ -1,4 +1,4 @@
--- Settling (§4.2, §4.3): what it needs of the tables given, and what a step came to. Assumes nothing: these are definitions.
+-- Settling (§4.2, §4.3): what it needs of the tables given, and how it ends.
 use mathlib.Core.Path.{_≡_}
 use mathlib.Core.Bool.{true}
 use mathlib.Core.List.{List}
@@ -26,12 +26,12 @@ pub record Settling (words counts : List ℕ) (u : ℕ) (s : List ℕ) (q : ℕ)
   pub contexts : Contexts (storeOf words counts u) c m
   pub s-in-t : allAmong (take q s) (take n t) ≡ true
 
--- WHAT A STEP CAME TO: short of something, with the first rows as they were; a question, with its rows added; a proposal, with S grown.
--- A search never runs out of turns
+-- HOW SETTLING ENDS: short of rows or states, with the first rows as they were; a question, with its rows added; a proposal, with S grown.
+-- It adds no transition and makes no turn, so it runs short of neither
 abbrev pub StepAs : (words counts : List ℕ) → (u : ℕ) → (s : List ℕ) → Ended → Step → (words' s' : List ℕ) → Type 0
 StepAs ws ns u s (short ofRows) r ws' s' = (r ≡ Step.NoRows) × Kept ws u ws'
 StepAs ws ns u s (short ofStates) r ws' s' = (r ≡ Step.NoStates) × Kept ws u ws'
-StepAs ws ns u s (short ofTransitions) r ws' s' = (r ≡ Step.NoRules) × Kept ws u ws'
+StepAs ws ns u s (short ofTransitions) r ws' s' = ⊥
 StepAs ws ns u s (short ofTurns) r ws' s' = ⊥
 StepAs ws ns u s (asks y) r ws' s' =
     (r ≡ Step.Asks (record { 0 = y .asked }) (used (y .store))) × Left ws ns ws' (y .store) (y .answers) × (s' ≡ s)

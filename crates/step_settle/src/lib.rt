@@ -1,4 +1,4 @@
-// Settling (§4.2, §4.3): the first unknown answer is asked; where none is unknown, S grows and the automaton is proposed.
+// step: settling: the first unknown answer is asked; where there is none, S grows and the automaton is proposed (§4.2, §4.3).
 ghost use mathlib.Core.Path.{_≡_};
 ghost use mathlib.Core.Bool.{false};
 ghost use Prim.Native.Nat.{ℕ, _<_, _≤_};
@@ -20,11 +20,10 @@ use model::limits::MOST_STATES;
 use sound_parts::judge;
 use table::Gap;
 
-// What a step came to: short of rows, states or rules; a question, with the rows then used; or a proposal, with the states then.
+// How settling ends: short of rows or states; a question, with the rows then used; or a proposal, with the states then.
 pub enum Step {
     NoRows,
     NoStates,
-    NoRules,
     Asks(Row, u16),
     Proposes(u8),
 }

@@ -1,5 +1,4 @@
--- The table of answers (§1.5) that a call works out: 289 numbers for each transition, one for each context; S as places in T.
--- Assumes nothing: these are definitions.
+-- The table of answers (§1.5) that a call works out: `mostContexts` numbers for each transition, one for each context; S as places in T.
 use mathlib.Core.Path.{_≡_}
 use mathlib.Core.Bool.{Bool, true, false, cond}
 use mathlib.Core.List.{List, [], _∷_, map}

@@ -1,5 +1,5 @@
-// The table of answers (§1.5): rows compared, the state of a transition, the first unknown answer, the growth of S.
-// A row is 289 bytes, one for each context; transitions and representatives are places in T. Proved equal to model's Table and Steps.
+// table: the table of answers: answers compared, the state of a transition, the first unknown, the growth of S, T5 and T6 (§1.5).
+// A transition has MOST_CONTEXTS bytes, one for each context; transitions and representatives are places in T. Proved equal to model's Table and Steps.
 ghost use mathlib.Core.Path.{_≡_};
 ghost use Prim.Native.Nat.{ℕ, _+_, _*_, _<_, _≤_};
 ghost use lib.ListN.{length, getD, take};

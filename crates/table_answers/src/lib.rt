@@ -1,5 +1,6 @@
-// The answers of every transition at every context (§1.5), or up to the first gap, by columns. Proved equal to model's answersOf.
-// An array set to 0 costs time, so each comes in three sizes, and the smallest with an entry for each used row is taken.
+// table: the answers of all transitions at all contexts, whole or up to the first gap (§1.5).
+// Proved equal to model's answersOf. An array that is zeroed costs time, so each comes in three sizes, and the smallest with an entry for
+// each used row is taken.
 ghost use mathlib.Core.Path.{_≡_};
 ghost use Prim.Native.Nat.{_*_, _≤_};
 ghost use lib.ListN.{length};

@@ -1,4 +1,4 @@
--- The column of a record: for each context the row that it fills to. Assumes nothing: these are definitions.
+-- The column of a record: for each context the row that it fills to.
 use mathlib.Core.Path.{_≡_}
 use mathlib.Core.Bool.{true}
 use mathlib.Core.List.{List}

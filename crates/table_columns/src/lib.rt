@@ -1,5 +1,5 @@
-// The column of a record, for each context the row that it fills to, and the record's row of answers (§1.5), read off its column.
-// One loop over the rows with a hole gives a column: a row comes after its hole child, and is found by what that one fills to.
+// table: the answers of one transition, read off its column: one loop over the rows with a hole (§1.5).
+// A column is for each row with a hole the row that it fills to. A row comes after its hole child, and is found by what that one fills to.
 ghost use mathlib.Core.Path.{_≡_};
 ghost use mathlib.Core.Bool.{true};
 ghost use Prim.Native.Nat.{_+_, _*_, _-_, _<_, _≤_};

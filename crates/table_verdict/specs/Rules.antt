@@ -1,4 +1,4 @@
--- The hypothesis by its representatives: a state is told by the row of its representative, and 0 is none. Assumes nothing: these are definitions.
+-- The hypothesis by its representatives: a state is told by the row of its representative, and 0 is none.
 use mathlib.Core.Path.{_≡_}
 use mathlib.Core.Bool.{cond}
 use mathlib.Core.List.{List, map}

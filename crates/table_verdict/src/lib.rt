@@ -1,4 +1,4 @@
-// The hypothesis (§1.5) at work: the representative of each transition, and its verdict on stored and on listed records.
+// table: the proposed automaton at work: the representative of each transition, and the verdict on stored and on listed records (§1.5).
 // A rule is found through the index: the row with this symbol over the children's representatives, if it is a transition.
 ghost use mathlib.Core.Path.{_≡_};
 ghost use mathlib.Core.Bool.{true};

@@ -1,5 +1,4 @@
 -- The promises of records as text (§8.4), each from its law: a first line gives letters, a text is read exactly if written, what is printed is read back.
--- Assumes nothing.
 use mathlib.Core.Path.{_≡_, refl, sym, ap, _∙_}
 use mathlib.Core.Logic.{_≢_}
 use mathlib.Core.Bool.{Bool, true, false, cond}

@@ -1,4 +1,4 @@
--- What is read was written: where a reader comes to symbols and a rest, the text before the rest is the written form of a record with those symbols.
+-- What is read was written: where a reader gives symbols and a rest, the text before the rest is the written form of a record with those symbols.
 -- By induction on the readers' fuel; the table gives only symbols that have the letter and the count read.
 use mathlib.Core.Path.{_≡_, refl, sym, ap, _∙_}
 use mathlib.Core.Bool.{Bool, true, false, _&&_, cond}

@@ -1,5 +1,5 @@
 -- A record's symbols, children before parent, put on a stack give back the record.
--- By induction on the record and its children, over any stack and any symbols behind: a parent takes the children that stand on top.
+-- By induction on the record and its children, over any stack and any symbols behind: a parent takes the children on top.
 use mathlib.Core.Path.{_≡_, refl, sym, ap, _∙_}
 use mathlib.Core.List.{List, [], _∷_, _++_, append-assoc, append-nil}
 use Prim.Native.Nat.{ℕ, _+_}

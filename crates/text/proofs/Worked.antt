@@ -1,5 +1,5 @@
 -- The worked run as a script and the corners of §8, by computation.
--- Each definition unfolds to its value. Assumes nothing.
+-- Each definition unfolds to its value.
 use mathlib.Core.Path.{refl}
 use Rattle.model.specs.Base.{all, same, among, allAmong, noRepeats, anyTrue, countTrue, sum, placeOf, backwards}
 use Rattle.model.specs.Store.{foldFrom, findFrom, fill, filledRow, splitAt, downFrom}

@@ -1,4 +1,4 @@
--- The first line (§8.2): letters and one-digit child counts, alternating, parted by single spaces, no letter twice. Assumes nothing: these are definitions.
+-- The first line (§8.2): letters and one-digit child counts, alternating, parted by single spaces, no letter twice.
 use mathlib.Core.Bool.{Bool, _&&_, not, cond}
 use mathlib.Core.List.{List, [], _∷_, _++_}
 use Prim.Native.Nat.{ℕ, _-_}

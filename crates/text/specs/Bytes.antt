@@ -1,4 +1,4 @@
--- The bytes of the script (§8) by name, and numbers in decimal. Assumes nothing: these are definitions.
+-- The bytes of the script (§8) by name, and numbers in decimal.
 use mathlib.Core.Bool.{Bool, _||_, cond}
 use mathlib.Core.List.{List, [], _∷_, _++_}
 use Prim.Native.Nat.{ℕ, _+_, _*_, _/_, _%_}

@@ -1,4 +1,4 @@
--- The lines of a script: what a later line asks for (§8.3), and the line that tells a call's outcome (§8.5). Assumes nothing: these are definitions.
+-- The lines of a script: what a later line asks for (§8.3), and the line that tells a call's outcome (§8.5).
 use mathlib.Core.Bool.{Bool, _&&_, _||_, cond}
 use mathlib.Core.List.{List, [], _∷_, _++_}
 use Prim.Native.Nat.{ℕ}

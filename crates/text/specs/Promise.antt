@@ -1,4 +1,4 @@
--- What is promised of records as text (§8.4): read exactly if written, and a round trip. Assumes nothing: these are statements.
+-- What is promised of records as text (§8.4): read exactly if written, and a round trip.
 use mathlib.Core.Path.{_≡_}
 use mathlib.Core.Logic.{_≢_}
 use mathlib.Core.Bool.{true}

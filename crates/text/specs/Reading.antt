@@ -1,5 +1,4 @@
 -- Records read from text (§8.4), as the record reader and the child-list reader read them; [] for a text that is no record.
--- Assumes nothing: these are definitions.
 use mathlib.Core.Bool.{Bool, false, _&&_, cond}
 use mathlib.Core.List.{List, [], _∷_, _++_}
 use Prim.Native.Nat.{ℕ, zero, suc, _+_, _*_}
@@ -8,7 +7,7 @@ use lib.ListN.{length, getD, set, drop, replicate}
 use Rattle.model.specs.Limits.{mostChildren}
 use Rattle.text.specs.Bytes.{comma, opening, closing}
 
--- what a reader comes to: nothing, or the symbols so far, children before parent, and the rest of the text
+-- what a reader gives: nothing, or the symbols so far, children before parent, and the rest of the text
 pub data Reading : Type 0 where
   unread : Reading
   read : (symbols rest : List ℕ) → Reading

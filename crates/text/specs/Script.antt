@@ -1,4 +1,4 @@
--- The script (§8) as a function from a line and what stands between two lines to the reply and what stands after it. Assumes nothing: these are definitions.
+-- The script (§8) as a function from a line and what stands between two lines to the reply and what stands after it.
 use mathlib.Core.Bool.{cond}
 use mathlib.Core.List.{List, [], _∷_, _++_}
 use Prim.Native.Nat.{ℕ, _*_}

@@ -1,4 +1,4 @@
--- The worked run as a script (§9), byte for byte, and the corners of §8, as one claim about the definitions. Assumes nothing: these are statements.
+-- The worked run as a script (§9), byte for byte, and the corners of §8, as one claim about the definitions.
 use mathlib.Core.Path.{_≡_}
 use mathlib.Core.List.{List, [], _∷_, _++_}
 use Prim.Native.Nat.{ℕ}

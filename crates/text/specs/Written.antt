@@ -1,4 +1,4 @@
--- Records as text (§8.4): the letter, then the children in brackets with commas between. Assumes nothing: these are definitions.
+-- Records as text (§8.4): the letter, then the children in brackets with commas between.
 use mathlib.Core.Path.{_≡_}
 use mathlib.Core.List.{List, [], _∷_, _++_}
 use Prim.Native.Nat.{ℕ, suc, _<_}

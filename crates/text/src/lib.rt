@@ -1,4 +1,5 @@
-// Records and lines as text (§8). No function stands here: specs/ says how they are written and read, proofs/ what is proved of it.
+// text: how records and lines of a script are written and read: definitions, and what is promised of them (§8).
+// No function is here: specs/ has the definitions, proofs/ what is proved of them.
 use model::Lists;
 use model::limits::MOST_SYMBOLS;
 

@@ -1,4 +1,4 @@
--- What a later line asks for (§8.3). Assumes nothing: this is a definition.
+-- What a later line asks for (§8.3).
 use mathlib.Core.Bool.{_&&_, cond}
 use mathlib.Core.List.{List}
 use Prim.Native.Nat.{ℕ}

@@ -1,4 +1,4 @@
--- What reading a first line comes to. Assumes nothing: this is a definition.
+-- How reading a first line ends.
 use mathlib.Core.Path.{_≡_}
 use mathlib.Core.Bool.{true, false}
 use mathlib.Core.List.{List}

@@ -1,4 +1,4 @@
--- What telling needs: a question that is told has its row in a good store. Assumes nothing: this is a definition.
+-- What telling needs: a question that is told has its row in a good store.
 use mathlib.Core.Path.{_≡_}
 use mathlib.Core.List.{List}
 use Prim.Native.Nat.{ℕ, _<_}

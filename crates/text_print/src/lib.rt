@@ -1,4 +1,5 @@
-// Records and outcomes as text (§8.4, §8.5), written over the start of a lent room.
+// text: records and outcomes printed as text (§8.4, §8.5).
+// The text is written over the start of the room that the caller lends.
 
 pub mod print; // print.rt: the text of a row's record
-pub mod tell; // tell.rt: the line that tells what a call came to
+pub mod tell; // tell.rt: the line that tells how a call ended

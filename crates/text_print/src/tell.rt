@@ -1,4 +1,4 @@
-// The output line that tells what a call came to (§8.5), written over the start of the room for it.
+// The output line that tells how a call ended (§8.5), written over the start of the room for it.
 ghost use mathlib.Core.Path.{_≡_};
 ghost use mathlib.Core.List.{_∷_};
 ghost use Prim.Native.Nat.{_+_, _≤_, _<_};

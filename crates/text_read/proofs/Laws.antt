@@ -1,4 +1,4 @@
--- The readers over a text of which the first bytes count: what is left at a place, and what each way out of a reader comes to.
+-- The readers over a text of which the first bytes count: what is left at a place, and what each way out of a reader gives.
 -- By the steps without fuel; a symbol is written before the place that is read next, so what is left stays as it was.
 use mathlib.Core.Path.{_≡_, refl, sym, ap, _∙_}
 use mathlib.Core.Logic.{_⊎_, inl, inr}

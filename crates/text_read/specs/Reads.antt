@@ -1,4 +1,4 @@
--- What the readers need, and what they come to over the text that they write their symbols into. Assumes nothing: these are definitions.
+-- What the readers need, and what they come to over the text that they write their symbols into.
 use mathlib.Core.Path.{_≡_}
 use mathlib.Core.List.{List}
 use Prim.Native.Nat.{ℕ, _+_, _*_, _≤_, _<_}
@@ -6,7 +6,7 @@ use lib.ListN.{length, take, drop}
 use Rattle.text.specs.Bytes.{mostInput}
 use Rattle.text.specs.Reading.{Reading, unread, read}
 
--- a place in the first `len` bytes, with so many symbols written at their start
+-- a place in the first `len` bytes, with a number of symbols written at their start
 pub record Reads (text : List ℕ) (len : ℕ) (known : List ℕ) (at size : ℕ) : Type 0 where
   pub room : length text ≡ mostInput
   pub few : len ≤ mostInput

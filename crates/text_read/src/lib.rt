@@ -1,5 +1,5 @@
-// Records read from text (§8.4). The record reader and the child-list reader call each other; what is left of the text falls.
-// Symbols are written over the text that has been read: there are never more of them than bytes before them.
+// text: records read from text: the record reader and the child-list reader call each other (§8.4).
+// What is left of the text falls. Symbols are written over the text that has been read: there are never more of them than bytes before them.
 ghost use mathlib.Core.Path.{_≡_};
 ghost use Prim.Native.Nat.{_+_, _-_, _≤_};
 ghost use lib.ListN.{length, take};
@@ -7,7 +7,7 @@ ghost use Rattle.model.specs.Limits.{mostSymbols};
 ghost use Rattle.text.specs.Reading.{knownOf, balancedFrom, recordAt, listAt, closed, readText};
 ghost use Rattle.text_read.specs.Reads.{Reads, leftAt, readCode, ReadAs, TextAs};
 
-// What a reader comes to, in one number, so that it goes through a register and the stack stays small: the place after a record,
+// What a reader gives, in one number, so that it goes through a register and the stack stays small: the place after a record,
 // above the last 17 bits, and how many symbols are read; 0 for no record.
 fn upto(next: u32, size: u32) -> u64
     requires { ⌜ (next ≤ 65536) × (size ≤ 65536) ⌝ }

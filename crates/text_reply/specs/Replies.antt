@@ -1,4 +1,4 @@
--- What the reply to a line comes to: its bytes, the words and the script after it. Assumes nothing: this is a definition.
+-- The reply to a line: its bytes, the words and the script after it.
 use mathlib.Core.Path.{_≡_}
 use mathlib.Core.List.{List}
 use Prim.Native.Nat.{ℕ}

@@ -1,4 +1,5 @@
-// The reply to a line (§8): the output line, and what stands after it, from any line and any contents. Nothing is required.
+// text: the reply to any line of a script, from any contents (§8).
+// The output line and the script after it. Nothing is required.
 ghost use mathlib.Core.Path.{_≡_};
 ghost use Prim.Native.Nat.{_≤_, min};
 ghost use lib.ListN.{length, drop};

@@ -8,7 +8,7 @@ use harness::random::Random;
 /// The tables are made for the multipliers of the pass and the buckets of bank.
 #[test]
 fn multipliers_are_those_of_the_pass() {
-    let pass = include_str!("../../../crates/pass/src/lib.rt");
+    let pass = include_str!("../../../crates/bank_t1/src/lib.rt");
     let index = include_str!("../../../crates/bank/src/index.rt");
     for mix in MIXES {
         assert!(pass.contains(&format!("{mix:?}")), "{mix:?}");

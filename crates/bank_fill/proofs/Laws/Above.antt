@@ -9,6 +9,7 @@ use lib.Dec.{ltb}
 use borrow.Author.Tests.{ltb-true, ltb-false}
 use lib.ListN.{length, getD, take, drop, set, replicate, length-set}
 use lib.Seq.{take-all, take-set-lt, set-split, set-append-left, length-take-le}
+use Rattle.model.specs.Limits.{holeSymbol}
 use Rattle.model.specs.Store.{Node, Store, padded, used, nodeAt, symbolAt, countOf, kidsAt, hasHole, filledKids, rowFor}
 use Rattle.model.specs.Facts.{Good, GoodRow, FrameFits, RowAsked, None, none-nil, none-cons}
 use Rattle.model.specs.Entry.{storeOf}
@@ -42,7 +43,7 @@ place-filled p j (none-cons {ks = bs} e n) c = rw (e, place-filled p j n c) (go 
 -- A FRAME THAT FITS is around a place that the row has
 module _ (x : Store) (g : Good x) (i k : ℕ) (u : i < used x) (q : FrameFits x (frameAt x i k)) where
   pub frame-some : 0 < i
-  frame-some = by-equal i 0 (λ e. let a : symbolAt x i ≡ 255 = ap (symbolAt x) e ∙ ap (λ (r : Node). r .symbol) (g .first) in let b = q .known in let c = g .letters in omega arith) (λ e. omega arith)
+  frame-some = by-equal i 0 (λ e. let a : symbolAt x i ≡ holeSymbol = ap (symbolAt x) e ∙ ap (λ (r : Node). r .symbol) (g .first) in let b = q .known in let c = g .letters in omega arith) (λ e. omega arith)
 
   row : GoodRow x i
   row = g .row i frame-some u
@@ -107,7 +108,7 @@ module _ {ws ns : List ℕ} {n : ℕ} {hs he ne m : List ℕ} (r : Ready ws ns n
         hole-place = ap (λ (b : Bool). cond b (suc k) 0) (hole-ready r j v) ∙ sym (frame-hole x (r .good) i k u q j) ∙ ap (placeCode (hasHole x)) (sym above-kids);
       }
 
-  -- and what putting it comes to
+  -- and how putting it ends
   pub above-comes : {g : Grown} {vs hs' he' ne' : List ℕ} → Put ws n hs he ne m (symbolIn ws i) (set (placesIn ws i) k j) (holeAbove hs j k) g vs hs' he' ne' →
       Comes ws ns n (rowFor (storeOf ws ns n) (symbolAt (storeOf ws ns n) i) (filledKids (frameAt (storeOf ws ns n) i k) j)) g vs hs' he' ne' m
   above-comes p = comes-by (λ t. rowFor (storeOf ws ns n) (sym-in t) (sym above-kids t)) (put-comes r above-asks p)

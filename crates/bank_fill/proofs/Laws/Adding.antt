@@ -1,4 +1,4 @@
--- A row put: found, written, or without room for it. It comes to what `rowFor` builds, and a written row keeps `Ready`.
+-- A row put: found, written, or without room for it. It is what `rowFor` builds, and a written row keeps `Ready`.
 -- The old rows keep their words, so their holes and chains stand; the new one is unlike them, and its hole is where its children have theirs.
 use mathlib.Core.Path.{_≡_, refl, sym, ap, subst, _∙_}
 use mathlib.Core.Logic.{_⊎_, inl, inr}

@@ -1,4 +1,4 @@
--- Rows added after rows added come to what adding them at once comes to: the first rows kept, the same words behind them.
+-- Rows added after rows added are rows added at once: the first rows kept, the same words behind them.
 -- The words of the first store are the old ones with its rows behind, so the rows of the second are written behind those.
 use mathlib.Core.Path.{_≡_, refl, sym, ap, subst, _∙_}
 use mathlib.Core.List.{List, [], _++_, append-nil}
@@ -18,7 +18,7 @@ use Rattle.bank_fill.specs.declared.add.Grown.{Grown}
 use Rattle.bank_fill.specs.declared.add.Grown.the-variants.{Full, At}
 use Rattle.bank_fill.specs.Adding.{Came, grownRow}
 
--- what a call came to, as a record: its parts are known from it
+-- how adding ended, as a record: its parts are known from it
 pub record Comes (ws ns : List ℕ) (n : ℕ) (b : Built) (r : Grown) (ws' hs he ne m : List ℕ) : Type 0 where
   pub came : Came ws ns n b r ws' hs he ne m
 
@@ -97,7 +97,7 @@ module _ (ws ns : List ℕ) (n : ℕ) (y : Store) (e : Extends (storeOf ws ns n)
   comes-row {ws' = ws'} s a ks q c =
       comes-again s (λ k z p. row-is y g a ks q k z p .ext) (comes-by (ap (λ (x : Store). rowFor x a ks) (sym (s .store))) c)
 
-  -- what a call came to, taken apart
+  -- how adding ended, taken apart
   pub stage : {j u k : ℕ} {ws' hs he ne m : List ℕ} → Comes ws ns n (built k y) (grownRow j u) ws' hs he ne m → (j ≡ k) × Stage ws ns n j y u ws' hs he ne m
   stage {j} {u} {k} {ws'} {hs} {he} {ne} {m} c =
       let a : j ≡ k = ap rowIn (c .came .0) in

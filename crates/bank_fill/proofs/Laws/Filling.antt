@@ -1,4 +1,4 @@
--- Filling along an array of places: what the fill from the child came to, the row above put, and what that comes to.
+-- Filling along an array of places: how the fill from the child ended, the row above put, and how that ends.
 -- The store built so far extends the first, so rows and frames of the first stand in it as they were.
 use mathlib.Core.Path.{_≡_, refl, sym, ap, subst, _∙_}
 use mathlib.Core.List.{List, _∷_}
@@ -149,7 +149,7 @@ module _ {ws ns : List ℕ} {n : ℕ} {hs he ne m ds : List ℕ} {row i : ℕ} (
         Comes ws ns n (fill (storeOf ws ns n) (pathOf ds (storeOf ws ns n) row) i) Grown.Full vs hs' he' ne' m
     up-full c = full-on full-above c
 
-    -- what is below came to a row: the row above put
+    -- what is below gave a row: the row above put
     module _ {j u : ℕ} {ws' hs' he' ne' : List ℕ} (c : Comes ws ns n (fill (storeOf ws ns n) (pathOf ds (storeOf ws ns n) kid) i) (grownRow j u) ws' hs' he' ne' m) where
       inside : Reached ws ns n (pathOf ds (storeOf ws ns n) kid) i j u ws' hs' he' ne' m
       inside = reached ws ns n (pathOf ds (storeOf ws ns n) kid) i (q .ready .good) kid-fits (q .with-used) c

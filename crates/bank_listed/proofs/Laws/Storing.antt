@@ -62,7 +62,7 @@ module _ {ws ns : List ℕ} {u : ℕ} {xs ws' hs he ne m st : List ℕ} {h n at 
         go full e d = comes-by (sym (s .same) ∙ R.store-full (s .reading) more e) d
         go (built j z) e d = let p = d .came .0 in let q : _≡_ {A = ℕ} 0 1 = cc in absurd (omega arith)
 
-    -- its row stands on the stack
+    -- its row is on the stack
     pub storing-more : {j v : ℕ} {vs hs' he' ne' : List ℕ} →
         Comes ws' ns n (rowFor (storeOf ws' ns n) (symbolNext xs at) (kidsOf ns (symbolNext xs at) ps)) (grownRow j v) vs hs' he' ne' m →
         Storing ws ns u xs vs hs' he' ne' m (set st (h - countNext (storeOf ws' ns n) xs at) j) (h - countNext (storeOf ws' ns n) xs at + 1) v (at + 1)

@@ -1,5 +1,5 @@
 -- `bank_listed::known_row` meets its contract. The invariant: what is left to read, with the rows on the stack, is known where the whole is.
--- Each symbol's row is found or ends the search. Assumes nothing.
+-- Each symbol's row is found or ends the search.
 use mathlib.Core.Path.{_≡_, refl, sym, ap, _∙_}
 use mathlib.Core.List.{List}
 use Prim.Native.Nat.{ℕ, _-_}

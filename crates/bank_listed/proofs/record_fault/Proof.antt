@@ -1,5 +1,5 @@
 -- `bank_listed::record_fault` meets its contract. The invariant: what is left, with the trees that are ready, has the fault of the whole.
--- Each turn takes one symbol off what is left. Assumes nothing.
+-- Each turn takes one symbol off what is left.
 use mathlib.Core.Path.{_≡_, _∙_}
 use mathlib.Core.List.{List}
 use Prim.Native.Nat.{ℕ, _+_, _-_, _≤_, _<_}

@@ -1,5 +1,5 @@
 -- `bank_listed::store` meets its contract. The invariant: the rows so far stand behind the old ones, and what is left stores what the whole would.
--- Each symbol's row is found or added, or rows run out. Assumes nothing.
+-- Each symbol's row is found or added, or rows run out.
 use mathlib.Core.Path.{_≡_, refl, _∙_}
 use mathlib.Core.List.{List}
 use Prim.Native.Nat.{ℕ, _-_}
@@ -53,7 +53,7 @@ Called = lts.After-row-for (top-places-reads.Asked, top-places-reads.Learnt, row
 abbrev turn : Called → Turn
 turn c = c .before .before .before .before .before .before .before .before .before
 
--- what it came to
+-- how it ended
 called : (c : Called) →
     Comes (turn c .before .loop .words) (start (turn c) .args .counts .now) (turn c .before .loop .n)
     (rowFor (storeOf (turn c .before .loop .words) (start (turn c) .args .counts .now) (turn c .before .loop .n)) (symbol (turn c))

@@ -1,5 +1,5 @@
 -- `bank_listed::top_places` meets its contract. The invariant: the first k of the topmost rows stand in the first places, and 0 in the others.
--- In the array they stand in order from `height - count` on. Assumes nothing.
+-- In the array they stand in order from `height - count` on.
 use mathlib.Core.Path.{_≡_, refl, sym, ap, _∙_}
 use mathlib.Core.List.{List}
 use Prim.Native.Nat.{ℕ, _+_, _-_, _≤_, _<_}

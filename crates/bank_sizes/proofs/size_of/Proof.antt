@@ -1,5 +1,4 @@
 -- `bank_sizes::size_of` meets its contract. The invariant: the cut sizes of the rows before `i` are known.
--- Assumes nothing.
 use mathlib.Core.Path.{refl}
 use Prim.Native.Nat.{_+_, _-_, _≤_}
 use native.Mathlib.Omega.{arith}

@@ -1,5 +1,4 @@
 -- `bank_t1::alphabet_fits` meets its contract. The invariant: the counts from `a` on decide what all decide.
--- Assumes nothing.
 use mathlib.Core.Path.{_≡_, refl, _∙_}
 use Prim.Native.Nat.{_≤_, _-_}
 use native.Mathlib.Omega.{arith}

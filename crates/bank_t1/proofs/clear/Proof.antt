@@ -1,5 +1,4 @@
 -- `bank_t1::clear` meets its contract. The invariant: the heads before `h` are empty.
--- Assumes nothing.
 use mathlib.Core.Path.{_≡_, refl, _∙_}
 use Prim.Native.Nat.{ℕ, _≤_, _<_, _-_}
 use native.Mathlib.Omega.{arith}

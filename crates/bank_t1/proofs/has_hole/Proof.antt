@@ -1,5 +1,4 @@
 -- `bank_t1::has_hole` meets its contract: row 0 by the test, any other by its mark.
--- Assumes nothing.
 use borrow.Author.Needs.{needs}
 use borrow.Author.Tests.{eq-eqb, ne-eqb}
 use Rattle.bank_t1.proofs.has_hole.Statement.{statement}

@@ -1,5 +1,4 @@
 -- `bank_t1::is_hole` meets its contract: its node is the hole's, and then its answer decides.
--- Assumes nothing.
 use mathlib.Core.Path.{sym, ap, _∙_}
 use mathlib.Core.Bool.{Bool, _&&_}
 use Prim.Native.Nat.{ℕ}

@@ -1,5 +1,4 @@
 -- `bank_t1::kids_of` meets its contract. The invariant: the children from `k` on, after the hole so far, decide what all decide.
--- Assumes nothing.
 use mathlib.Core.Path.{_≡_, sym, ap, _∙_}
 use mathlib.Core.Logic.{⊎-elim}
 use mathlib.Core.Bool.{Bool, true, false}

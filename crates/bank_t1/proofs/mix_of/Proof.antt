@@ -1,5 +1,4 @@
 -- `bank_t1::mix_of` meets its contract: the five numbers of each try are small enough, by computation.
--- Assumes nothing.
 use mathlib.Core.Path.{_≡_, refl}
 use mathlib.Core.Bool.{Bool, true}
 use mathlib.Core.List.{List, [], _∷_}

@@ -1,5 +1,4 @@
 -- `bank_t1::pass_under` meets its contract. The invariant: the rows before i have passed, are indexed and marked, and the rest decide.
--- Assumes nothing.
 use mathlib.Core.Path.{_≡_, refl, sym, _∙_}
 use Prim.Native.Nat.{_-_}
 use native.Mathlib.Omega.{arith}

@@ -1,5 +1,4 @@
 -- `bank_t1::row_fits` meets its contract. What the children say settles the test of the node; the answer is tested beside it.
--- Assumes nothing.
 use mathlib.Core.Path.{_≡_, sym, ap, _∙_}
 use Prim.Native.Nat.{ℕ, _≤_, _<_}
 use native.Mathlib.Omega.{arith}

@@ -1,5 +1,5 @@
 -- `bank_t1::rows_pass` meets its contract. The invariant: the try is one of eight, and the arrays have their lengths.
--- The last try has no bound, so it does not give up. Assumes nothing.
+-- The last try has no bound, so it does not give up.
 use mathlib.Core.Path.{_≡_, refl, sym, _∙_}
 use mathlib.Core.Logic.{⊎-elim}
 use mathlib.Core.Bool.{true, false, true≢false}

@@ -1,5 +1,4 @@
 -- `bank_t1::t1` meets its contract: the clauses of T1 in their order, and where all hold, the index and the holes are ready.
--- Assumes nothing.
 use mathlib.Core.Path.{_≡_, sym, _∙_}
 use mathlib.Core.Bool.{true, false, true≢false}
 use Prim.Native.Nat.{_*_, _≤_}

@@ -1,5 +1,4 @@
 -- `bank_t1::twin_of` meets its contract: the row's own symbol and places are looked for, with a bound or without.
--- Assumes nothing.
 use mathlib.Core.Path.{_≡_, sym, _∙_}
 use lib.ListN.{length}
 use borrow.Author.Needs.{needs}

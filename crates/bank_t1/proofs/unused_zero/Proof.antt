@@ -1,5 +1,4 @@
 -- `bank_t1::unused_zero` meets its contract. The invariant: the places from `k` on decide what all past the count decide.
--- Assumes nothing.
 use mathlib.Core.Path.{_≡_, refl, sym, _∙_}
 use Prim.Native.Nat.{_-_}
 use borrow.Author.Needs.{needs}

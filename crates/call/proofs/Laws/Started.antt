@@ -10,7 +10,7 @@ use borrow.Author.Tests.{leb-true}
 use lib.Dec.{leb, eqb}
 use lib.ListN.{length, getD, take, set}
 use lib.Seq.{sets-eq}
-use Rattle.model.specs.Limits.{mostSymbols, mostChildren}
+use Rattle.model.specs.Limits.{holeSymbol, mostSymbols, mostChildren}
 use Rattle.model.specs.Base.{all, over}
 use Rattle.model.specs.Terms.{unless}
 use Rattle.model.specs.Sound.{alphabetFits}
@@ -53,9 +53,9 @@ pub alphabet-short : (ns : List ℕ) → alphabetFits ns ≡ true → length ns 
 alphabet-short ns e = leb-true (length ns) mostSymbols (and-right (leb 1 (length ns)) _ (and-left _ (all (λ (n : ℕ). leb n mostChildren) ns) e))
 
 -- ROW 0 written is the hole's row
-pub hole-written : (ws ns : List ℕ) → Within ws 0 → withRow ws 0 255 (0 ∷ 0 ∷ 0 ∷ 0 ∷ []) ≡ wordsOf ws (started (rowsLent ws) ns)
+pub hole-written : (ws ns : List ℕ) → Within ws 0 → withRow ws 0 holeSymbol (0 ∷ 0 ∷ 0 ∷ 0 ∷ []) ≡ wordsOf ws (started (rowsLent ws) ns)
 unfolding rowWords
-hole-written ws ns h = sets-eq (255 ∷ 0 ∷ 0 ∷ 0 ∷ 0 ∷ 0 ∷ []) ws 0 h
+hole-written ws ns h = sets-eq (holeSymbol ∷ 0 ∷ 0 ∷ 0 ∷ 0 ∷ 0 ∷ []) ws 0 h
 
 -- LINE BY LINE
 module _ (ws ns : List ℕ) (l : Lists) (r : Done) where

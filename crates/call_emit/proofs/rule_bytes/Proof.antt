@@ -48,7 +48,7 @@ some s = row-some (s .pre .0) (s .args .s .now) (s .args .states) (s .args .t .n
 used : (s : Start) → row s < s .args .used
 used s = row-used (s .pre .0) (s .args .s .now) (s .args .states) (s .args .t .now) (s .args .rules) (s .pre .1) (within s) (s .args .k) (s .pre .6)
 
--- a turn: its start, and the child that it comes to
+-- a turn: its start, and the child that it reaches
 abbrev Turn : Type 0
 Turn = lts.In-loop (symbol-of-reads.Asked, symbol-of-reads.Learnt, kid-of-reads.Asked, kid-of-reads.Learnt, place-of-reads.Asked, place-of-reads.Learnt) reads.Pre reads.Post Inv-loop μ-loop
 

@@ -1,4 +1,4 @@
--- `call_emit::write_rules` meets its contract. The invariant: the first k rules stand one behind the other.
+-- `call_emit::write_rules` meets its contract. The invariant: the first k rules are there, one behind the other.
 -- One more rule is put behind them.
 use mathlib.Core.Path.{_≡_}
 use Prim.Native.Nat.{_-_, _≤_}

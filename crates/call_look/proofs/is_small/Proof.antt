@@ -9,17 +9,20 @@ use Rattle.call_look.proofs.is_small.Tie as tie
 returns : tie.Need-returns
 returns c = λ e. absurd (true≢false (sym e))
 
+mul-if2 : tie.Need-mul-if2
+mul-if2 c = search needs
+
 returns-2 : tie.Need-returns-2
 returns-2 c = λ e. absurd (true≢false (sym e))
 
-mul-if3 : tie.Need-mul-if3
-mul-if3 c = search needs
+cast-is-small : tie.Need-cast-is-small
+cast-is-small c = search needs
+
+is-small-requires : tie.Need-is-small-requires
+is-small-requires c κs = search needs
 
 returns-3 : tie.Need-returns-3
-returns-3 c = λ e. absurd (true≢false (sym e))
-
-returns-4 : tie.Need-returns-4
-returns-4 c = λ e. (omega arith, omega arith, omega arith, search needs)
+returns-3 c = λ e. let k = c .is-small .ensures e in (omega arith, k .0, omega arith, k .1)
 
 pub is-small-spec : {M : Type 1} → statement M
-is-small-spec = tie.close (tie.spec returns returns-2 mul-if3 returns-3 returns-4)
+is-small-spec = tie.close (tie.spec returns mul-if2 returns-2 cast-is-small is-small-requires returns-3)

@@ -1,4 +1,4 @@
--- An answer taken: what its step came to. Where it ran short, putting back what was saved and clearing the answer leaves the words as they were;
+-- An answer taken: how its step ended. Where it ran short, putting back what was saved and clearing the answer leaves the words as they were;
 -- where it ended, the words and lists left are those of the tables that the definitions leave.
 use mathlib.Core.Path.{_≡_, refl, sym, ap, subst, _∙_}
 use mathlib.Core.Logic.{inl, inr}

@@ -1,4 +1,4 @@
--- What a step came to, by its number: a shortage, with the first rows as they were; or 0, with the tables left.
+-- How a step ended, by its number: a shortage, with the first rows as they were; or 0, with the tables left.
 -- No shortage has the number 0.
 use mathlib.Core.Path.{_≡_, refl, sym, ap, _∙_}
 use mathlib.Core.Logic.{_⊎_, inl, inr}
@@ -21,7 +21,7 @@ use Rattle.bank_undo.specs.Left.{Left}
 use Rattle.step_end.specs.declared.finish.Stepped.{Stepped}
 use Rattle.step_end.specs.Stepping.{countsIn, EndedAs}
 
--- what a step came to, as a record: its parts are known from it
+-- how a step ended, as a record: its parts are known from it
 pub record Ends (ws : List ℕ) (l : Lists) (e : Ended) (r : Stepped) (ws' : List ℕ) : Type 0 where
   pub ended : EndedAs ws l e r ws'
 

@@ -1,4 +1,4 @@
--- `call_take::take_answer` meets its contract: what the step needs holds with the answer stored, and what it came to is what the definitions leave, or is put back.
+-- `call_take::take_answer` meets its contract: what the step needs holds with the answer stored, and how it ends is what the definitions leave, or is put back.
 use mathlib.Core.Path.{_≡_, refl, ap, _∙_}
 use Prim.Native.Nat.{ℕ}
 use native.Mathlib.Omega.{arith}

@@ -109,7 +109,7 @@ given s =
 abbrev begun : Stored → Start
 begun c = c .before .before .before .before .before .before .before .before .before .before .before .before .before .before .before .before .before .before .before .before .before
 
--- what storing came to
+-- how storing ended
 came : (c : Stored) →
     Comes (begun c .args .words .now) (countsIn (begun c .args .lists)) (begun c .args .lists .used)
     (storeFrom (storeOf (begun c .args .words .now) (countsIn (begun c .args .lists)) (begun c .args .lists .used)) (begun c .args .symbols .now) []) (c .store .result) (c .store .last .0) (c .store .last .1 .1 .1 .0) (c .store .last .1 .1 .1 .1 .0) (c .store .last .1 .1 .1 .1 .1 .0) (begun c .args .mix .now)
@@ -132,7 +132,7 @@ stored : (c : AtRow) →
     (storing c .store .last .0) (storing c .store .last .1 .1 .1 .0) (storing c .store .last .1 .1 .1 .1 .0) (storing c .store .last .1 .1 .1 .1 .1 .0) (first c .args .mix .now)
 stored c = offer-stored (given (first c)) (comes-as (c .row .given .1) (came (storing c)))
 
--- what the step came to
+-- how the step ended
 abbrev at-row : Advanced → AtRow
 at-row c = c .before .before .before .before .before .before .before .before .before .before .before .before .before .before
 

@@ -1,6 +1,5 @@
 -- `kuldveth::kuldveth_emit` meets its contract: a walk of its MIR, by hand. The borrow of the lists is looked into, the struct is copied out, the borrow is shut, and `call_emit::emit`, of which the proof knows only that it meets its contract, is called with the words, the copy and the output.
 -- The output's borrow goes to the callee at its own lifetime, share and ghost name, for good (`gave-slice`).
--- Assumes nothing.
 use mathlib.Core.Path.{_≡_, refl}
 use Prim.Native.Nat.{ℕ}
 use mathlib.Core.List.{[], _∷_, List}

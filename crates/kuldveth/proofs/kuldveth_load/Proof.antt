@@ -1,5 +1,4 @@
 -- `kuldveth::kuldveth_load` meets its contract: it returns what `list::load` returns, whose contract says the same of the same bytes.
--- Assumes nothing.
 use borrow.Author.Needs.{needs}
 use Rattle.kuldveth.proofs.kuldveth_load.Statement.{statement}
 use Rattle.kuldveth.proofs.kuldveth_load.Tie as tie

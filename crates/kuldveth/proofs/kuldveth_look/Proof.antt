@@ -1,5 +1,4 @@
 -- `kuldveth::kuldveth_look` meets its contract: a walk of its MIR, by hand. The borrow of the lists is looked into, the struct is copied out, the borrow is shut, and `call_look::look`, of which the proof knows only that it meets its contract, is called with the words and the copy.
--- Assumes nothing.
 use mathlib.Core.Path.{_≡_, refl}
 use Prim.Native.Nat.{ℕ}
 use mathlib.Core.List.{[], _∷_, List}

@@ -1,5 +1,5 @@
 -- An automaton has one verdict on a record, whether it reads its tree, its stored row or its listed symbols, and an accepted record uses a rule at each of its subtrees.
--- The state is the value of one algebra on all three; a missing state is passed on to every symbol above it, so the run on symbols may stop there. Assumes nothing.
+-- The state is the value of one algebra on all three; a missing state is passed on to every symbol above it, so the run on symbols may stop there.
 use mathlib.Core.Path.{_≡_, refl, sym, ap, _∙_}
 use mathlib.Core.Logic.{_≢_, _⊎_, inl, inr}
 use mathlib.Core.Bool.{Bool, true, false, cond, true≢false, and-eq-true-iff}

@@ -1,4 +1,4 @@
--- Every promise kept, each by the term of its own file. Assumes nothing.
+-- Every promise kept, each by the term of its own file.
 use Rattle.model.specs.Promised.{Promised}
 use Rattle.model.proofs.Promises.Calls.{refused-untouched, reads-untouched, unsound-refused, counts-told, taken-alone}
 use Rattle.model.proofs.Promises.Sound.{sound-means, stays-sound, stays-nearly-sound}

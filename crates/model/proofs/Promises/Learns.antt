@@ -1,5 +1,5 @@
 -- Demand 3 (§7.3): whatever the calls, S and T grow with the records taken; and an automaton that agrees with all that was taken has at least as many states and rules.
--- By the invariant of Laws.Fresh along the list, and by two injections: representatives to states, transitions to rules. Assumes nothing.
+-- By the invariant of Laws.Fresh along the list, and by two injections: representatives to states, transitions to rules.
 use mathlib.Core.Path.{_≡_, sym, ap, _∙_}
 use mathlib.Core.Bool.{Bool, true, false, cond}
 use Prim.Native.Nat.{ℕ, _+_, _≤_}

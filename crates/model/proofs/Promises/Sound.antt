@@ -1,5 +1,5 @@
 -- The tests of soundness mean T1 to T8, fresh runs stay sound, and any call leaves sound tables nearly sound: what a taken call leaves is read back from the words and lists that it wrote.
--- Along a fresh run goes the invariant of Laws.Fresh, which is sound in each of its three phases. Assumes nothing.
+-- Along a fresh run goes the invariant of Laws.Fresh, which is sound in each of its three phases.
 use mathlib.Core.Path.{_≡_}
 use mathlib.Core.Bool.{true}
 use Prim.Native.Nat.{ℕ}

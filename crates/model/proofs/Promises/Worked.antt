@@ -1,5 +1,5 @@
 -- The worked runs, by computation.
--- Each definition unfolds to its value. Assumes nothing.
+-- Each definition unfolds to its value.
 use mathlib.Core.Path.{refl}
 use mathlib.Core.List.{[], _∷_}
 use Rattle.model.specs.Base.{all, same, among, allAmong, noRepeats, anyTrue, countTrue, sum, placeOf, backwards}

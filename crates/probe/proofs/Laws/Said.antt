@@ -1,4 +1,4 @@
--- What is said of rows added: refused where a test fails, and where all hold what adding came to.
+-- What is said of rows added: refused where a test fails, and where all hold how adding ended.
 use mathlib.Core.Path.{_≡_, refl, sym, ap, subst, _∙_}
 use mathlib.Core.Bool.{Bool, true, false, _&&_, cond}
 use mathlib.Core.List.{List, []}

@@ -1,5 +1,5 @@
 -- `script::line_end` meets its contract: byte after byte is passed up to a newline or the end.
--- The invariant: the line ends where it ends from the place reached. The measure is what is left of the input. Assumes nothing.
+-- The invariant: the line ends where it ends from the place reached. The measure is what is left of the input.
 use mathlib.Core.Path.{_≡_, refl, sym, _∙_}
 use Prim.Native.Nat.{_-_, _≤_}
 use native.Mathlib.Omega.{arith}

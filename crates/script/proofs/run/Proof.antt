@@ -1,5 +1,5 @@
 -- `script::run` meets its contract: it ends, and every part that it lends lies within the whole.
--- The invariant: the place is at most behind the end, and the arrays keep their lengths. The measure is what is left of the input. Assumes nothing.
+-- The invariant: the place is at most behind the end, and the arrays keep their lengths. The measure is what is left of the input.
 use mathlib.Core.Path.{_≡_, sym}
 use Prim.Native.Nat.{_+_, _-_, _≤_}
 use native.Mathlib.Omega.{arith}

@@ -11,7 +11,7 @@ use Rattle.bank.specs.Index.{mostBuckets}
 use Rattle.model.proofs.Laws.Lent.{sizeFits-facts}
 use Rattle.sound.specs.Working.{Room}
 
--- at most so many words are lent
+-- the words of all rows, and no more, are lent
 pub words-few : (ws : List ℕ) → sizeFits ws ≡ true → length ws ≤ rowWidth * mostRows
 words-few ws e = let w = sizeFits-facts ws e in omega (arith, w .whole, w .most)
 

@@ -3,6 +3,9 @@ use borrow.Author.Needs.{needs}
 use Rattle.step.proofs.in_hand.Statement.{statement}
 use Rattle.step.proofs.in_hand.Tie as tie
 
+cast-if1 : tie.Need-cast-if1
+cast-if1 c = search needs
+
 in-hand-few-requires : tie.Need-in-hand-few-requires
 in-hand-few-requires c κs = search needs
 
@@ -61,6 +64,7 @@ pub in-hand-spec : {M : Type 1} → statement M
 in-hand-spec =
     tie.close
     (tie.spec
+    cast-if1
     in-hand-few-requires
     same-length
     same-length-2

@@ -31,7 +31,7 @@ use Rattle.step_end.specs.declared.finish.Stepped.{Stepped}
 use Rattle.step_end.specs.Stepping.{Orderly, countsIn, Stepping, EndedAs, asking, proposing}
 use Rattle.step_end.specs.Finished.{FinishedAs}
 
--- what a step came to, as a record: its parts are known from it
+-- how a step ended, as a record: its parts are known from it
 pub record Finished (ws : List ℕ) (l : Lists) (e : Ended) (r : Stepped) (us : List ℕ) : Type 0 where
   pub ended : EndedAs ws l e r us
 
@@ -170,7 +170,7 @@ module _ {ws : List ℕ} {l : Lists} {hs he ne mix : List ℕ} (p : Stepping ws 
         go : (e : Ended) → Settles G e → StepAs ws (countsIn l) (l .used) (l .s) e q us ss → Finished ws l e r us
         go (short ofRows) s b = record { ended = (subst (λ (k : Step). FinishedAs l k ss r) (b .0) f, b .1) }
         go (short ofStates) s b = record { ended = (subst (λ (k : Step). FinishedAs l k ss r) (b .0) f, b .1) }
-        go (short ofTransitions) s b = record { ended = (subst (λ (k : Step). FinishedAs l k ss r) (b .0) f, b .1) }
+        go (short ofTransitions) s b = absurd b
         go (short ofTurns) s b = absurd b
         go (asks y) (settles-asking g e m) b =
             let t = subst (λ (k : Step). FinishedAs l k ss r) (b .0) f in

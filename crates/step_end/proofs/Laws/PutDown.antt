@@ -1,4 +1,4 @@
--- A record put down, as lists: the lists with the context mean the tables with it, and what the step from there comes to is what putting down comes to.
+-- A record put down, as lists: the lists with the context mean the tables with it, and the step from there ends as putting down does.
 -- The store with the context's rows extends the first, so roles stand as they were, new rows are unknown, and the context has a hole, as row 0 has.
 use mathlib.Core.Path.{_≡_, sym, ap, subst, _∙_}
 use mathlib.Core.Logic.{_⊎_, inl, inr}

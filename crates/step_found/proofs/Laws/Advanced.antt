@@ -30,7 +30,7 @@ use Rattle.bank_undo.proofs.Laws.Left.{left-rows}
 use Rattle.step_end.specs.declared.finish.Stepped.{Stepped}
 use Rattle.step_end.specs.Stepping.{Stepping, EndedAs, countsIn, asking, withRule}
 
--- what a step came to, as a record: its parts are known from it
+-- how a step ended, as a record: its parts are known from it
 pub record Ends (ws : List ℕ) (l : Lists) (e : Ended) (r : Stepped) (us : List ℕ) : Type 0 where
   pub ended : EndedAs ws l e r us
 

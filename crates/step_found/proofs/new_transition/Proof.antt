@@ -35,6 +35,9 @@ long s = search needs
 putting : (s : Start) → Putting (s .args .words .now) (s .args .lists) (s .args .holes .now) (s .args .head .now) (s .args .next .now) (s .args .mix .now) (s .args .down .now) (s .args .hand .0)
 putting s = record { stepping = s .pre .0; room = s .pre .3; record-row = s .pre .4; fits = s .pre .6 }
 
+cast-if1 : tie.Need-cast-if1
+cast-if1 c = search needs
+
 short-requires : tie.Need-short-requires
 short-requires c κs = search needs
 
@@ -83,6 +86,7 @@ pub new-transition-spec : {M : Type 1} → statement M
 new-transition-spec =
     tie.close
     (tie.spec
+    cast-if1
     short-requires
     returns
     with-rule-requires

@@ -1,4 +1,4 @@
--- What settling comes to, from what its calls come to. The first gap of the table is the first unknown answer and S grown by places is S grown,
+-- How settling ends, from how its calls end. The first gap of the table is the first unknown answer and S grown by places is S grown,
 -- so where no answer is unknown model proposes, and where one is it opens the question; the words left are those of the store then.
 use mathlib.Core.Path.{_≡_, refl, sym, ap, subst, _∙_}
 use mathlib.Core.Bool.{true, false}
@@ -34,7 +34,7 @@ use Rattle.step_settle.specs.Settled.{Settling, StepAs}
 use Rattle.step_settle.proofs.Laws.States.{grown-rows-count}
 use Rattle.step_settle.proofs.Laws.Gap.{Within, gap-within}
 
--- what a step came to, as a record: its parts are known from it
+-- how a step ended, as a record: its parts are known from it
 pub record Stepped (ws ns : List ℕ) (u : ℕ) (s : List ℕ) (e : Ended) (r : Step) (ws' s' : List ℕ) : Type 0 where
   pub step : StepAs ws ns u s e r ws' s'
 

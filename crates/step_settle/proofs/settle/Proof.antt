@@ -73,7 +73,7 @@ gap : (c : Open) →
 gap c =
     record { settling = begun c .pre .1; rows = looked c .before .before .before .before .observe-to-gap .result; to-gap = looked c .before .before .before .before .observe-to-gap .ensures; gap = sym (looked c .first-unknown .ensures) ∙ c .k .given .1 }
 
--- what filling came to
+-- how filling ended
 came : (c : Filled) →
     Comes (begun (found c) .args .words .now) (begun (found c) .args .counts .now) (begun (found c) .args .used)
     (fill (storeOf (begun (found c) .args .words .now) (begun (found c) .args .counts .now) (begun (found c) .args .used))

@@ -1,5 +1,5 @@
 -- A row of the table of answers: how long it is, its answers one by one, and what is left of it after some.
--- By the laws of take, drop and getD: row k is the first m numbers from place 289 * k on.
+-- By the laws of take, drop and getD: row k is the first m numbers from place `mostContexts * k` on.
 use mathlib.Core.Path.{_≡_, sym, ap, _∙_}
 use mathlib.Core.List.{List, [], _∷_}
 use Prim.Native.Nat.{ℕ, suc, _+_, _*_, _≤_, _<_}

@@ -12,7 +12,7 @@ use lib.Dec.{eqb}
 use lib.ListN.{length, getD, take, set, length-map, length-set}
 use lib.Seq.{take-suc, take-all, getD-set-same, getD-set-other}
 use borrow.Author.Tests.{eqb-true}
-use Rattle.model.specs.Limits.{mostRows}
+use Rattle.model.specs.Limits.{holeSymbol, mostRows}
 use Rattle.model.specs.Base.{In, here, later, Each, each-nil, each-cons}
 use Rattle.model.specs.Store.{Node, Store, used, symbolAt, kidsAt, foldFrom, findPlaces, findRow, padded}
 use Rattle.model.specs.Automata.{hasLeftSide, targetIn, statesOf, withState, ledBy, leads, rowState}
@@ -113,7 +113,7 @@ module _ {x : Store} {s t reps : List ℕ} (g : Good x) (d : Ruled x s t reps) w
           let r = d .row i h in
           let l = g .row i (r .0) (r .1) .known in
           let m = g .letters in
-          let z : symbolAt x 0 ≡ 255 = ap (λ (n : Node). n .symbol) (g .first) in
+          let z : symbolAt x 0 ≡ holeSymbol = ap (λ (n : Node). n .symbol) (g .first) in
           omega arith
 
   pub first-rep : rep 0 ≡ 0

@@ -26,7 +26,7 @@ map-same : {A : Type 0} (f g : ℕ → A) (ks : List ℕ) → ((k : ℕ) → In 
 map-same f g [] e = refl
 map-same f g (k ∷ ks) e = let p = e k here in let q = map-same f g ks (λ j h. e j (later h)) in cc
 
--- WHAT RULES NEED OF S AND T: T2, T3 and T6 as far as the hypothesis leans on them; r gives a record's row of answers
+-- WHAT RULES NEED OF S AND T: T2, T3 and T6 as far as the hypothesis uses them; r gives a record's answers
 pub record Covers (x : Store) (r : ℕ → List ℕ) (s t : List ℕ) : Type 0 where
   pub row : (i : ℕ) → In i t → (0 < i) × (i < used x)
   pub kids : (i : ℕ) → In i t → Each (λ (k : ℕ). In k s) (kidsAt x i)

@@ -1,5 +1,4 @@
 -- `table_verdict::accepts_list` meets its contract. The run gives a state, and its representative's answer decides; or it is stuck, and the verdict is no.
--- Assumes nothing.
 use mathlib.Core.Path.{sym, _∙_}
 use Rattle.table_verdict.proofs.Laws.Verdict as verdict
 use borrow.Author.Needs.{needs}

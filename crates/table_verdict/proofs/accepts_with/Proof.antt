@@ -1,5 +1,4 @@
 -- `table_verdict::accepts_with` meets its contract. The row's representative is worked out; without one the verdict is no.
--- Assumes nothing.
 use native.Mathlib.Omega.{arith}
 use Rattle.table_verdict.proofs.Laws.Verdict as verdict
 use borrow.Author.Needs.{needs}

@@ -1,5 +1,4 @@
 -- `table_verdict::clear` meets its contract. The invariant: the entries before `i` are 0.
--- Assumes nothing.
 use mathlib.Core.Path.{_≡_, refl, _∙_}
 use Prim.Native.Nat.{ℕ, _≤_, _<_, _-_}
 use native.Mathlib.Omega.{arith}

@@ -1,5 +1,5 @@
 -- `table_verdict::find_reps` meets its contract. The invariant: the first k transitions have their representatives, and the other rows 0.
--- A state past the last one has no representative: its row keeps the 0. Assumes nothing.
+-- A state past the last one has no representative: its row keeps the 0.
 use mathlib.Core.Path.{_≡_, refl, sym, ap, _∙_}
 use mathlib.Core.Logic.{⊎-elim}
 use mathlib.Core.List.{List}

@@ -1,5 +1,4 @@
 -- `table_verdict::is_final` meets its contract. Its test is that of the answer that it reads.
--- Assumes nothing.
 use mathlib.Core.Path.{ap}
 use Prim.Native.Nat.{ℕ}
 use borrow.Author.Needs.{needs}

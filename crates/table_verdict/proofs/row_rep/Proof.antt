@@ -1,5 +1,5 @@
 -- `table_verdict::row_rep` meets its contract. The invariant: the representatives of the first k children stand in the first places, and 0 in the others.
--- A child without a state ends it; over all children the rule that is found decides. Assumes nothing.
+-- A child without a state ends it; over all children the rule that is found decides.
 use mathlib.Core.Path.{_≡_, sym, ap, _∙_}
 use mathlib.Core.List.{List}
 use Prim.Native.Nat.{ℕ, _-_, _<_}
@@ -36,7 +36,7 @@ store s = storeOf (s .args .words .now) (s .args .counts .now) (s .args .used)
 abbrev kids : Start → List ℕ
 kids s = kidsAt (store s) (s .args .row .0)
 
--- a turn: its start, and the child that it comes to
+-- a turn: its start, and the child that it reaches
 abbrev Turn : Type 0
 Turn = lts.In-loop (symbol-of-reads.Asked, symbol-of-reads.Learnt, kid-of-reads.Asked, kid-of-reads.Learnt, target-of-reads.Asked, target-of-reads.Learnt) reads.Pre reads.Post Inv-loop μ-loop
 

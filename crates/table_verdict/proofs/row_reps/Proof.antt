@@ -1,5 +1,5 @@
 -- `table_verdict::row_reps` meets its contract. The invariant: the rows before i have their representatives.
--- Row 0 has no state; each later row's comes from those of earlier rows. Assumes nothing.
+-- Row 0 has no state; each later row's comes from those of earlier rows.
 use mathlib.Core.Path.{_≡_, refl, _∙_}
 use Prim.Native.Nat.{_+_, _-_, _≤_, _<_}
 use native.Mathlib.Omega.{arith}

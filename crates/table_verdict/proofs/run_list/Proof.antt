@@ -1,5 +1,5 @@
 -- `table_verdict::run_list` meets its contract. The invariant: what is left of the run, from the representatives on the stack, ends as the whole does.
--- Each symbol's rule is found or ends the run. Assumes nothing.
+-- Each symbol's rule is found or ends the run.
 use mathlib.Core.Path.{_≡_, refl, sym, ap, _∙_}
 use mathlib.Core.List.{List, []}
 use Prim.Native.Nat.{ℕ, _-_}

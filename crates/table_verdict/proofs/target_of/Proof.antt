@@ -1,5 +1,4 @@
 -- `table_verdict::target_of` meets its contract. The row that is found is the store's; it is a used one, or row 0.
--- Assumes nothing.
 use mathlib.Core.Path.{ap}
 use Prim.Native.Nat.{ℕ}
 use native.Mathlib.Omega.{arith}

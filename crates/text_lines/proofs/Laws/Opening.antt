@@ -1,4 +1,4 @@
--- A first line read pair by pair: what is left of the line, behind the letters and counts so far, decides what the line comes to.
+-- A first line read pair by pair: what is left of the line, behind the letters and counts so far, decides how the line is read.
 -- By the clauses of `pairsFrom` at a rest that is split at its first bytes.
 use mathlib.Core.Path.{_≡_, refl, sym, ap, subst, _∙_}
 use mathlib.Core.Bool.{Bool, true, false, _&&_, not}

@@ -1,4 +1,4 @@
--- The reply to a line from what its parts came to: the line told over the alphabet's part of two arrays, and a call's reply over the lists that it left.
+-- The reply to a line from its parts: the line told over the alphabet's part of two arrays, and a call's reply over the lists that it left.
 -- An array of 64 has no more than 64 letters to take, and each part of a reply is the part of the call that made it.
 use mathlib.Core.Path.{_≡_, refl, sym, ap, _∙_, subst}
 use mathlib.Core.Bool.{Bool, true, false, cond, true≢false}

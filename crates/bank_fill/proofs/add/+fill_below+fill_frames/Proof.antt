@@ -71,7 +71,7 @@ BelowAskedBy t c ns = FramesAsked (below-start t c .args .words .now) ns (below-
 abbrev below-asked : (t : ℕ) (c : BelowRead t) → BelowAskedBy t c (below-start t c .pre .1 .counts)
 below-asked t c = below-start t c .pre .1 .holds
 
--- what the frames below came to
+-- how filling the frames below ended
 abbrev below-read : (t : ℕ) → BelowFilled t → BelowRead t
 below-read t c = c .before .before .before .before .before .before .before
 
@@ -213,7 +213,7 @@ FramesAskedBy t c ns = FramesAsked (frames-start t c .args .words .now) ns (fram
 abbrev frames-asked : (t : ℕ) (c : FramesRead t) → FramesAskedBy t c (frames-start t c .pre .1 .counts)
 frames-asked t c = frames-start t c .pre .1 .holds
 
--- what the frames below came to
+-- how filling the frames below ended
 abbrev frames-read : (t : ℕ) → FramesFilled t → FramesRead t
 frames-read t c = c .before .before .before .before .before .before .before
 

@@ -1,5 +1,4 @@
 -- `bank_fill::add::above` meets its contract: symbol and places are read, the child is put in and its mark looked up; what is put is that row.
--- Assumes nothing.
 use mathlib.Core.Path.{_≡_, sym, ap, _∙_}
 use mathlib.Core.Logic.{⊎-elim}
 use mathlib.Core.List.{List}

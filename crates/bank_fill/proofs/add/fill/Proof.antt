@@ -1,5 +1,4 @@
 -- `bank_fill::add::fill` meets its contract: a row whose entry names no place has no frame; from any other the frames are filled.
--- Assumes nothing.
 use borrow.Author.Needs.{needs}
 use Rattle.bank_fill.specs.Adding.{FramesAsked}
 use Rattle.bank_fill.proofs.Laws.Filling.{fill-none}

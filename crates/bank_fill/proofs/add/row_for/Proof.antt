@@ -1,5 +1,4 @@
 -- `bank_fill::add::row_for` meets its contract: a row that is found is handed back, any other put.
--- Assumes nothing.
 use borrow.Author.Needs.{needs}
 use Rattle.bank_fill.specs.Adding.{found}
 use Rattle.bank_fill.proofs.Laws.Adding.{put-comes}

@@ -8,14 +8,17 @@ use Rattle.call_room.proofs.tried.is_short.Tie as tie
 returns : tie.Need-returns
 returns c = λ e. absurd (true≢false (sym e))
 
-add-if2 : tie.Need-add-if2
-add-if2 c = search needs
+cast-is-small : tie.Need-cast-is-small
+cast-is-small c = search needs
+
+add-is-small : tie.Need-add-is-small
+add-is-small c = search needs
+
+is-small-requires : tie.Need-is-small-requires
+is-small-requires c κs = search needs
 
 returns-2 : tie.Need-returns-2
-returns-2 c = λ e. absurd (true≢false (sym e))
-
-returns-3 : tie.Need-returns-3
-returns-3 c = search needs
+returns-2 c = search needs
 
 pub is-short-spec : {M : Type 1} → statement M
-is-short-spec = tie.close (tie.spec returns add-if2 returns-2 returns-3)
+is-short-spec = tie.close (tie.spec returns cast-is-small add-is-small is-small-requires returns-2)

@@ -1,5 +1,5 @@
 -- `list::blocks::body` meets its contract: the part from the seventh byte to where the block or the bytes end.
--- By the laws of cut blocks. Assumes nothing.
+-- By the laws of cut blocks.
 use borrow.Author.Needs.{needs}
 use Rattle.list.proofs.Cut.{body-none, body-cut}
 use Rattle.list.proofs.blocks.body.Statement.{statement}

@@ -1,5 +1,5 @@
 -- `list::blocks::byte_at` meets its contract: an element of the slice, or 0 past its end.
--- A byte is below 256 because it is an element of a slice of bytes. Assumes nothing.
+-- A byte is below 256 because it is an element of a slice of bytes.
 use mathlib.Core.Path.{refl, sym}
 use native.Mathlib.Omega.{arith}
 use lib.ListN.{List·getD-eq-default}

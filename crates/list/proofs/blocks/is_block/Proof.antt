@@ -1,5 +1,5 @@
 -- `list::blocks::is_block` meets its contract: the tests of a block one after the other, the kind last.
--- Each test that fails makes the conjunction false; the last one is all that is left of it. Assumes nothing.
+-- Each test that fails makes the conjunction false; the last one is all that is left of it.
 use mathlib.Core.Path.{_≡_, sym, ap, _∙_}
 use mathlib.Core.List.{List}
 use Prim.Native.Nat.{ℕ, _+_, _*_}

@@ -1,5 +1,5 @@
 -- `list::blocks::rest` meets its contract: the part from where the block or the bytes end.
--- By the law of cut blocks. Assumes nothing.
+-- By the law of cut blocks.
 use borrow.Author.Needs.{needs}
 use Rattle.list.proofs.Cut.{rest-cut}
 use Rattle.list.proofs.blocks.rest.Statement.{statement}

@@ -1,5 +1,5 @@
 -- `list::blocks::size_at` meets its contract: the size is the sum of four bytes, each times its weight.
--- By the law that gives a size by its single bytes. Assumes nothing.
+-- By the law that gives a size by its single bytes.
 use mathlib.Core.List.{List}
 use Prim.Native.Nat.{ℕ}
 use native.Mathlib.Omega.{arith}

@@ -1,5 +1,5 @@
 -- `list::read::all_below` meets its contract: one loop over the bytes.
--- The invariant: the bytes from i on decide what all decide. The measure is what is left of the bytes. Assumes nothing.
+-- The invariant: the bytes from i on decide what all decide. The measure is what is left of the bytes.
 use mathlib.Core.Path.{_≡_}
 use Prim.Native.Nat.{ℕ, _-_, _≤_}
 use native.Mathlib.Omega.{arith}

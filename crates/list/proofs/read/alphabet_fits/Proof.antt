@@ -1,5 +1,5 @@
 -- `list::read::alphabet_fits` meets its contract: the two limits of the length, then each count.
--- Each test that fails makes the conjunction false. Assumes nothing.
+-- Each test that fails makes the conjunction false.
 use mathlib.Core.Path.{sym, _∙_}
 use borrow.Author.Needs.{needs}
 use Rattle.list.proofs.Fits.{alphabet-none, alphabet-many, alphabet-is}

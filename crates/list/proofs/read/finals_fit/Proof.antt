@@ -1,5 +1,5 @@
 -- `list::read::finals_fit` meets its contract: the limit of the length, then each byte.
--- A test that fails makes the conjunction false. Assumes nothing.
+-- A test that fails makes the conjunction false.
 use mathlib.Core.Path.{sym, _∙_}
 use borrow.Author.Needs.{needs}
 use Rattle.list.proofs.Fits.{finals-many, finals-is}

@@ -1,5 +1,5 @@
 -- `list::read::has_key` meets its contract: one loop over the numbers.
--- The invariant: the numbers from i on decide what all decide. The measure is what is left of them. Assumes nothing.
+-- The invariant: the numbers from i on decide what all decide. The measure is what is left of them.
 use mathlib.Core.Path.{_≡_, sym, _∙_}
 use Prim.Native.Nat.{_-_, _≤_}
 use native.Mathlib.Omega.{arith}

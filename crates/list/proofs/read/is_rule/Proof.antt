@@ -1,5 +1,5 @@
 -- `list::read::is_rule` meets its contract: a block, a rule that fits, a new left side.
--- Each test that fails makes the conjunction false; the last one is all that is left of it. Assumes nothing.
+-- Each test that fails makes the conjunction false; the last one is all that is left of it.
 use mathlib.Core.Path.{sym, ap, _∙_}
 use mathlib.Core.Bool.{Bool, not}
 use mathlib.Core.List.{List}

@@ -1,5 +1,5 @@
 -- `list::read::key_of` meets its contract: the sum of symbol and states, each times its weight.
--- By what the bytes of the body and of its states are. Assumes nothing.
+-- By what the bytes of the body and of its states are.
 use borrow.Author.Needs.{needs}
 use Rattle.list.proofs.Keys.{key-sum}
 use Rattle.list.proofs.read.key_of.Statement.{statement}

@@ -1,5 +1,5 @@
 -- `list::read::load` meets its contract: the block of kind 1, its body, then the states.
--- By the clauses of readList. Assumes nothing.
+-- By the clauses of readList.
 use mathlib.Core.Path.{sym, ap, _∙_}
 use mathlib.Core.List.{List}
 use Prim.Native.Nat.{ℕ}

@@ -1,5 +1,5 @@
 -- `list::read::read_finals` meets its contract: the block of kind 2, its body, then the rules.
--- By the clauses of readFinals. Assumes nothing.
+-- By the clauses of readFinals.
 use mathlib.Core.Path.{sym, ap, _∙_}
 use mathlib.Core.List.{List}
 use Prim.Native.Nat.{ℕ}

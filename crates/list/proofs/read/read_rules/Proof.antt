@@ -1,5 +1,5 @@
 -- `list::read::read_rules` meets its contract: one loop over the blocks.
--- The invariant: what is left to be read behind the rules so far is what was to be read, and the numbers kept are those of these rules. The measure is what is left of the bytes. Assumes nothing.
+-- The invariant: what is left to be read behind the rules so far is what was to be read, and the numbers kept are those of these rules. The measure is what is left of the bytes.
 use mathlib.Core.Path.{_≡_, sym, ap, _∙_, refl}
 use mathlib.Core.List.{List}
 use Prim.Native.Nat.{ℕ, _<_}

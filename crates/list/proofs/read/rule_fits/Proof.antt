@@ -1,5 +1,5 @@
 -- `list::read::rule_fits` meets its contract: length, symbol, count of states, then states and target together.
--- Each test that fails makes the conjunction false; states and target are the bytes behind the symbol. Assumes nothing.
+-- Each test that fails makes the conjunction false; states and target are the bytes behind the symbol.
 use mathlib.Core.Path.{sym, _∙_}
 use borrow.Author.Needs.{needs}
 use Rattle.list.proofs.Fits.{rule-short, rule-unknown, rule-count, rule-is}

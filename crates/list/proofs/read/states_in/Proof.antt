@@ -1,5 +1,5 @@
 -- `list::read::states_in` meets its contract: all but the first byte and the last.
--- A body of fewer than two bytes has no states. Assumes nothing.
+-- A body of fewer than two bytes has no states.
 use borrow.Author.Needs.{needs}
 use Rattle.list.proofs.Fits.{states-none, states-some}
 use Rattle.list.proofs.read.states_in.Statement.{statement}

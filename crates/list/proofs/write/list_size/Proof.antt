@@ -1,5 +1,5 @@
 -- `list::write::list_size` meets its contract: one loop over the flat rules.
--- The invariant: the size so far and the blocks left are the whole. The measure is what is left of the numbers. Assumes nothing.
+-- The invariant: the size so far and the blocks left are the whole. The measure is what is left of the numbers.
 use mathlib.Core.Path.{_≡_, ap, _∙_}
 use mathlib.Core.List.{List}
 use Prim.Native.Nat.{ℕ, _+_, _-_, _≤_, _<_}

@@ -1,5 +1,5 @@
 -- `list::write::put_block` meets its contract: the head, and the body behind it.
--- Two runs one behind the other are one. Assumes nothing.
+-- Two runs one behind the other are one.
 use mathlib.Core.Path.{sym, ap, _∙_}
 use mathlib.Core.List.{_++_}
 use Prim.Native.Nat.{ℕ, _+_, _-_}

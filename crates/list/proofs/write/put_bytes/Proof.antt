@@ -1,5 +1,5 @@
 -- `list::write::put_bytes` meets its contract: one loop that copies.
--- The invariant: the first i bytes are copied. The measure is what is left to copy. Assumes nothing.
+-- The invariant: the first i bytes are copied. The measure is what is left to copy.
 use mathlib.Core.Path.{_≡_, refl, sym, ap, _∙_}
 use mathlib.Core.List.{List}
 use Prim.Native.Nat.{ℕ, _+_, _-_, _≤_}

@@ -1,5 +1,5 @@
 -- `list::write::put_head` meets its contract: six bytes put at a place.
--- A number below 256 is its lowest byte and then zeros. Assumes nothing.
+-- A number below 256 is its lowest byte and then zeros.
 use mathlib.Core.Path.{ap, _∙_}
 use mathlib.Core.List.{List}
 use Prim.Native.Nat.{ℕ, _-_}

@@ -1,5 +1,5 @@
 -- `list::write::put_rule` meets its contract: the head, symbol and states in one piece, the target.
--- Three runs one behind the other are one, and together they are the rule's block. Assumes nothing.
+-- Three runs one behind the other are one, and together they are the rule's block.
 use mathlib.Core.Path.{_≡_, ap, _∙_}
 use Prim.Native.Nat.{_+_, _-_, _≤_}
 use native.Mathlib.Omega.{arith}

@@ -1,11 +1,12 @@
 -- `list::write::put_rules` meets its contract: one loop over the flat rules.
--- The invariant: what is still to be put is what was to be put at the start. The measure is what is left of the numbers. Assumes nothing.
+-- The invariant: what is still to be put is what was to be put at the start. The measure is what is left of the numbers.
 use mathlib.Core.Path.{refl, ap}
 use mathlib.Core.List.{List}
 use Prim.Native.Nat.{ℕ, _-_, _≤_, _<_}
 use native.Mathlib.Omega.{arith}
 use lib.ListN.{length, take, drop, length-drop}
 use borrow.Author.Needs.{needs}
+use Rattle.list.specs.Flat.{ruleWidth}
 use Rattle.list.proofs.Writing.{Writing, writing-first, room, writing-next, writing-end}
 use Rattle.list.proofs.Flat.{others}
 use Rattle.list.proofs.write.put_rules.Statement.{statement}

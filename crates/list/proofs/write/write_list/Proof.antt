@@ -1,5 +1,5 @@
 -- `list::write::write_list` meets its contract: alphabet, states, rules.
--- Three runs one behind the other are the whole list. Assumes nothing.
+-- Three runs one behind the other are the whole list.
 use mathlib.Core.Path.{_≡_}
 use Prim.Native.Nat.{_+_, _≤_}
 use native.Mathlib.Omega.{arith}

@@ -1,5 +1,5 @@
 -- `list_view::held::made` meets its contract: a walk of its MIR, by hand. The struct is made of the slice and the number passed, in the result's local.
--- A `&[u8]` is Copy, so what it owns is had twice: once for the exit, and once inside the result, beside the facts of the number. Assumes nothing.
+-- A `&[u8]` is Copy, so what it owns is had twice: once for the exit, and once inside the result, beside the facts of the number.
 use mathlib.Core.Path.{refl}
 use mathlib.Core.List.{List, [], _∷_}
 use Prim.Native.Nat.{ℕ, _<_, _^_}

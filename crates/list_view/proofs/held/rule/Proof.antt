@@ -1,5 +1,5 @@
 -- `list_view::held::rule` meets its contract: a walk of its MIR, by hand. The struct is taken apart, and `rule_in` is called on its bytes and the number.
--- What the struct owns is had twice: one copy stays for the exit, and of the other what the bytes own goes to the callee. Assumes nothing.
+-- What the struct owns is had twice: one copy stays for the exit, and of the other what the bytes own goes to the callee.
 use mathlib.Core.Path.{_≡_, refl}
 use mathlib.Core.List.{[], _∷_}
 use Prim.Native.Nat.{ℕ}

@@ -1,5 +1,5 @@
 -- `list_view::held::sizes_of` meets its contract: a walk of its MIR, by hand. The struct is taken apart, and `sizes_in` is called on its bytes and its count.
--- What the struct owns is had twice: one copy stays for the exit, and of the other what the bytes own goes to the callee. Assumes nothing.
+-- What the struct owns is had twice: one copy stays for the exit, and of the other what the bytes own goes to the callee.
 use mathlib.Core.Path.{_≡_, refl}
 use mathlib.Core.List.{[], _∷_}
 use Prim.Native.Nat.{_<_, _^_}

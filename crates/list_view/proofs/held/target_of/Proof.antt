@@ -1,5 +1,5 @@
 -- `list_view::held::target_of` meets its contract: a walk of its MIR, by hand. The struct is taken apart, and `target_in` is called on its bytes, its count, the symbol and the states.
--- What the struct owns is had twice: one copy stays for the exit, and of the other what the bytes own goes to the callee. Assumes nothing.
+-- What the struct owns is had twice: one copy stays for the exit, and of the other what the bytes own goes to the callee.
 use mathlib.Core.Path.{_≡_, refl}
 use mathlib.Core.List.{List, [], _∷_, map}
 use Prim.Native.Nat.{ℕ, _<_, _^_}

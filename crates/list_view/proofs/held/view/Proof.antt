@@ -1,5 +1,5 @@
 -- `list_view::held::view` meets its contract: a walk of its MIR, by hand. Three calls, of which the proof knows only that each meets its contract: the bytes
--- shown, the rules counted, and the struct made of the two. A `&[u8]` is Copy, so each callee has a copy of what it owns, and one stays. Assumes nothing.
+-- shown, the rules counted, and the struct made of the two. A `&[u8]` is Copy, so each callee has a copy of what it owns, and one stays.
 use mathlib.Core.Path.{_≡_, refl, ap, _∙_}
 use mathlib.Core.List.{List, [], _∷_}
 use Prim.Native.Nat.{ℕ}

@@ -1,5 +1,5 @@
 -- `list_view::lookup::count_in` meets its contract: a byte of the first body.
--- By what body returns. Assumes nothing.
+-- By what body returns.
 use mathlib.Core.Path.{ap, _∙_}
 use mathlib.Core.List.{List}
 use Prim.Native.Nat.{ℕ}

@@ -1,5 +1,5 @@
 -- `list_view::lookup::final_in` meets its contract: a byte of the second body is 1.
--- By what body and rest return. Assumes nothing.
+-- By what body and rest return.
 use mathlib.Core.Path.{ap, _∙_}
 use mathlib.Core.List.{List}
 use Prim.Native.Nat.{ℕ}

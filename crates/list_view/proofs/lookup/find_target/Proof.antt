@@ -1,5 +1,5 @@
 -- `list_view::lookup::find_target` meets its contract: one loop over the blocks.
--- The invariant: the rules left give what all of them give. The measure is how many are left. Assumes nothing.
+-- The invariant: the rules left give what all of them give. The measure is how many are left.
 use mathlib.Core.Path.{_≡_, refl, sym, ap, _∙_}
 use mathlib.Core.List.{List}
 use mathlib.Core.Option.{some}

@@ -1,5 +1,5 @@
 -- `list_view::lookup::left_is` meets its contract: the symbol, then the states.
--- A symbol that differs makes the conjunction false. Assumes nothing.
+-- A symbol that differs makes the conjunction false.
 use mathlib.Core.Path.{sym, ap, _∙_}
 use mathlib.Core.List.{List}
 use Prim.Native.Nat.{ℕ}

@@ -1,5 +1,5 @@
 -- `list_view::lookup::octet_at` meets its contract: an element of the slice, or 0 past its end.
--- Past its end a list has the default. Assumes nothing.
+-- Past its end a list has the default.
 use mathlib.Core.Path.{sym}
 use lib.ListN.{List·getD-eq-default}
 use borrow.Author.Needs.{needs}

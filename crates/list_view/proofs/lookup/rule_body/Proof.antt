@@ -1,5 +1,5 @@
 -- `list_view::lookup::rule_body` meets its contract: one loop over the blocks.
--- The invariant: what is behind the blocks left is what is behind all of them. The measure is how many are left. Assumes nothing.
+-- The invariant: what is behind the blocks left is what is behind all of them. The measure is how many are left.
 use mathlib.Core.Path.{_≡_, sym, ap, _∙_}
 use Prim.Native.Nat.{_-_}
 use native.Mathlib.Omega.{arith}

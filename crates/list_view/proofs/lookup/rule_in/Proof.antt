@@ -1,5 +1,5 @@
 -- `list_view::lookup::rule_in` meets its contract: symbol, states and target of one body.
--- By what each byte of the body is. Assumes nothing.
+-- By what each byte of the body is.
 use borrow.Author.Needs.{needs}
 use Rattle.model.specs.Listing.{bodyAt, behind}
 use Rattle.list.specs.Blocks.{after}

@@ -1,5 +1,5 @@
 -- `list_view::lookup::rules_shown` meets its contract: the size that load says.
--- A list has at most 256 rules, so the number fits. Assumes nothing.
+-- A list has at most 256 rules, so the number fits.
 use mathlib.Core.Path.{ap}
 use native.Mathlib.Omega.{arith}
 use borrow.Author.Needs.{needs}

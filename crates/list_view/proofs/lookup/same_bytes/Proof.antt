@@ -1,5 +1,5 @@
 -- `list_view::lookup::same_bytes` meets its contract: lengths first, then one loop over both.
--- The invariant: what is left of both from i on decides. The measure is what is left. Assumes nothing.
+-- The invariant: what is left of both from i on decides. The measure is what is left.
 use mathlib.Core.Path.{_≡_, sym, _∙_}
 use Prim.Native.Nat.{_-_, _≤_}
 use native.Mathlib.Omega.{arith}

@@ -1,5 +1,5 @@
 -- `list_view::lookup::shown_bytes` meets its contract: all bytes or none, by what load says.
--- By cases on what the bytes read as. Assumes nothing.
+-- By cases on what the bytes read as.
 use mathlib.Core.Path.{sym, ap, _∙_}
 use borrow.Author.Needs.{needs}
 use Rattle.model.specs.declared.Emitted.{Emitted}

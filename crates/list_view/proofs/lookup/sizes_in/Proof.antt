@@ -1,5 +1,5 @@
 -- `list_view::lookup::sizes_in` meets its contract: the lengths of the two bodies.
--- By what body and rest return. Assumes nothing.
+-- By what body and rest return.
 use mathlib.Core.Path.{ap, _∙_}
 use mathlib.Core.List.{List}
 use Prim.Native.Nat.{ℕ}

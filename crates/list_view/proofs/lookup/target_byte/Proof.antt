@@ -1,5 +1,5 @@
 -- `list_view::lookup::target_byte` meets its contract: the last byte, or 0 of none.
--- Past its end a list has the default. Assumes nothing.
+-- Past its end a list has the default.
 use mathlib.Core.Path.{sym}
 use native.Mathlib.Omega.{arith}
 use lib.ListN.{List·getD-eq-default}

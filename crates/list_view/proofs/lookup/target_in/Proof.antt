@@ -1,5 +1,5 @@
 -- `list_view::lookup::target_in` meets its contract: the rules behind the first two blocks, and as many states as the symbol has children.
--- By what width, body and rest return. Assumes nothing.
+-- By what width, body and rest return.
 use mathlib.Core.Path.{sym, ap, _∙_}
 use mathlib.Core.List.{List}
 use Prim.Native.Nat.{ℕ}

@@ -1,4 +1,4 @@
--- `finish::finish` meets its contract: the lists mean the tables that settling is given, so what settling came to is what the step comes to.
+-- `finish::finish` meets its contract: the lists mean the tables that settling is given, so settling ends as the step does.
 -- The lists left are made field by field, and the law says that they are those of the tables.
 use mathlib.Core.Path.{sym}
 use Prim.Native.Nat.{ℕ, _≤_}

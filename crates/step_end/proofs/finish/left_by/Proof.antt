@@ -25,12 +25,6 @@ enum-told-2 c = search needs
 short-requires-2 : tie.Need-short-requires-2
 short-requires-2 c κs = search needs
 
-enum-told-3 : tie.Need-enum-told-3
-enum-told-3 c = search needs
-
-short-requires-3 : tie.Need-short-requires-3
-short-requires-3 c κs = search needs
-
 enum-known-step : tie.Need-enum-known-step
 enum-known-step c = search needs
 
@@ -55,17 +49,12 @@ returns-2 c =
 
 returns-3 : tie.Need-returns-3
 returns-3 c =
-    let s = c .before .before .before in
-    by-case (s .args .lists) (s .args .step) Step.NoRules (s .args .s) (c .short3 .result) (c .before .enum-told3 .given .1) (c .short3 .ensures .0)
-
-returns-4 : tie.Need-returns-4
-returns-4 c =
     let s = c .before .before .before .before in
     let g = c .before .before .step .given in
     by-case (s .args .lists) (s .args .step) (Step.Asks (g .0 .0) (g .0 .1 .0)) (s .args .s) (record { number = 0; lists = c .asking .result }) (g .1) (refl, c .asking .ensures)
 
-returns-5 : tie.Need-returns-5
-returns-5 c =
+returns-4 : tie.Need-returns-4
+returns-4 c =
     let s = c .before .before .before .before in
     let g = c .before .before .step2 .given in
     by-case (s .args .lists) (s .args .step) (Step.Proposes (g .0 .0)) (s .args .s) (record { number = 0; lists = c .proposing .result }) (g .1) (refl, c .proposing .ensures)
@@ -78,8 +67,6 @@ left-by-spec =
     short-requires
     enum-told-2
     short-requires-2
-    enum-told-3
-    short-requires-3
     enum-known-step
     asking-requires
     enum-known-step-2
@@ -87,5 +74,4 @@ left-by-spec =
     returns
     returns-2
     returns-3
-    returns-4
-    returns-5)
+    returns-4)

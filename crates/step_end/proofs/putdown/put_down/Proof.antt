@@ -85,7 +85,7 @@ arrays s =
 letters : (s : Start) → s .args .lists .letters ≤ length (s .args .lists .counts)
 letters s = few-letters (s .pre .0) (arrays s)
 
--- what filling came to
+-- how filling ended
 came : (c : Filled) →
     Comes (start c .args .words .now) (countsIn (start c .args .lists)) (start c .args .lists .used) (fill (tablesOf (start c .args .words .now) (start c .args .lists) .store) (way (start c)) 0)
     (c .fill .result) (c .fill .last .0) (c .fill .last .1 .1 .1 .0) (c .fill .last .1 .1 .1 .1 .0) (c .fill .last .1 .1 .1 .1 .1 .0) (start c .args .mix .now)

@@ -1,5 +1,4 @@
 -- `whole::observe_with` meets its contract. The invariant: the first k transitions have their rows of answers.
--- Assumes nothing.
 use mathlib.Core.Path.{_≡_, refl, subst, _∙_}
 use Prim.Native.Nat.{ℕ, _-_, _≤_}
 use native.Mathlib.Omega.{arith}

@@ -1,5 +1,5 @@
 -- `text_lines::lines::asked_of` meets its contract: each return by the tests that led to it.
--- A line that got past ok is not ok, by its length or by one of its bytes. Assumes nothing.
+-- A line that got past ok is not ok, by its length or by one of its bytes.
 use mathlib.Core.Path.{_≡_, sym}
 use mathlib.Core.Bool.{false}
 use mathlib.Core.Logic.{⊎-elim}

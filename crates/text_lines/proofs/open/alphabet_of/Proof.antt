@@ -1,5 +1,5 @@
 -- `text_lines::open::alphabet_of` meets its contract: a loop that reads a letter and a digit a turn.
--- The invariant: what is left of the line decides, with the pairs so far in the arrays. The measure is how much is left. Assumes nothing.
+-- The invariant: what is left of the line decides, with the pairs so far in the arrays. The measure is how much is left.
 use mathlib.Core.Path.{_≡_, refl, sym, _∙_}
 use mathlib.Core.Bool.{true}
 use mathlib.Core.List.{List}

@@ -1,5 +1,5 @@
 -- `text_lines::open::is_digit` meets its contract: both ends of the range are tested.
--- The second test is made where the first held, and there it decides. Assumes nothing.
+-- The second test is made where the first held, and there it decides.
 use borrow.Author.Tests.{le-leb, lt-leb}
 use Rattle.text_lines.proofs.open.is_digit.Statement.{statement}
 use Rattle.text_lines.proofs.open.is_digit.Tie as tie

@@ -1,5 +1,5 @@
 -- `text_lines::open::is_letter` meets its contract: a capital by the first test, else what the test for a small letter says.
--- Where the first test is passed by, no capital is there, whichever of its halves failed. Assumes nothing.
+-- Where the first test is passed by, no capital is there, whichever of its halves failed.
 use mathlib.Core.Path.{_≡_}
 use mathlib.Core.Bool.{false}
 use mathlib.Core.Logic.{⊎-elim}

@@ -1,5 +1,5 @@
 -- `text_lines::open::pair_fits` meets its contract: four tests, then the letter is looked for among those before it.
--- The invariant: the four hold, so that what is left of the letters decides. The measure is how many are left. Assumes nothing.
+-- The invariant: the four hold, so that what is left of the letters decides. The measure is how many are left.
 use mathlib.Core.Path.{_≡_, sym, ap, _∙_}
 use mathlib.Core.Bool.{true, not}
 use mathlib.Core.List.{List}

@@ -1,5 +1,5 @@
 -- `text_print::print::count_of` meets its contract: past the end there are no children.
--- By the length. Assumes nothing.
+-- By the length.
 use mathlib.Core.Path.{sym}
 use borrow.Author.Needs.{needs}
 use lib.ListN.{List·getD-eq-default}

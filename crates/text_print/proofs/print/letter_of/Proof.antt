@@ -1,5 +1,5 @@
 -- `text_print::print::letter_of` meets its contract: a letter past the end is none.
--- By the length. Assumes nothing.
+-- By the length.
 use mathlib.Core.Path.{sym}
 use native.Mathlib.Omega.{arith}
 use borrow.Author.Needs.{needs}

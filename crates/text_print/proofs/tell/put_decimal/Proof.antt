@@ -1,5 +1,5 @@
 -- `text_print::tell::put_decimal` meets its contract: the digits from the ten thousands down, and the last, one behind the other.
--- Four of at most one byte each leave room for the last. Assumes nothing.
+-- Four of at most one byte each leave room for the last.
 use mathlib.Core.List.{_++_}
 use Prim.Native.Nat.{_+_, _%_}
 use native.Mathlib.Omega.{arith}

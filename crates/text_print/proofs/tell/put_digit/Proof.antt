@@ -1,5 +1,5 @@
 -- `text_print::tell::put_digit` meets its contract: no byte where the number is below the power, else one.
--- The byte written is a run of one. Assumes nothing.
+-- The byte written is a run of one.
 use native.Mathlib.Omega.{arith}
 use borrow.Author.Needs.{needs}
 use Rattle.text_print.proofs.Laws.Telling.{digit-none, digit-one}

@@ -1,5 +1,5 @@
 -- `text_print::tell::put_number` meets its contract: a space, and the number behind it.
--- The two are one run. Assumes nothing.
+-- The two are one run.
 use mathlib.Core.List.{_∷_}
 use native.Mathlib.Omega.{arith}
 use lib.ListN.{length-set}

@@ -1,5 +1,5 @@
 -- `text_print::tell::put_question` meets its contract: a record that is not too large is printed, and of another the row is told.
--- A record of at most 1,024 symbols takes at most 3,070 bytes. Assumes nothing.
+-- A record of at most 1,024 symbols takes at most 3,070 bytes.
 use Prim.Native.Nat.{_≤_}
 use native.Mathlib.Omega.{arith}
 use lib.ListN.{length}
@@ -51,6 +51,9 @@ numbers c =
 size-of-requires : tie.Need-size-of-requires
 size-of-requires c κs = search needs
 
+cast-if1 : tie.Need-cast-if1
+cast-if1 c = search needs
+
 print-record-requires : tie.Need-print-record-requires
 print-record-requires c κs = let d = c .before in let s = start (d .before) in (s .pre .0, s .pre .1, omega (arith, short d, s .pre .2))
 
@@ -86,6 +89,7 @@ put-question-spec =
     tie.close
     (tie.spec
     size-of-requires
+    cast-if1
     print-record-requires
     same-length
     returns

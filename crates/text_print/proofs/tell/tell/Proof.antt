@@ -1,5 +1,5 @@
 -- `text_print::tell::tell` meets its contract: each test picks the line that it picks in the definition.
--- A question has a row in a good store. Assumes nothing.
+-- A question has a row in a good store.
 use borrow.Author.Needs.{needs}
 use Rattle.model.specs.Store.{Store}
 use Rattle.model.specs.Entry.{storeOf}
