@@ -5,6 +5,8 @@ ghost use lib.ListN.{length};
 ghost use Rattle.script.specs.LineEnd.{lineEnd};
 use libc::STDIN_FILENO;
 use libc::STDOUT_FILENO;
+use model::limits::ROW_WIDTH;
+use text::SCRIPT_ROWS;
 
 // Where the line that begins at a place ends: at its newline, or at the end of the input.
 fn line_end(input: &[u8], from: usize) -> usize
@@ -20,7 +22,7 @@ fn line_end(input: &[u8], from: usize) -> usize
 
 // Hands over line after line.
 fn run(input: &[u8]) {
-    let mut words = [0u32; 16380];
+    let mut words = [0u32; ROW_WIDTH * SCRIPT_ROWS];
     let mut script = text_reply::fresh();
     let mut out = [0u8; 4096];
     let mut at = 0;

@@ -16,7 +16,7 @@ use Rattle.model.proofs.Laws.Tests.{both-true, or-cases}
 use Rattle.model.proofs.Laws.Pigeonhole.{pigeon}
 use Rattle.text.specs.Bytes.{isLetter}
 use Rattle.text.specs.Written.{letterOf}
-use Rattle.text.specs.Reading.{noSymbol, placeFor, noneKnown, indexedFrom, knownOf, symbolIn}
+use Rattle.text.specs.Reading.{noSymbol, placeFor, knownPlaces, noneKnown, indexedFrom, knownOf, symbolIn}
 use Rattle.text.specs.Promise.{Lettered}
 
 -- the symbol a is the one with this letter and this count
@@ -72,7 +72,7 @@ kept a (c ∷ ls) ns kn b k l f (apart-cons n p) =
     kept (suc a) ls (drop 1 ns) (entry kn c (getD ns 0 0) a) b k l (few-tail ns f) p ∙
     ap (λ (ms : List ℕ). symbolIn ms b k) e ∙ getD-set-other kn (placeFor c (getD ns 0 0)) (placeFor b k) a noSymbol (λ q. n (omega arith))
 
-held : (a : ℕ) (ls ns kn : List ℕ) → Distinct ls → Each (λ (b : ℕ). isLetter b ≡ true) ls → ((i : ℕ) → getD ns i 0 ≤ mostChildren) → length kn ≡ 1280 →
+held : (a : ℕ) (ls ns kn : List ℕ) → Distinct ls → Each (λ (b : ℕ). isLetter b ≡ true) ls → ((i : ℕ) → getD ns i 0 ≤ mostChildren) → length kn ≡ knownPlaces →
     (i : ℕ) → i < length ls → symbolIn (indexedFrom a ls ns kn) (letterOf ls i) (getD ns i 0) ≡ a + i
 unfolding indexedFrom
 held a [] ns kn d s f w i l = absurd (omega arith)
@@ -84,12 +84,12 @@ held a (c ∷ ls) ns kn (distinct-cons p d) (each-cons q s) f w zero l =
     ap (λ (ms : List ℕ). symbolIn ms c (getD ns 0 0)) e ∙ getD-set-same kn (placeFor c (getD ns 0 0)) a noSymbol (omega arith) ∙ omega arith
 held a (c ∷ ls) ns kn (distinct-cons p d) (each-cons q s) f w (suc i) l =
     let e = entered kn c (getD ns 0 0) a (f 0) in
-    let v : length (entry kn c (getD ns 0 0) a) ≡ 1280 = ap length e ∙ length-set kn (placeFor c (getD ns 0 0)) a ∙ w in
+    let v : length (entry kn c (getD ns 0 0) a) ≡ knownPlaces = ap length e ∙ length-set kn (placeFor c (getD ns 0 0)) a ∙ w in
     ap (λ (k : ℕ). symbolIn (indexedFrom a (c ∷ ls) ns kn) (letterOf ls i) k) (sym (tail-at ns i)) ∙
     held (suc a) ls (drop 1 ns) (entry kn c (getD ns 0 0) a) d s (few-tail ns f) v i (omega arith) ∙ omega arith
 
 pub symbol-held : {ls ns : List ℕ} → Lettered ls ns → (a : ℕ) → a < length ls → symbolIn (knownOf ls ns) (letterOf ls a) (getD ns a 0) ≡ a
-symbol-held {ls} {ns} w a l = held 0 ls ns noneKnown (w .distinct) (w .letter) (w .few) (length-replicate 1280 noSymbol) a l ∙ omega arith
+symbol-held {ls} {ns} w a l = held 0 ls ns noneKnown (w .distinct) (w .letter) (w .few) (length-replicate knownPlaces noSymbol) a l ∙ omega arith
 
 -- NOTHING ELSE stands there
 blank : (n i : ℕ) → getD (replicate n noSymbol) i noSymbol ≡ noSymbol
@@ -141,5 +141,5 @@ symbol-names ls ns b k l n = go (found 0 ls ns noneKnown b k l)
   where
     go : (symbolIn (knownOf ls ns) b k ≡ symbolIn noneKnown b k) ⊎ ((i : ℕ) × Names ls ns b k i × (symbolIn (knownOf ls ns) b k ≡ 0 + i)) →
         Names ls ns b k (symbolIn (knownOf ls ns) b k)
-    go (inl p) = absurd (n (p ∙ blank 1280 (placeFor b k)))
+    go (inl p) = absurd (n (p ∙ blank knownPlaces (placeFor b k)))
     go (inr q) = let e : q .0 ≡ symbolIn (knownOf ls ns) b k = omega (arith, q .2) in rw e at (q .1)

@@ -1,7 +1,7 @@
 -- The bytes of the script (§8) by name, and numbers in decimal.
 use mathlib.Core.Bool.{Bool, _||_, cond}
 use mathlib.Core.List.{List, [], _∷_, _++_}
-use Prim.Native.Nat.{ℕ, _+_, _*_, _/_, _%_}
+use Prim.Native.Nat.{ℕ, _+_, _-_, _*_, _/_, _%_}
 use lib.Dec.{leb}
 use Rattle.model.specs.Limits.{mostListed}
 use Rattle.model.specs.Base.{isIn}
@@ -82,3 +82,10 @@ mostInput = 65536
 
 abbrev pub replyRoom : ℕ
 replyRoom = 3 * mostListed + 8
+
+-- a record of the most symbols that is written out: three bytes for each letter but the last; and what a question takes of the reply
+abbrev pub recordRoom : ℕ
+recordRoom = 3 * mostListed - 2
+
+abbrev pub questionRoom : ℕ
+questionRoom = 3 * mostListed + 1

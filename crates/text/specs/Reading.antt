@@ -19,8 +19,11 @@ noSymbol = 255
 abbrev pub placeFor : (letter count : ℕ) → ℕ
 placeFor b k = 5 * b + k
 
+abbrev pub knownPlaces : ℕ
+knownPlaces = 1280
+
 abbrev pub noneKnown : List ℕ
-noneKnown = replicate 1280 noSymbol
+noneKnown = replicate knownPlaces noSymbol
 
 unfoldable pub indexedFrom : (symbol : ℕ) → (letters counts known : List ℕ) → List ℕ
 indexedFrom a [] ns kn = kn

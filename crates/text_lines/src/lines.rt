@@ -1,6 +1,7 @@
 // What a later line asks for (§8.3), by its first bytes.
 ghost use mathlib.Core.Path.{_≡_};
 ghost use Rattle.text_lines.specs.Asks.{askedOf};
+use text::MOST_INPUT;
 
 // A call that needs no record, an offer with its mark, or none of these.
 pub enum Asked {
@@ -32,7 +33,7 @@ pub fn asked_of(line: &[u8]) -> Asked
             return Asked::Accept;
         }
     }
-    if len <= 65536 && line[1] == b' ' {
+    if len <= MOST_INPUT && line[1] == b' ' {
         if line[0] == b'+' {
             return Asked::Offer(1);
         }

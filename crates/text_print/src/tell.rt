@@ -7,7 +7,7 @@ ghost use Rattle.model.specs.Base.{over};
 ghost use Rattle.model.specs.Entry.{storeOf};
 ghost use Rattle.list.specs.Put.{putAt};
 ghost use Rattle.bank_sizes.specs.Sizes.{Stored};
-ghost use Rattle.text.specs.Bytes.{space, digitAt, decimal, replyRoom};
+ghost use Rattle.text.specs.Bytes.{space, digitAt, decimal, replyRoom, questionRoom};
 ghost use Rattle.text.specs.Lines.{unreadText, refusedText, proposeText, acceptedText, questionText, askText, seenText};
 ghost use Rattle.text_print.specs.Tells.{Tellable};
 use crate::print;
@@ -110,8 +110,8 @@ fn put_question(
     out: &mut [u8],
     at: usize,
 ) -> usize
-    requires { ⌜ Stored (now words) (now counts) used × (row .0 < used) × (at + 3073 ≤ length (now out)) ⌝ }
-    ensures { λ r. ⌜ (r ≡ at + length (questionText (now (letters .entry)) (storeOf (now (words .entry)) (now (counts .entry)) used) (row .0))) × (r ≤ at + 3073) ⌝ }
+    requires { ⌜ Stored (now words) (now counts) used × (row .0 < used) × (at + questionRoom ≤ length (now out)) ⌝ }
+    ensures { λ r. ⌜ (r ≡ at + length (questionText (now (letters .entry)) (storeOf (now (words .entry)) (now (counts .entry)) used) (row .0))) × (r ≤ at + questionRoom) ⌝ }
     ensures out { λ r. ⌜ now (out .exit) ≡ putAt at (questionText (now (letters .entry)) (storeOf (now (words .entry)) (now (counts .entry)) used) (row .0)) (now (out .entry)) ⌝ }
 {
     if bank_sizes::size_of(words, counts, used, row) as usize <= MOST_LISTED {

@@ -1,16 +1,16 @@
--- What the readers need, and what they come to over the text that they write their symbols into.
+-- What the readers need, and what they give over the text that they write their symbols into.
 use mathlib.Core.Path.{_≡_}
 use mathlib.Core.List.{List}
 use Prim.Native.Nat.{ℕ, _+_, _*_, _≤_, _<_}
 use lib.ListN.{length, take, drop}
 use Rattle.text.specs.Bytes.{mostInput}
-use Rattle.text.specs.Reading.{Reading, unread, read}
+use Rattle.text.specs.Reading.{Reading, unread, read, knownPlaces}
 
 -- a place in the first `len` bytes, with a number of symbols written at their start
 pub record Reads (text : List ℕ) (len : ℕ) (known : List ℕ) (at size : ℕ) : Type 0 where
   pub room : length text ≡ mostInput
   pub few : len ≤ mostInput
-  pub long : length known ≡ 1280
+  pub long : length known ≡ knownPlaces
   pub within : at ≤ len
   pub before : size ≤ at
 

@@ -4,13 +4,16 @@ ghost use mathlib.Core.Path.{_≡_};
 ghost use Prim.Native.Nat.{_+_, _-_, _≤_};
 ghost use lib.ListN.{length, take};
 ghost use Rattle.model.specs.Limits.{mostSymbols};
+ghost use Rattle.text.specs.Bytes.{mostInput};
 ghost use Rattle.text.specs.Reading.{knownOf, balancedFrom, recordAt, listAt, closed, readText};
 ghost use Rattle.text_read.specs.Reads.{Reads, leftAt, readCode, ReadAs, TextAs};
+use text::KNOWN_PLACES;
+use text::MOST_INPUT;
 
 // What a reader gives, in one number, so that it goes through a register and the stack stays small: the place after a record,
 // above the last 17 bits, and how many symbols are read; 0 for no record.
 fn upto(next: u32, size: u32) -> u64
-    requires { ⌜ (next ≤ 65536) × (size ≤ 65536) ⌝ }
+    requires { ⌜ (next ≤ mostInput) × (size ≤ mostInput) ⌝ }
     ensures { λ r. ⌜ r ≡ readCode next size ⌝ }
 {
     131072 * next as u64 + size as u64
@@ -20,11 +23,11 @@ fn upto(next: u32, size: u32) -> u64
 const NONE: u8 = 255;
 
 // The symbols by letter and count of children, five places a byte.
-fn index(letters: &[u8], counts: &[u8]) -> [u8; 1280]
+fn index(letters: &[u8], counts: &[u8]) -> [u8; KNOWN_PLACES]
     requires { ⌜ (length (now letters) ≡ length (now counts)) × (length (now letters) ≤ mostSymbols) ⌝ }
     ensures { λ r. ⌜ r ≡ knownOf (now (letters .entry)) (now (counts .entry)) ⌝ }
 {
-    let mut known = [NONE; 1280];
+    let mut known = [NONE; KNOWN_PLACES];
     let mut i = 0;
     while i < letters.len() {
         let count = counts[i];
@@ -38,8 +41,8 @@ fn index(letters: &[u8], counts: &[u8]) -> [u8; 1280]
 }
 
 // Whether no bracket closes before it opened, and none stays open.
-fn is_balanced(text: &[u8; 65536], len: u32) -> bool
-    requires { ⌜ (length (now text) ≡ 65536) × (len ≤ 65536) ⌝ }
+fn is_balanced(text: &[u8; MOST_INPUT], len: u32) -> bool
+    requires { ⌜ (length (now text) ≡ mostInput) × (len ≤ mostInput) ⌝ }
     ensures { λ r. ⌜ r ≡ balancedFrom 0 (take len (now (text .entry))) ⌝ }
 {
     let mut depth: u32 = 0;
@@ -62,9 +65,9 @@ fn is_balanced(text: &[u8; 65536], len: u32) -> bool
 
 // A record's letter and children have been read: its symbol is looked up by both.
 fn close(
-    text: &mut [u8; 65536],
+    text: &mut [u8; MOST_INPUT],
     len: u32,
-    known: &[u8; 1280],
+    known: &[u8; KNOWN_PLACES],
     letter: u8,
     count: u8,
     next: u32,
@@ -83,7 +86,13 @@ fn close(
 }
 
 // A record: a letter, then its children if a bracket opens.
-fn read_record(text: &mut [u8; 65536], len: u32, known: &[u8; 1280], at: u32, size: u32) -> u64
+fn read_record(
+    text: &mut [u8; MOST_INPUT],
+    len: u32,
+    known: &[u8; KNOWN_PLACES],
+    at: u32,
+    size: u32,
+) -> u64
     requires { ⌜ Reads (now text) len (now known) at size ⌝ }
     ensures { λ r. ⌜ ReadAs (recordAt (now (known .entry)) (take size (now (text .entry))) (leftAt (now (text .entry)) len at)) r len at (now (text .exit)) ⌝ }
 {
@@ -103,9 +112,9 @@ fn read_record(text: &mut [u8; 65536], len: u32, known: &[u8; 1280], at: u32, si
 
 // The k-th child of a record and those after it, up to the closing bracket.
 fn read_list(
-    text: &mut [u8; 65536],
+    text: &mut [u8; MOST_INPUT],
     len: u32,
-    known: &[u8; 1280],
+    known: &[u8; KNOWN_PLACES],
     letter: u8,
     child: u8,
     at: u32,
@@ -138,8 +147,8 @@ fn read_list(
 }
 
 // Reads a whole text as one record: its symbols, children before parent, over the start of the text; how many there are, 0 for no record.
-pub fn read_text(text: &mut [u8; 65536], len: u32, letters: &[u8], counts: &[u8]) -> usize
-    requires { ⌜ (length (now text) ≡ 65536) × (len ≤ 65536) × (length (now letters) ≡ length (now counts)) × (length (now letters) ≤ mostSymbols) ⌝ }
+pub fn read_text(text: &mut [u8; MOST_INPUT], len: u32, letters: &[u8], counts: &[u8]) -> usize
+    requires { ⌜ (length (now text) ≡ mostInput) × (len ≤ mostInput) × (length (now letters) ≡ length (now counts)) × (length (now letters) ≤ mostSymbols) ⌝ }
     ensures { λ r. ⌜ TextAs (readText (now (letters .entry)) (now (counts .entry)) (take len (now (text .entry)))) r (now (text .exit)) ⌝ }
 {
     if !is_balanced(text, len) {

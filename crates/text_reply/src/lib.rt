@@ -4,7 +4,7 @@ ghost use mathlib.Core.Path.{_≡_};
 ghost use Prim.Native.Nat.{_≤_, min};
 ghost use lib.ListN.{length, drop};
 ghost use Rattle.model.specs.Limits.{mostSymbols};
-ghost use Rattle.text.specs.Bytes.{replyRoom};
+ghost use Rattle.text.specs.Bytes.{mostInput, replyRoom};
 ghost use Rattle.text.specs.Reading.{readText};
 ghost use Rattle.text.specs.Alphabet.{alphabetOf};
 ghost use Rattle.text.specs.Lines.{lineOf, offering, unreadText};
@@ -17,6 +17,8 @@ use model::limits::MOST_CONTEXTS;
 use model::limits::MOST_RULES;
 use model::limits::MOST_STATES;
 use model::limits::MOST_SYMBOLS;
+use text::MOST_INPUT;
+use text::REPLY_ROOM;
 use text::Script;
 use text_lines::lines;
 use text_lines::lines::Asked;
@@ -139,14 +141,14 @@ fn first(words: &mut [u32], script: Script, line: &[u8], out: &mut [u8]) -> Repl
 
 // An offer: its record is read, and it is made if there is one.
 fn offer(words: &mut [u32], script: Script, line: &[u8], mark: u8, out: &mut [u8]) -> Replied
-    requires { ⌜ (replyRoom ≤ length (now out)) × (2 ≤ length (now line)) × (length (now line) ≤ 65536) ⌝ }
+    requires { ⌜ (replyRoom ≤ length (now out)) × (2 ≤ length (now line)) × (length (now line) ≤ mostInput) ⌝ }
     ensures { λ r. ⌜ ReplyAs (heard (now (words .entry)) script (offering (readText (lettersOf script) (countsOf script) (drop 2 (now (line .entry)))) mark)) r (now (words .exit)) (now (out .entry)) (now (out .exit)) ⌝ }
 {
     let letters = script.letters;
     let lists = script.lists;
     let counts = lists.counts;
     let n = letters_in(lists.letters);
-    let mut text = [0u8; 65536];
+    let mut text = [0u8; MOST_INPUT];
     let len = list::put_bytes(&mut text, 0, &line[2..]);
     let size = text_read::read_text(&mut text, len as u32, &letters[..n], &counts[..n]);
     if size == 0 {
@@ -189,7 +191,7 @@ fn later(words: &mut [u32], script: Script, line: &[u8], out: &mut [u8]) -> Repl
 pub fn reply(words: &mut [u32], script: Script, line: &[u8], out: &mut [u8]) -> Replied
     ensures { λ r. ⌜ ReplyAs (replyTo (now (words .entry)) script (now (line .entry)) (length (now (out .entry)))) r (now (words .exit)) (now (out .entry)) (now (out .exit)) ⌝ }
 {
-    if out.len() < 3080 {
+    if out.len() < REPLY_ROOM {
         return Replied {
             size: 0,
             script: script,

@@ -15,9 +15,6 @@ mul-if2 c = search needs
 returns-2 : tie.Need-returns-2
 returns-2 c = λ e. absurd (true≢false (sym e))
 
-cast-is-small : tie.Need-cast-is-small
-cast-is-small c = search needs
-
 is-small-requires : tie.Need-is-small-requires
 is-small-requires c κs = search needs
 
@@ -25,4 +22,4 @@ returns-3 : tie.Need-returns-3
 returns-3 c = λ e. let k = c .is-small .ensures e in (omega arith, k .0, omega arith, k .1)
 
 pub is-small-spec : {M : Type 1} → statement M
-is-small-spec = tie.close (tie.spec returns mul-if2 returns-2 cast-is-small is-small-requires returns-3)
+is-small-spec = tie.close (tie.spec returns mul-if2 returns-2 is-small-requires returns-3)

@@ -1,17 +1,19 @@
 -- `script::run` meets its contract: it ends, and every part that it lends lies within the whole.
 -- The invariant: the place is at most behind the end, and the arrays keep their lengths. The measure is what is left of the input.
 use mathlib.Core.Path.{_≡_, sym}
-use Prim.Native.Nat.{_+_, _-_, _≤_}
+use Prim.Native.Nat.{_+_, _-_, _*_, _≤_}
 use native.Mathlib.Omega.{arith}
 use borrow.Author.Needs.{needs}
 use lib.ListN.{length}
 use lib.Seq.{length-take-le}
+use Rattle.model.specs.Limits.{rowWidth}
+use Rattle.text.specs.Script.{scriptRows}
 use Rattle.script.proofs.Laws.{end-within, reply-within}
 use Rattle.script.proofs.run.Statement.{statement}
 use Rattle.script.proofs.run.Tie as tie
 
 abbrev Inv-loop : tie.InvT-loop
-Inv-loop input words₀ script₀ out₀ at₀ words script out at = (at ≤ length input + 1) × (length words ≡ 16380) × (length out ≡ 4096)
+Inv-loop input words₀ script₀ out₀ at₀ words script out at = (at ≤ length input + 1) × (length words ≡ rowWidth * scriptRows) × (length out ≡ 4096)
 
 abbrev μ-loop : tie.MeasureT-loop
 μ-loop input words₀ script₀ out₀ at₀ words script out at = length input - at

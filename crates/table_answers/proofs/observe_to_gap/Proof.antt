@@ -3,9 +3,6 @@ use borrow.Author.Needs.{needs}
 use Rattle.table_answers.proofs.observe_to_gap.Statement.{statement}
 use Rattle.table_answers.proofs.observe_to_gap.Tie as tie
 
-cast-if1 : tie.Need-cast-if1
-cast-if1 c = search needs
-
 gap-some-requires : tie.Need-gap-some-requires
 gap-some-requires c κs = search needs
 
@@ -37,7 +34,6 @@ pub observe-to-gap-spec : {M : Type 1} → statement M
 observe-to-gap-spec =
     tie.close
     (tie.spec
-    cast-if1
     gap-some-requires
     same-length
     returns

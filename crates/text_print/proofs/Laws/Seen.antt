@@ -14,7 +14,7 @@ use Rattle.model.specs.declared.Seen.{Seen}
 use Rattle.bank.proofs.Laws.Words.{used-of}
 use Rattle.bank_sizes.specs.Sizes.{sizeOf, cut, Stored}
 use Rattle.bank_sizes.proofs.Laws.Cut.{cut-most, cut-tells, larger-cut}
-use Rattle.text.specs.Bytes.{rowWord}
+use Rattle.text.specs.Bytes.{rowWord, recordRoom}
 use Rattle.text.specs.Written.{rowText}
 use Rattle.text.specs.Lines.{numbered, refusedText, acceptedText, askText, proposeText, questionText, seenText}
 use Rattle.text_print.proofs.Laws.Printing.{text-short}
@@ -28,7 +28,7 @@ module _ {ws ns : List ℕ} {n : ℕ} (s : Stored ws ns n) (i : ℕ) (l : i < n)
     pub question-written : rowText ls (storeOf ws ns n) i ≡ questionText ls (storeOf ws ns n) i
     question-written = rw (le-leb (sizeOf (storeOf ws ns n) i) mostListed small)
 
-    pub question-short : length (rowText ls (storeOf ws ns n) i) ≤ 3070
+    pub question-short : length (rowText ls (storeOf ws ns n) i) ≤ recordRoom
     question-short = omega (arith, small, text-short ls (storeOf ws ns n) (s .good) i (omega (arith, used-of ws ns n)))
 
   pub question-row : mostListed < r → numbered rowWord i ≡ questionText ls (storeOf ws ns n) i

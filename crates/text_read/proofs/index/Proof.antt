@@ -6,14 +6,14 @@ use Prim.Native.Nat.{_≤_, _-_}
 use native.Mathlib.Omega.{arith}
 use lib.ListN.{length, drop}
 use borrow.Author.Needs.{needs}
-use Rattle.text.specs.Reading.{indexedFrom, knownOf}
+use Rattle.text.specs.Reading.{knownPlaces, indexedFrom, knownOf}
 use Rattle.text_read.proofs.Laws.{indexed-turn, indexed-all}
 use Rattle.text_read.proofs.index.Statement.{statement}
 use Rattle.text_read.proofs.index.Tie as tie
 
 abbrev Inv-loop : tie.InvT-loop
 Inv-loop letters counts known₀ i₀ known i =
-    (i ≤ length letters) × (length known ≡ 1280) × (indexedFrom i (drop i letters) (drop i counts) known ≡ knownOf letters counts)
+    (i ≤ length letters) × (length known ≡ knownPlaces) × (indexedFrom i (drop i letters) (drop i counts) known ≡ knownOf letters counts)
 
 abbrev μ-loop : tie.MeasureT-loop
 μ-loop letters counts known₀ i₀ known i = length letters - i

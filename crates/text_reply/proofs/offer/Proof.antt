@@ -8,6 +8,7 @@ use lib.Seq.{length-take-le}
 use borrow.Author.Needs.{needs}
 use Rattle.model.specs.Limits.{mostSymbols}
 use Rattle.model.specs.Calls.{offers}
+use Rattle.text.specs.Bytes.{mostInput}
 use Rattle.text.specs.Reading.{readText}
 use Rattle.text.specs.Script.{lettersOf, countsOf}
 use Rattle.text_read.specs.Reads.{TextAs}
@@ -73,14 +74,14 @@ counts-long : (c : Lettered) → length (begun c .args .script .lists .counts) �
 counts-long c = search needs
 
 -- the copy: of the text's length, and the record's text at its start
-copy-long : (c : Copied) → length (c .put-bytes .last .0) ≡ 65536
-copy-long c = copied-length (begun (lettered c) .args .line .now) (replicate 65536 0) (c .put-bytes .ensures .1) (c .put-bytes .ensures .0) (begun (lettered c) .pre .2)
+copy-long : (c : Copied) → length (c .put-bytes .last .0) ≡ mostInput
+copy-long c = copied-length (begun (lettered c) .args .line .now) (replicate mostInput 0) (c .put-bytes .ensures .1) (c .put-bytes .ensures .0) (begun (lettered c) .pre .2)
 
-copy-few : (c : Copied) → c .put-bytes .result ≤ 65536
-copy-few c = copied-few (begun (lettered c) .args .line .now) (replicate 65536 0) (c .put-bytes .ensures .1) (c .put-bytes .ensures .0) (begun (lettered c) .pre .2)
+copy-few : (c : Copied) → c .put-bytes .result ≤ mostInput
+copy-few c = copied-few (begun (lettered c) .args .line .now) (replicate mostInput 0) (c .put-bytes .ensures .1) (c .put-bytes .ensures .0) (begun (lettered c) .pre .2)
 
 copy-is : (c : Copied) → take (c .put-bytes .result) (c .put-bytes .last .0) ≡ drop 2 (begun (lettered c) .args .line .now)
-copy-is c = copied (begun (lettered c) .args .line .now) (replicate 65536 0) (c .put-bytes .ensures .1) (c .put-bytes .ensures .0) (begun (lettered c) .pre .2)
+copy-is c = copied (begun (lettered c) .args .line .now) (replicate mostInput 0) (c .put-bytes .ensures .1) (c .put-bytes .ensures .0) (begun (lettered c) .pre .2)
 
 -- the symbols read
 abbrev given : Parsed → Start

@@ -8,9 +8,6 @@ use Rattle.call_room.proofs.tried.is_short.Tie as tie
 returns : tie.Need-returns
 returns c = λ e. absurd (true≢false (sym e))
 
-cast-is-small : tie.Need-cast-is-small
-cast-is-small c = search needs
-
 add-is-small : tie.Need-add-is-small
 add-is-small c = search needs
 
@@ -21,4 +18,4 @@ returns-2 : tie.Need-returns-2
 returns-2 c = search needs
 
 pub is-short-spec : {M : Type 1} → statement M
-is-short-spec = tie.close (tie.spec returns cast-is-small add-is-small is-small-requires returns-2)
+is-short-spec = tie.close (tie.spec returns add-is-small is-small-requires returns-2)

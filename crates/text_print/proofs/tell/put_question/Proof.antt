@@ -5,7 +5,7 @@ use native.Mathlib.Omega.{arith}
 use lib.ListN.{length}
 use borrow.Author.Needs.{needs}
 use Rattle.model.specs.Entry.{storeOf}
-use Rattle.text.specs.Bytes.{rowWord}
+use Rattle.text.specs.Bytes.{rowWord, recordRoom}
 use Rattle.text.specs.Written.{rowText}
 use Rattle.text.specs.Lines.{questionText}
 use Rattle.text_print.proofs.Laws.Runs.{Run, run-as, run-of, run-then}
@@ -17,7 +17,7 @@ abbrev start : tie.After-size-of → tie.Start
 start c = c .before .before .before .before .before
 
 -- written out
-short : (c : tie.Then1) → let a = start (c .before) .args in length (rowText (a .letters .now) (storeOf (a .words .now) (a .counts .now) (a .used)) (a .row .0)) ≤ 3070
+short : (c : tie.Then1) → let a = start (c .before) .args in length (rowText (a .letters .now) (storeOf (a .words .now) (a .counts .now) (a .used)) (a .row .0)) ≤ recordRoom
 short c =
     let s = start (c .before) in
     question-short (s .pre .0) (s .args .row .0) (s .pre .1) (s .args .letters .now) (c .before .size-of .result) (c .before .size-of .ensures) (c .if1 .taken)
