@@ -11,10 +11,12 @@ ghost use Rattle.call.specs.Calls.{CallAs};
 ghost use Rattle.call_lent.specs.Said.{callOf};
 ghost use Rattle.call_room.specs.Tried.{FirstAs, moreSpareRows, spareRows};
 use bank::ladder;
+use bank::ladder::MID_BUCKETS;
 use bank::ladder::MID_ROWS;
 use bank::ladder::MID_RULES;
 use bank::ladder::SMALL_ROWS;
 use bank::ladder::SMALL_RULES;
+use bank::ladder::TINY_BUCKETS;
 use bank::ladder::TINY_ROWS;
 use bank::ladder::TINY_RULES;
 use call::Done;
@@ -44,7 +46,7 @@ fn in_tiny(words: &mut [u32], lists: Lists, symbols: &[u8], said: Said, saved: &
     ensures { λ r. ⌜ CallAs (now (words .entry)) lists (callOf said (now (symbols .entry))) r (now (words .exit)) ⌝ }
 {
     let mut holes = [0u8; TINY_ROWS];
-    let mut head = [0u16; 512];
+    let mut head = [0u16; TINY_BUCKETS];
     let mut next = [0u16; TINY_ROWS];
     let mut mix = [0u32; 5];
     let mut table = [0u8; MOST_CONTEXTS * TINY_RULES];
@@ -100,7 +102,7 @@ fn in_mid(words: &mut [u32], lists: Lists, symbols: &[u8], said: Said, saved: &m
     ensures { λ r. ⌜ CallAs (now (words .entry)) lists (callOf said (now (symbols .entry))) r (now (words .exit)) ⌝ }
 {
     let mut holes = [0u8; MID_ROWS];
-    let mut head = [0u16; 4096];
+    let mut head = [0u16; MID_BUCKETS];
     let mut next = [0u16; MID_ROWS];
     let mut mix = [0u32; 5];
     let mut table = [0u8; MOST_CONTEXTS * MID_RULES];
