@@ -117,7 +117,7 @@ stored (a ∷ xs) x g k is hs e (parses la ln ps) i y q =
               ap (λ (l : List _). evalFrom h z (x .counts) xs (h a (top (countOf x a) (map (f x) is)) ∷ l)) drops;
         }
 
--- a row from N on on the stack is in the record: the root is from N on
+-- a row from N on that is on the stack is in the record: the root is from N on
 pub reaches : (n : ℕ) (xs : List ℕ) (x : Store) → Good x → (k : ℕ) (is : List ℕ) → Each (IsRecord x) is → length is ≡ k → Parses (x .counts) k xs → (i : ℕ) (y : Store) →
     storeFrom x xs is ≡ built i y → (j : ℕ) → In j is → n ≤ j → n ≤ i
 unfolding storeFrom

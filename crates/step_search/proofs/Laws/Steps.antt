@@ -64,7 +64,7 @@ module _ (p : ℕ → Bool) (x : Store) (g : Good x) where
     pub path-down : (i : ℕ) → i < n → pathOf ds x i ≡ down p x i .around
     path-down i u = path-is (suc i) i u (omega arith)
 
--- a record's frames around its spot, along the array of all rows' places down: as `fill` of growth needs them
+-- a record's frames around its spot, along the array of all rows' places down: as `fill` of bank_fill needs them
 module _ {s reps : List ℕ} {x : Store} {ds at ex : List ℕ} {n : ℕ} (g : Good x) (d : Descended s reps x ds at ex n) (l : n ≤ used x) (h : ℕ) (u : h < n) where
   pub path-around : pathOf ds x h ≡ spotOf s x h .around
   path-around = path-down (λ (k : ℕ). not (among k s)) x g ds n l (d .down-is) h u

@@ -1,4 +1,4 @@
--- `sound_parts::judge::roles_fit` meets its contract: T2, T3, then T4's first clauses, by the laws of roles.
+-- `sound_parts::judge::roles_fit` meets its contract: T2, T3, then T4's first clauses, by the laws of sound_roles.
 use mathlib.Core.Path.{sym, _∙_}
 use native.Mathlib.Omega.{arith}
 use borrow.Author.Tests.{not-true, not-false}
