@@ -2,7 +2,7 @@
 use mathlib.Core.Path.{_≡_}
 use mathlib.Core.Bool.{Bool, true}
 use mathlib.Core.List.{List, [], _∷_, _++_}
-use Prim.Native.Nat.{ℕ, _+_, _*_}
+use Prim.Native.Nat.{ℕ, _+_, _-_, _*_}
 use lib.ListN.{length, getD, take, drop, replicate}
 use Rattle.model.specs.Limits.{holeSymbol, rowWidth, mostContexts, mostListed, mostRows, mostRules, mostStates, mostSymbols}
 use Rattle.model.specs.Base.{all}
@@ -120,7 +120,7 @@ pub record Starts : Type 0 where
       startLists (oldWords 2) counts oldLists ≡
       record {
         letters = 2;
-        counts = 1 ∷ 0 ∷ replicate 62 0;
+        counts = 1 ∷ 0 ∷ replicate (mostSymbols - 2) 0;
         used = 1;
         states = 0;
         s = replicate mostStates 0;
@@ -133,7 +133,7 @@ pub record Starts : Type 0 where
         accepted = 0;
       }
   pub most-rows : startSeen (oldWords mostRows) counts ≡ seen 0 0 0 0 1
-  pub a-row-more : startSeen (oldWords 16385) counts ≡ zeros 18
+  pub a-row-more : startSeen (oldWords (mostRows + 1)) counts ≡ zeros 18
   pub no-words : startSeen [] counts ≡ zeros 18
   pub a-word-more : startSeen (7 ∷ oldWords 2) counts ≡ zeros 18
   pub no-alphabet : startSeen (oldWords 2) [] ≡ zeros 17
