@@ -7,10 +7,10 @@ use mathlib.Core.Option.{Option, none, some}
 use Prim.Native.Nat.{ℕ, zero, suc, _+_, _≤_, _<_}
 use lib.Dec.{eqb}
 use lib.ListN.{length, getD}
-use Rattle.model.specs.Limits.{mostSymbols, mostStates, mostRules, mostContexts}
+use Rattle.model.specs.Limits.{mostSymbols, mostStates, mostRules, mostContexts, mostListed}
 use Rattle.model.specs.Base.{isIn, all, among, allAmong, In, Each, Below}
 use Rattle.model.specs.Store.{Store, used, countOf, kidsAt, isRecord, findRow, Frame, filledRow, Spot, spotOf, Extends}
-use Rattle.model.specs.Terms.{Tree, Within, treeAt, treeOf, recordFault}
+use Rattle.model.specs.Terms.{Tree, Within, Over, treeAt, treeOf, symbolsOf, recordFault}
 use Rattle.model.specs.Automata.{Rule, Automaton, isDeterministic, stateOf, accepts, ruleAtRoot, acceptsRow, acceptsList}
 use Rattle.model.specs.Table.{Tables, size, answerAt, answerIn, rowOf, ruleOf, automatonOf}
 use Rattle.model.specs.Sound.{alphabetFits, isSound, isNearlySound, contextsFew}
@@ -108,6 +108,15 @@ pub record Due (x : Tables) (k : Call) : Type 0 where
 abbrev pub TakenWhenDue : Type 0
 TakenWhenDue = (x : Tables) (k : Call) → isSound x ≡ true → Due x k
 
+-- an offer is refused by the lines of §5.3 and by no other: where a record over the alphabet of at most 1,024 symbols is offered while proposing,
+-- with a mark that is not the verdict on it and that no known answer about it contradicts, it is taken, or something runs short
+abbrev pub OffersTaken : Type 0
+OffersTaken =
+    (x : Tables) (t : Tree) (m : ℕ) → isSound x ≡ true → phaseOf x ≡ 0 → Over (x .store .counts) t → length (symbolsOf t) ≤ mostListed → m ≤ 1 →
+    cond (accepts (automatonOf x) t) 1 0 ≢ m →
+    ((i : ℕ) → i < used (x .store) → treeAt (x .store) i ≡ t → (answerAt (x .answers) i ≡ 0) ⊎ (answerAt (x .answers) i ≡ m + 1)) →
+    among (numberOf (call x (offers (symbolsOf t) m))) (0 ∷ 34 ∷ 35 ∷ 36 ∷ []) ≡ true
+
 -- the counts told are the lengths of S, T and C, the phase and row told are the tables'
 pub record Tells (seen : Seen) (x : Tables) : Type 0 where
   pub states : seen .states ≡ length (x .s)
@@ -119,6 +128,16 @@ pub record Tells (seen : Seen) (x : Tables) : Type 0 where
 pub record CountsTold : Type 0 where
   pub calls : (l : Lent) (k : Call) → isTaken l k ≡ true → Tells (callSeen (l .words) (l .lists) k) (meant (afterCall l k))
   pub start : (ws ns : List ℕ) (old : Lists) → startNumber ws ns ≡ 0 → Tells (startSeen ws ns) (meant (startedRun ws ns old))
+
+-- what a taken call of a fresh run tells is what looking tells next
+pub record LooksNext : Type 0 where
+  pub calls : (ws ns : List ℕ) (old : Lists) (ks : List Call) (k : Call) → startNumber ws ns ≡ 0 →
+      let l = after (startedRun ws ns old) ks in
+      let next = afterCall l k in
+      isTaken l k ≡ true → callSeen (next .words) (next .lists) looks ≡ callSeen (l .words) (l .lists) k
+  pub start : (ws ns : List ℕ) (old : Lists) → startNumber ws ns ≡ 0 →
+      let l = startedRun ws ns old in
+      callSeen (l .words) (l .lists) looks ≡ startSeen ws ns
 
 -- DEMAND 2: the partial learner, in its order of choices
 
@@ -211,14 +230,26 @@ pub record Grown (l : Lent) (ks : List Call) : Type 0 where
 abbrev pub GrowsEach : Type 0
 GrowsEach = (ws ns : List ℕ) (old : Lists) (ks : List Call) → startNumber ws ns ≡ 0 → Grown (startedRun ws ns old) ks
 
+-- the records of the p-th representative and of the p-th transition
+abbrev pub repTree : Tables → (p : ℕ) → Tree
+repTree x p = treeAt (x .store) (getD (x .s) p 0)
+
+abbrev pub ruleTree : Tables → (p : ℕ) → Tree
+ruleTree x p = treeAt (x .store) (getD (x .t) p 0)
+
 -- what an automaton of n states and d rules that agrees with all that was taken shows of the run
 pub record Learnt (d : Automaton) (l : Lent) (ks : List Call) : Type 0 where
-  pub representative : (p : ℕ) → p < length (meant (after l ks) .s) → stateOf d (treeAt (meant (after l ks) .store) (getD (meant (after l ks) .s) p 0)) ≢ none
-  pub apart : (p q : ℕ) → p < q → q < length (meant (after l ks) .s) →
-      stateOf d (treeAt (meant (after l ks) .store) (getD (meant (after l ks) .s) p 0)) ≢ stateOf d (treeAt (meant (after l ks) .store) (getD (meant (after l ks) .s) q 0))
-  pub transition : (p : ℕ) → p < length (meant (after l ks) .t) → ruleAtRoot d (treeAt (meant (after l ks) .store) (getD (meant (after l ks) .t) p 0)) ≢ none
-  pub own-rule : (p q : ℕ) → p < q → q < length (meant (after l ks) .t) →
-      ruleAtRoot d (treeAt (meant (after l ks) .store) (getD (meant (after l ks) .t) p 0)) ≢ ruleAtRoot d (treeAt (meant (after l ks) .store) (getD (meant (after l ks) .t) q 0))
+  -- no two representatives lead it to the same state
+  pub representative : let x = meant (after l ks) in
+      (p : ℕ) → p < length (x .s) → stateOf d (repTree x p) ≢ none
+  pub apart : let x = meant (after l ks) in
+      (p q : ℕ) → p < q → q < length (x .s) → stateOf d (repTree x p) ≢ stateOf d (repTree x q)
+  -- no two transitions use the same rule of it
+  pub transition : let x = meant (after l ks) in
+      (p : ℕ) → p < length (x .t) → ruleAtRoot d (ruleTree x p) ≢ none
+  pub own-rule : let x = meant (after l ks) in
+      (p q : ℕ) → p < q → q < length (x .t) → ruleAtRoot d (ruleTree x p) ≢ ruleAtRoot d (ruleTree x q)
+  -- S and T grow by the records taken, which are at most n + d, and so the proposals are few
   pub grows-each : grows l ks ≡ true
   pub taken-few : taken l ks ≤ length (d .finals) + length (d .rules)
   pub shown-are : shown l ks ≡ taken l ks + cond (isAsking (meant (after l ks))) 0 1

@@ -101,10 +101,12 @@ settled x = settledBy x (seek (x .store) (x .answers) (x .c) (x .t))
 abbrev pub withContext : (context : ℕ) → (c : List ℕ) → List ℕ
 withContext c cs = cond (among c cs) cs (cs ++ (c ∷ []))
 
+abbrev pub putTables : Tables → (transitions : List ℕ) → (context : ℕ) → Store → Tables
+putTables x t c y = tables y (blanked (x .store) y (x .answers)) (x .s) t (withContext c (x .c)) 0 0 false
+
 abbrev pub putBy : Tables → Built → Ended
 putBy x full = short ofRows
-putBy x (built c y) =
-    settled (tables y (blanked (x .store) y (x .answers)) (x .s) (x .t) (withContext c (x .c)) 0 0 false)
+putBy x (built c y) = settled (putTables x (x .t) c y)
 
 abbrev pub putDown : Tables → List Frame → Ended
 putDown x fs = putBy x (fill (x .store) fs 0)
@@ -123,15 +125,19 @@ advance x =
     cond (eqb (x .hand) 0) (settled x) (searched x (search (x .store) (x .answers) (x .s) (x .t) (x .c) (x .hand)))
 
 -- AN OFFER TAKEN (§3.4): its rows and its mark stored, taken in hand
+abbrev pub offeredTables : Tables → (mark row : ℕ) → Store → Tables
+offeredTables x m i y = tables y (set (blanked (x .store) y (x .answers)) i (m + 1)) (x .s) (x .t) (x .c) i 0 false
+
 abbrev pub takenBy : Tables → (mark : ℕ) → Built → Ended
 takenBy x m full = short ofRows
-takenBy x m (built i y) =
-    advance (tables y (set (blanked (x .store) y (x .answers)) i (m + 1)) (x .s) (x .t) (x .c) i 0 false)
+takenBy x m (built i y) = advance (offeredTables x m i y)
 
 abbrev pub offered : Tables → (symbols : List ℕ) → (mark : ℕ) → Ended
 offered x xs m = takenBy x m (storeFrom (x .store) xs [])
 
 -- AN ANSWER TAKEN (§3.5): stored, and the question closed
+abbrev pub answeredTables : Tables → (mark : ℕ) → Tables
+answeredTables x m = tables (x .store) (set (x .answers) (x .asked) (m + 1)) (x .s) (x .t) (x .c) (x .hand) 0 false
+
 abbrev pub answered : Tables → (mark : ℕ) → Ended
-answered x m =
-    advance (tables (x .store) (set (x .answers) (x .asked) (m + 1)) (x .s) (x .t) (x .c) (x .hand) 0 false)
+answered x m = advance (answeredTables x m)
