@@ -53,6 +53,7 @@ pub mod Fresh
 -- another number of rows lent
 pub mod Room
 pub mod Lending
+pub mod Needed
 -- soundness, tested and as facts
 pub mod ReflectLists
 pub mod ReflectRows
@@ -62,6 +63,9 @@ pub mod Sounds
 pub mod Lent
 pub mod Taken
 pub mod Took
+-- what runs short, where it does
+pub mod Begun
+pub mod Due
 pub mod Along
 pub mod LentPart
 -- runs: call after call

@@ -1,6 +1,7 @@
 pub mod Worked
 pub mod Calls
 pub mod Sound
+pub mod Looks
 pub mod Listing
 pub mod Steps
 pub mod Order

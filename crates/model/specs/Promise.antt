@@ -19,6 +19,7 @@ use Rattle.model.specs.Listing.{emitted, Read, loaded, readList, finalsF
 use Rattle.model.specs.Steps.{Search, lost, search, Sought, noneUnknown, unknown, seek, grow}
 use Rattle.model.specs.Calls.{Call, offers, answers, accept, looks, emits, Outcome, refuses, numberOf, isAsking, phaseOf, faultOf, call}
 use Rattle.model.specs.Entry.{sizeFits, listsFit, startNumber, startSeen, startLists, callNumber, callSeen}
+use Rattle.model.specs.Due.{RowsShort, StatesShort, TransitionsShort}
 use Rattle.model.specs.Run.{Lent, meant, startedRun, afterCall, after, isTaken, takenOnly, taken, shown, grows, Said, said, saidIn, offeredBy, askedBy, heardIn, agreesWith}
 use Rattle.model.specs.declared.Lists.{Lists}
 use Rattle.model.specs.declared.Seen.{Seen}
@@ -78,32 +79,13 @@ pub record SearchEnds : Type 0 where
   pub in-hand : (x : Tables) → isSound x ≡ true → x .hand ≢ 0 → search (x .store) (x .answers) (x .s) (x .t) (x .c) (x .hand) ≢ lost
   pub in-calls : (x : Tables) (k : Call) → call x k ≢ refuses 255
 
--- on sound tables a call is refused by the first line that applies. Where none does it is taken, or something runs short, and then it does:
--- all lent rows are used and a row that is wanted is not there; 32 states have other rows than some transition; there are 256 transitions
-pub record RowsShort (x : Store) : Type 0 where
-  pub grown : Store
-  pub extends : Extends x grown
-  pub all-used : used grown ≡ x .room
-  pub symbol : ℕ
-  pub kids : List ℕ
-  pub wanted : (symbol < length (grown .counts)) × (length kids ≡ countOf grown symbol) × Below (used grown) kids
-  pub absent : findRow grown symbol kids ≡ 0
-
-pub record StatesShort (x : Tables) : Type 0 where
-  pub grown : Tables
-  pub extends : Extends (x .store) (grown .store)
-  pub kept : (i : ℕ) → In i (x .s) → In i (grown .s)
-  pub many : length (grown .s) ≡ mostStates
-  pub transition : ℕ
-  pub there : In transition (grown .t)
-  pub other : (i : ℕ) → In i (grown .s) → rowOf grown transition ≢ rowOf grown i
-
+-- on sound tables a call is refused by the first line that applies. Where none does it is taken, or something runs short, and then it does
 pub record Due (x : Tables) (k : Call) : Type 0 where
   pub refused : faultOf x k ≢ 0 → call x k ≡ refuses (faultOf x k)
   pub taken-or-short : faultOf x k ≡ 0 → among (numberOf (call x k)) (0 ∷ 34 ∷ 35 ∷ 36 ∷ []) ≡ true
-  pub rows : call x k ≡ refuses 34 → RowsShort (x .store)
-  pub states : call x k ≡ refuses 35 → StatesShort x
-  pub transitions : call x k ≡ refuses 36 → length (x .t) ≡ mostRules
+  pub rows : call x k ≡ refuses 34 → RowsShort x k
+  pub states : call x k ≡ refuses 35 → StatesShort x k
+  pub transitions : call x k ≡ refuses 36 → TransitionsShort x k
 
 abbrev pub TakenWhenDue : Type 0
 TakenWhenDue = (x : Tables) (k : Call) → isSound x ≡ true → Due x k

@@ -1,6 +1,6 @@
 -- A record in hand is asked about, or put down with something gained: a transition more, or a context that separates one from its representative.
 -- The search ends in one of three ways; each makes the rows of one filled context, and rows that are added change no answer.
-use mathlib.Core.Path.{_≡_, refl, sym, ap, _∙_}
+use mathlib.Core.Path.{_≡_, refl, sym, ap, subst, _∙_}
 use mathlib.Core.Logic.{_≢_, _⊎_, inl, inr}
 use mathlib.Core.Bool.{Bool, true, false, not, cond}
 use mathlib.Core.List.{List, [], _∷_, _++_}
@@ -15,7 +15,8 @@ use Rattle.model.specs.Base.{Distinct, In, among, same}
 use Rattle.model.specs.Store.{filledRow, Spot, Built, Extends, Frame, Store, built, fill, full, used}
 use Rattle.model.specs.Automata.{Rule, isFinal, rowState}
 use Rattle.model.specs.Table.{Tables, answersOf, rulesOf, size, tables}
-use Rattle.model.specs.Steps.{withContext, Shortage, ofTransitions, Ended, Search, asks, atDifference, atNewTransition, atUnknown, blanked, opened, putBy, search, searched, short}
+use Rattle.model.specs.Steps.{withContext, Shortage, ofTransitions, Ended, Search, asks, atDifference, atNewTransition, atUnknown, blanked, opened, putTables, putBy, search, searched, short}
+use Rattle.model.specs.Reached.{Settles, as-they-are, with-transition, with-difference}
 use Rattle.model.specs.Facts.{Leads, Fits, Good, IsRecord}
 use Rattle.model.specs.TableFacts.{SpotAt, Few, Tidy, Core, HandFits, Held, SearchEnd, Whole, ends-different, ends-new, ends-unknown, proposedState, proposedVerdict}
 use Rattle.model.proofs.Laws.Lists.{some-in, in-last, member-in, in-not, distinct-snoc}
@@ -26,10 +27,9 @@ use Rattle.model.proofs.Laws.Verdict.{state-ext}
 use Rattle.model.proofs.Laws.Proposal.{finals-same}
 use Rattle.model.proofs.Laws.Search.{in-hand-ends}
 use Rattle.model.proofs.Laws.Held.{Blank, answer-ext}
-use Rattle.model.proofs.Laws.Turn.{With, had, put, put-adds, put-parts, answers-same, with-length}
-use Rattle.model.proofs.Laws.Short.{fill-full}
+use Rattle.model.proofs.Laws.Turn.{Pending, With, had, put, put-adds, put-parts, answers-same, with-length}
 use Rattle.model.proofs.Laws.Flags.{core-flags, tidy-flags}
-use Rattle.model.proofs.Laws.Settle.{Gains, SettledOk, settled-ok, blank-is, past, blanked-length, Keeps, keeps-blanked, blank-keeps, ShortOk, short-rows, AskedEnd, opened-end}
+use Rattle.model.proofs.Laws.Settle.{Gains, SettledOk, settled-ok, blank-is, past, blanked-length, Keeps, keeps-blanked, blank-keeps, ShortOk, short-rows, short-rules, AskedEnd, opened-end}
 use Rattle.model.proofs.Laws.Unchanged.{full-of, rules-same, stored-whole}
 
 -- T7 is kept where rows were added
@@ -73,8 +73,7 @@ pub record PutDown (x z : Tables) : Type 0 where
 
 -- THE END of a record in hand: short; asked about, still in hand; or put down, and then settled
 pub data HandOk (x : Tables) : Ended → Type 0 where
-  hand-short : {n : Shortage} → ShortOk x n → HandOk x (short n)
-  hand-rules : length (x .t) ≡ mostRules → HandOk x (short ofTransitions)
+  hand-short : {n : Shortage} → ShortOk n → HandOk x (short n)
   hand-asks : {y : Tables} → AskedEnd x y → Whole y → HandFits (y .store) (y .answers) (y .s) (y .t) (y .c) (y .hand) → 1 ≤ length (x .t) → HandOk x (asks y)
   hand-down : {z : Tables} {e : Ended} → PutDown x z → SettledOk z e → HandOk x e
 
@@ -145,6 +144,12 @@ module _ (x : Tables) (f : Whole x) (td : Tidy x) (fw : Few x) where
       go (inl a) = omega arith
       go (inr a) = omega arith
 
+  pub new-core : (h : ℕ) (p : Spot) (fit : HandFits st w (x .s) (x .t) (x .c) h) (o : SpotAt st w (x .s) (x .t) (x .c) h p) → (In (p .row) (x .t) → ⊥) → getD w h 0 ≡ 2 →
+      (c : ℕ) (y : Store) (q : fill st (p .around) 0 ≡ built c y) → Core (down (x .t ++ (p .row ∷ [])) y c (p .around) q (o .fits))
+  new-core h p fit o n e c y q =
+      down-core (x .t ++ (p .row ∷ [])) y c (p .around) q (o .fits)
+      (put-adds st w (x .s) (x .t) (x .c) (k .good) (k .held) h p o fit c y q (blanked st y w) (blank-is st y w (k .counted) (k .first)) (withContext c (x .c)) (chosen c (x .c)) n e)
+
   new-transition : (h : ℕ) (p : Spot) → HandFits st w (x .s) (x .t) (x .c) h → SpotAt st w (x .s) (x .t) (x .c) h p → (In (p .row) (x .t) → ⊥) → getD w h 0 ≡ 2 →
       HandOk x (searched x (atNewTransition h p))
   new-transition h p fit o n e = go (leb mostRules (length (x .t))) refl (fill st (p .around) 0) refl
@@ -154,13 +159,10 @@ module _ (x : Tables) (f : Whole x) (td : Tidy x) (fw : Few x) where
 
       go : (b : Bool) → leb mostRules (length (x .t)) ≡ b → (r : Built) → fill st (p .around) 0 ≡ r →
           HandOk x (cond b (short ofTransitions) (putBy (tables st w (x .s) (x .t ++ (p .row ∷ [])) (x .c) h 0 false) r))
-      go true u r q = let a = leb-true mostRules (length (x .t)) u in let b = td .few-t in hand-rules (omega arith)
-      go false u full q = hand-short (short-rows (fill-full (p .around) st (k .good) (o .fits) 0 (k .good .start) q))
+      go true u r q = hand-short short-rules
+      go false u full q = hand-short short-rows
       go false u (built c y) q =
-          let t' = x .t ++ (p .row ∷ []) in
-          let b = blank-is st y w (k .counted) (k .first) in
-          let hd = put-adds st w (x .s) (x .t) (x .c) (k .good) (k .held) h p o fit c y q (blanked st y w) b (withContext c (x .c)) (chosen c (x .c)) n e in
-          let its-core = down-core (x .t ++ (p .row ∷ [])) y c (p .around) q (o .fits) hd in
+          let its-core = new-core h p fit o n e c y q in
           let l = length-append (x .t) (p .row ∷ []) in
           let few-contexts = few-grown in
           let lt = leb-false mostRules (length (x .t)) u in
@@ -183,7 +185,7 @@ module _ (x : Tables) (f : Whole x) (td : Tidy x) (fw : Few x) where
   unknown-answer h p rep fit o m n z = go (fill st (p .around) rep) refl
     where
       go : (r : Built) → fill st (p .around) rep ≡ r → HandOk x (opened (tables st w (x .s) (x .t) (x .c) h 0 false) r)
-      go full q = hand-short (short-rows (fill-full (p .around) st (k .good) (o .fits) rep (k .held .row rep (k .held .among rep n) .within) q))
+      go full q = hand-short short-rows
       go (built j y) q =
           let rep-record = k .held .row rep (k .held .among rep n) in
           let a = opened-end (tables st w (x .s) (x .t) (x .c) h 0 false) (core-flags x k h 0 false) (p .around) (o .fits) rep rep-record z j y q (tidy-flags x td h 0 false) in
@@ -204,18 +206,25 @@ module _ (x : Tables) (f : Whole x) (td : Tidy x) (fw : Few x) where
           (hand-ext st y (k .good) (made .good) (made .ext) w (blanked st y w) (x .s) (x .t) (x .c) (past w (used y - used st)) (blank-is st y w (k .counted) (k .first)) (k .held) h fit)
           (some-in m)
 
+  parted : (h : ℕ) (p : Spot) (rep j : ℕ) → HandFits st w (x .s) (x .t) (x .c) h → (o : SpotAt st w (x .s) (x .t) (x .c) h p) → In (p .row) (x .t) → In rep (x .s) →
+      answersOf st w (x .c) (p .row) ≡ answersOf st w (x .c) rep → Leads st (p .around) rep j → getD w j 0 ≢ 0 → getD w j 0 ≢ getD w h 0 → (c : ℕ) (y : Store) (q : fill st (p .around) 0 ≡ built c y) →
+      Core (down (x .t) y c (p .around) q (o .fits)) × Pending y (blanked st y w) (x .s) (x .t) (withContext c (x .c))
+  parted h p rep j fit o m n e l z d c y q =
+      let rep-record = k .held .row rep (k .held .among rep n) in
+      let j-within = leads-within st (p .around) rep j (rep-record .within) l in
+      let b = blank-is st y w (k .counted) (k .first) in
+      let r = put-parts st w (x .s) (x .t) (x .c) (k .good) (k .held) h p o fit c y q (blanked st y w) b (withContext c (x .c)) (chosen c (x .c)) m rep j n e l j-within z d in
+      (down-core (x .t) y c (p .around) q (o .fits) (r .0), r .1)
+
   different-answer : (h : ℕ) (p : Spot) (rep j : ℕ) → HandFits st w (x .s) (x .t) (x .c) h → SpotAt st w (x .s) (x .t) (x .c) h p → In (p .row) (x .t) → In rep (x .s) →
       answersOf st w (x .c) (p .row) ≡ answersOf st w (x .c) rep → Leads st (p .around) rep j → getD w j 0 ≢ 0 → getD w j 0 ≢ getD w h 0 → HandOk x (searched x (atDifference h p rep j))
   different-answer h p rep j fit o m n e l z d = go (fill st (p .around) 0) refl
     where
       go : (r : Built) → fill st (p .around) 0 ≡ r → HandOk x (putBy x r)
-      go full q = hand-short (short-rows (fill-full (p .around) st (k .good) (o .fits) 0 (k .good .start) q))
+      go full q = hand-short short-rows
       go (built c y) q =
-          let b = blank-is st y w (k .counted) (k .first) in
-          let rep-record = k .held .row rep (k .held .among rep n) in
-          let j-within = leads-within st (p .around) rep j (rep-record .within) l in
-          let r = put-parts st w (x .s) (x .t) (x .c) (k .good) (k .held) h p o fit c y q (blanked st y w) b (withContext c (x .c)) (chosen c (x .c)) m rep j n e l j-within z d in
-          let its-core = down-core (x .t) y c (p .around) q (o .fits) (r .0) in
+          let r = parted h p rep j fit o m n e l z d c y q in
+          let its-core = r .0 in
           let some-rule = some-in m in
           let few = few-size (omega arith) in
           let its-tidy = down-tidy (x .t) y c (p .around) q (o .fits) (td .few-t) few in
@@ -240,3 +249,17 @@ module _ (x : Tables) (f : Whole x) (td : Tidy x) (fw : Few x) where
   -- on every full table with a record in hand that the proposal gets wrong
   pub hand-ok : (h : ℕ) → HandFits st w (x .s) (x .t) (x .c) h → HandOk x (searched x (search st w (x .s) (x .t) (x .c) h))
   hand-ok h fit = by-hand (search st w (x .s) (x .t) (x .c) h) (in-hand-ends st w (x .s) (x .t) (x .c) (full-of x f) h fit)
+
+  -- the tables that a step settles with the record put down
+  pub down-settles : (y : Tables) → HandFits st w (x .s) (x .t) (x .c) (x .hand) → Settles x y → Core y
+  down-settles y fit (as-they-are z) = k
+  down-settles y fit (with-transition {hand = h} {context = c} {p = p} {y = v} held e l q) =
+      go (subst (SearchEnd st w (x .s) (x .t) (x .c)) e (in-hand-ends st w (x .s) (x .t) (x .c) (full-of x f) (x .hand) fit))
+    where
+      go : SearchEnd st w (x .s) (x .t) (x .c) (atNewTransition h p) → Core (putTables x (x .t ++ (p .row ∷ [])) c v)
+      go (ends-new fits o n a) = new-core h p fits o n a c v q
+  down-settles y fit (with-difference {hand = h} {rep = rep} {row = j} {context = c} {p = p} {y = v} held e q) =
+      go (subst (SearchEnd st w (x .s) (x .t) (x .c)) e (in-hand-ends st w (x .s) (x .t) (x .c) (full-of x f) (x .hand) fit))
+    where
+      go : SearchEnd st w (x .s) (x .t) (x .c) (atDifference h p rep j) → Core (putTables x (x .t) c v)
+      go (ends-different fits o m n a l z d) = parted h p rep j fits o m n a l z d c v q .0

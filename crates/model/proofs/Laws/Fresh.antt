@@ -23,7 +23,7 @@ use Rattle.model.proofs.Laws.Lists.{no-in, in-one}
 use Rattle.model.proofs.Laws.Down.{hole-has}
 use Rattle.model.proofs.Laws.Agree.{RulesIn, few-states, few-rules}
 use Rattle.model.proofs.Laws.Settle.{Gains, settled-ok, SettledOk, ok-short, ok-asks, ok-proposes}
-use Rattle.model.proofs.Laws.Advance.{HandOk, hand-short, hand-rules, hand-asks, hand-down}
+use Rattle.model.proofs.Laws.Advance.{HandOk, hand-short, hand-asks, hand-down}
 use Rattle.model.proofs.Laws.Offer.{offer-ok}
 use Rattle.model.proofs.Laws.Answer.{answered-core, answered-tidy, answered-gains, answer-hand-ok}
 
@@ -63,7 +63,6 @@ settled-after z e k n h a b c (ok-proposes {y = y} q g) =
 
 pub hand-after : (x : Tables) (e : Ended) (k n : ℕ) → Few x → (k ≤ size x ⊎ ((size x ≡ 0) × (k ≡ 1))) → n ≤ size x → HandOk x e → After k n e
 hand-after x e k n c l m (hand-short s) = after-short
-hand-after x e k n c l m (hand-rules s) = after-short
 hand-after x e k n c l m (hand-asks {y = y} q whole fit u) = after-asks (q .tidy) (in-hand whole fit (q .opens) (q .running) (cy c) (ky l) (rw (q .same-s, q .same-t) m)) (q .opens) (q .running)
   where
     cy : (length (x .c) ≤ 1) ⊎ (length (x .c) ≤ size x) → length (y .c) ≤ size y

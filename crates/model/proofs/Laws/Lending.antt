@@ -144,6 +144,18 @@ module _ (r : ℕ) where
   end-room (asks y) e' s d = ap endOf s
   end-room (proposes y) e' s d = ap endOf s
 
+  -- what a line looks at has no room in it
+  pub fault-room : (x : Tables) (k : Call) → faultOf (withRoom r x) k ≡ faultOf x k
+  fault-room x (offers xs m) = λ i.
+      orElse (unless (isProposing x) 31)
+      (orElse (recordFault (x .store .counts) xs)
+      (orElse (unless (markFits m) 16)
+      (orElse (unless (not (eqb (cond (acceptsList (automaton-room r x i) xs) 1 0) m)) 32) (unless (not (contradicts (answerAt (x .answers) (known-room r (x .store) xs [] i)) m)) 33))))
+  fault-room x (answers m) = refl
+  fault-room x accept = refl
+  fault-room x looks = refl
+  fault-room x (emits n) = λ i. orElse (unless (not (isAsking x)) 31) (unless (leb (length (emitted (automaton-room r x i))) n) 20)
+
   module _ (x : Tables) (h : x .store .room ≤ r) where
     done-room : (k : Call) → numberOf (doneBy x k) ≢ 34 → doneBy (withRoom r x) k ≡ leftWithRoom r (doneBy x k)
     done-room (offers xs m) d =
@@ -154,20 +166,9 @@ module _ (r : ℕ) where
     done-room looks d = refl
     done-room (emits n) d = refl
 
-    fault-room : (k : Call) → faultOf (withRoom r x) k ≡ faultOf x k
-    fault-room (offers xs m) = λ i.
-        orElse (unless (isProposing x) 31)
-        (orElse (recordFault (x .store .counts) xs)
-        (orElse (unless (markFits m) 16)
-        (orElse (unless (not (eqb (cond (acceptsList (automaton-room r x i) xs) 1 0) m)) 32) (unless (not (contradicts (answerAt (x .answers) (known-room r (x .store) xs [] i)) m)) 33))))
-    fault-room (answers m) = refl
-    fault-room accept = refl
-    fault-room looks = refl
-    fault-room (emits n) = λ i. orElse (unless (not (isAsking x)) 31) (unless (leb (length (emitted (automaton-room r x i))) n) 20)
-
     pub call-room : used (x .store) ≤ x .store .room → (k : Call) → numberOf (call x k) ≢ 34 → call (withRoom r x) k ≡ leftWithRoom r (call x k)
     call-room u k d =
-        (λ i. cond (sound-room r x u (omega arith) i) (cond (eqb (fault-room k i) 0) (doneBy (withRoom r x) k) (refuses (fault-room k i))) (refuses 30)) ∙
+        (λ i. cond (sound-room r x u (omega arith) i) (cond (eqb (fault-room x k i) 0) (doneBy (withRoom r x) k) (refuses (fault-room x k i))) (refuses 30)) ∙
         go (isSound x) (eqb (faultOf x k) 0) d
       where
         go : (b c : Bool) → numberOf (cond b (cond c (doneBy x k) (refuses (faultOf x k))) (refuses 30)) ≢ 34 →

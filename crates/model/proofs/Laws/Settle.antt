@@ -14,10 +14,9 @@ use lib.ListN.{length, getD, replicate, length-append, length-replicate, List·g
 use Rattle.model.specs.Base.{In, here, later}
 use Rattle.model.specs.Store.{Extends, hasHole, Built, Frame, Store, built, fill, filledRow, framesOf, full, used}
 use Rattle.model.specs.Table.{answerAt, rowOf, Tables, answerIn, size, tables}
-use Rattle.model.specs.Steps.{ofStates, ofRows, Shortage, Ended, Sought, asks, blanked, grow, noneUnknown, opened, proposed, proposes, seek, seekIn, settled, settledBy, short, unknown}
+use Rattle.model.specs.Steps.{ofStates, ofRows, ofTransitions, Shortage, Ended, Sought, asks, blanked, grow, noneUnknown, opened, proposed, proposes, seek, seekIn, settled, settledBy, short, unknown}
 use Rattle.model.specs.Facts.{IsContext, Filled, Fits, IsRecord}
 use Rattle.model.specs.TableFacts.{Missing, Tidy, Open, Whole, Known, Core, Held}
-use Rattle.model.specs.Promise.{RowsShort, StatesShort}
 use Rattle.model.proofs.Laws.Lists.{no-in, in-cons, first-in}
 use Rattle.model.proofs.Laws.Rows.{hole-ext}
 use Rattle.model.proofs.Laws.Fill.{fill-is, ext-refl, ext-trans}
@@ -26,7 +25,6 @@ use Rattle.model.proofs.Laws.Down.{context-fits}
 use Rattle.model.proofs.Laws.Held.{answer-ext, Blank, held-ext, differ-ext, fits-ext}
 use Rattle.model.proofs.Laws.Grow.{grown}
 use Rattle.model.proofs.Laws.Turn.{Pending, Gain, gained, grown-held, grown-shaped}
-use Rattle.model.proofs.Laws.Short.{fill-full, short-ext, grow-none}
 use Rattle.model.proofs.Laws.Flags.{tidy-with}
 
 -- SEEKING
@@ -106,24 +104,11 @@ blank-keeps x y k e b i u h = e .answers i ∙ go (ℕ-discrete (answerAt (x .an
     go (yes z) = z
     go (no n) = let v = answered-used x k i n in b i v (hole-ext (x .store) (y .store) (k .good) (e .ext) i v ∙ h)
 
--- WHAT RUNS SHORT while a table is settled
-pub data ShortOk (x : Tables) : Shortage → Type 0 where
-  short-rows : RowsShort (x .store) → ShortOk x ofRows
-  short-states : StatesShort x → ShortOk x ofStates
-
-pub short-keeps : (x y : Tables) → Extends (x .store) (y .store) → y .s ≡ x .s → {n : Shortage} → ShortOk y n → ShortOk x n
-short-keeps x y k e (short-rows q) = short-rows (short-ext k q)
-short-keeps x y k e (short-states q) =
-    short-states
-    (record {
-      grown = q .grown;
-      extends = ext-trans (x .store) (y .store) (q .grown .store) k (q .extends);
-      kept = λ i a. q .kept i (subst (In i) (sym e) a);
-      many = q .many;
-      transition = q .transition;
-      there = q .there;
-      other = q .other;
-    })
+-- WHAT MAY RUN SHORT in a step: rows, states and transitions, and never the search's turns (Promises/Due says when each does)
+pub data ShortOk : Shortage → Type 0 where
+  short-rows : ShortOk ofRows
+  short-states : ShortOk ofStates
+  short-rules : ShortOk ofTransitions
 
 -- A QUESTION OPENED: T1 to T5 still, one unknown record open
 pub record AskedEnd (x y : Tables) : Type 0 where
@@ -206,7 +191,7 @@ module _ (x : Tables) (k : Core x) (fs : List Frame) (q : Fits (x .store) fs) (i
 
 -- SETTLED: short; a question for an answer that is missing; or a proposal, in which whatever was to be gained is gained
 pub data SettledOk (x : Tables) : Ended → Type 0 where
-  ok-short : {n : Shortage} → ShortOk x n → SettledOk x (short n)
+  ok-short : {n : Shortage} → ShortOk n → SettledOk x (short n)
   ok-asks : {y : Tables} → AskedEnd x y → y .hand ≡ x .hand → Missing y → ((n : ℕ) → Gains x n → Gains y n) → SettledOk x (asks y)
   ok-proposes : {y : Tables} → ProposedEnd x y → ((n : ℕ) → Gains x n → n + 1 ≤ size y) → SettledOk x (proposes y)
 
@@ -247,19 +232,7 @@ module _ (x : Tables) (k : Core x) (d : Tidy x) where
       }
 
   propose : Known x → (o : Option (List ℕ)) → grow (rowOf x) (x .s) (x .t) ≡ o → SettledOk x (proposed x o)
-  propose n none e =
-      let q = grow-none (rowOf x) (x .s) (x .t) (d .few-s) e in
-      ok-short
-      (short-states
-      (record {
-        grown = tables (x .store) (x .answers) (q .grown) (x .t) (x .c) 0 0 false;
-        extends = ext-refl (x .store);
-        kept = q .kept;
-        many = q .many;
-        transition = q .transition;
-        there = q .there;
-        other = q .other;
-      }))
+  propose n none e = ok-short short-states
   propose n (some s') e = ok-proposes (proposed-end n s' e) (gained (x .store) (x .answers) (x .s) (x .t) (x .c) s' h n e)
 
   open-at : (c i : ℕ) → In i (x .t) → In c (x .c) → answerIn (x .store) (x .answers) c i ≡ 0 → (b : Built) → fill (x .store) (framesOf (x .store) c) i ≡ b → SettledOk x (opened x b)
@@ -275,7 +248,7 @@ module _ (x : Tables) (k : Core x) (d : Tidy x) where
       q = context-fits (x .store) (k .good) c (hc .within) (hc .hole)
 
       go : (b : Built) → fill (x .store) (framesOf (x .store) c) i ≡ b → SettledOk x (opened x b)
-      go full e = ok-short (short-rows (fill-full (framesOf (x .store) c) (x .store) (k .good) q i (hi .within) e))
+      go full e = ok-short short-rows
       go (built j y) e =
           let m = fill-is (framesOf (x .store) c) (x .store) (k .good) q i (hi .within) j y e in
           let b = blank-is (x .store) y (x .answers) (k .counted) (k .first) in

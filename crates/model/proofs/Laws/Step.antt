@@ -21,15 +21,13 @@ use Rattle.model.specs.Steps.{Shortage, ofRows, ofTransitions, Ended, sh
 use Rattle.model.specs.Facts.{Good, IsRecord, Parses}
 use Rattle.model.specs.TableFacts.{Core, Tidy, Whole, Few, Open, HandFits, proposedVerdict}
 use Rattle.model.specs.Calls.{isAsking, isProposing, markFits, contradicts, verdictIs, offerFault, answerFault}
-use Rattle.model.specs.Promise.{RowsShort}
 use Rattle.model.proofs.Laws.Tests.{both-true}
 use Rattle.model.proofs.Laws.Fill.{ext-refl, ext-trans}
 use Rattle.model.proofs.Laws.Trees.{recordFault-parses}
 use Rattle.model.proofs.Laws.Listed.{stored}
 use Rattle.model.proofs.Laws.Verdict.{ended, run-state}
-use Rattle.model.proofs.Laws.Short.{store-full}
-use Rattle.model.proofs.Laws.Settle.{Keeps, ShortOk, short-keeps, SettledOk, ok-short, ok-asks, ok-proposes, settled-ok, past, blanked-length}
-use Rattle.model.proofs.Laws.Advance.{PutDown, HandOk, hand-short, hand-rules, hand-asks, hand-down}
+use Rattle.model.proofs.Laws.Settle.{Keeps, ShortOk, SettledOk, ok-short, ok-asks, ok-proposes, settled-ok, past, blanked-length}
+use Rattle.model.proofs.Laws.Advance.{PutDown, HandOk, hand-short, hand-asks, hand-down}
 use Rattle.model.proofs.Laws.Offer.{offer-ok, its-answer}
 use Rattle.model.proofs.Laws.Answer.{answered-core, answered-tidy, answer-hand-ok}
 use Rattle.model.specs.Phase.{idle, holding, filling, Nearly}
@@ -148,21 +146,13 @@ step-left x y (inr (by-hand c h)) = hand-left x y (inr h)
 step-left x y (inr (by-settling e s)) = settled-left x y e (inr s)
 
 -- and what runs short
-pub data StepShort (x : Tables) : Shortage → Type 0 where
-  short-of : {n : Shortage} → ShortOk x n → StepShort x n
-  short-rules : length (x .t) ≡ mostRules → StepShort x ofTransitions
-
-settled-short : (x : Tables) (n : Shortage) → SettledOk x (short n) → ShortOk x n
+settled-short : (x : Tables) (n : Shortage) → SettledOk x (short n) → ShortOk n
 settled-short x n (ok-short s) = s
 
-hand-short-of : (x : Tables) (n : Shortage) → HandOk x (short n) → StepShort x n
-hand-short-of x n (hand-short s) = short-of s
-hand-short-of x n (hand-rules l) = short-rules l
-hand-short-of x n (hand-down {z = z} p s) = short-of (short-keeps x z (p .keeps .ext) (p .same-s) (settled-short z n s))
-
-pub step-short : (x : Tables) (n : Shortage) → StepOk x (short n) → StepShort x n
-step-short x n (by-hand c h) = hand-short-of x n h
-step-short x n (by-settling e s) = short-of (settled-short x n s)
+pub step-short : (x : Tables) (n : Shortage) → StepOk x (short n) → ShortOk n
+step-short x n (by-hand c (hand-short s)) = s
+step-short x n (by-hand c (hand-down {z = z} p s)) = settled-short z n s
+step-short x n (by-settling e s) = settled-short x n s
 
 -- THE MARK STORED: one record more answered, the rest as it was
 pub record Marked (x y : Tables) (i v : ℕ) : Type 0 where
@@ -178,7 +168,7 @@ pub record Marked (x y : Tables) (i v : ℕ) : Type 0 where
 
 -- AN OFFER on sound tables: its rows run short, or its mark is stored and the step goes on
 pub data OfferOk (x : Tables) (xs : List ℕ) (m : ℕ) : Ended → Type 0 where
-  no-rows : RowsShort (x .store) → OfferOk x xs m (short ofRows)
+  no-rows : OfferOk x xs m (short ofRows)
   stored-at : {e : Ended} (y : Tables) (i : ℕ) → Marked x y i (m + 1) → treeAt (y .store) i ≡ treeOf (x .store .counts) xs → StepOk y e → OfferOk x xs m e
 
 -- a record in hand is searched
@@ -226,7 +216,7 @@ module _ (x : Tables) (f : Whole x) (d : Tidy x) (w : Few x) (xs : List ℕ) (m 
   offer-taken = go (storeFrom (x .store) xs []) refl
     where
       go : (b : Built) → storeFrom (x .store) xs [] ≡ b → OfferOk x xs m (takenBy x m b)
-      go full e = no-rows (store-full xs (x .store) (f .core .good) 0 [] each-nil refl (o .parsed) e)
+      go full e = no-rows
       go (built i y) e =
           let k = marked-at i y e in
           let z : Tables = tables y (set (blanked (x .store) y (x .answers)) i (m + 1)) (x .s) (x .t) (x .c) i 0 false in

@@ -2,7 +2,8 @@
 use Rattle.model.specs.Promised.{Promised}
 use Rattle.model.proofs.Promises.Calls.{refused-untouched, reads-untouched, unsound-refused, counts-told, taken-alone}
 use Rattle.model.proofs.Promises.Sound.{sound-means, stays-sound, stays-nearly-sound}
-use Rattle.model.proofs.Promises.Steps.{search-ends, taken-when-due}
+use Rattle.model.proofs.Promises.Looks.{looks-next}
+use Rattle.model.proofs.Promises.Steps.{search-ends, taken-when-due, room-alone}
 use Rattle.model.proofs.Promises.Order.{ordered}
 use Rattle.model.proofs.Promises.History.{asked-once, answers-taken, vouched}
 use Rattle.model.proofs.Promises.Automata.{one-automaton}
@@ -21,7 +22,9 @@ promised =
       stays-nearly-sound = stays-nearly-sound;
       search-ends = search-ends;
       taken-when-due = taken-when-due;
+      room-alone = room-alone;
       counts-told = counts-told;
+      looks-next = looks-next;
       ordered = ordered;
       asked-once = asked-once;
       answers-taken = answers-taken;

@@ -16,15 +16,18 @@ use Rattle.model.specs.Sound.{isSound}
 use Rattle.model.specs.Steps.{Shortage, shortageNumber, Ended, short, asks, proposes, Search, lost, search, offered, answered}
 use Rattle.model.specs.TableFacts.{Whole, HandFits, SearchEnd, ends-new, ends-unknown, ends-different}
 use Rattle.model.specs.Calls.{Call, offers, answers, accept, looks, emits, Outcome, refuses, leaves, numberOf, endOf, faultOf, doneBy, call}
-use Rattle.model.specs.Promise.{SearchEnds, RowsShort, StatesShort, Due, TakenWhenDue}
+use Rattle.model.specs.Due.{RoomAlone}
+use Rattle.model.specs.Promise.{SearchEnds, Due, TakenWhenDue}
 use Rattle.model.proofs.Laws.Search.{in-hand-ends}
-use Rattle.model.proofs.Laws.Settle.{short-rows, short-states, short-keeps}
+use Rattle.model.proofs.Laws.Settle.{ShortOk, short-rows, short-states, short-rules}
 use Rattle.model.proofs.Laws.Unchanged.{full-of}
 use Rattle.model.specs.Phase.{Phase, idle, holding, filling, Sounds}
-use Rattle.model.proofs.Laws.Step.{offering, answering, StepOk, StepShort, short-of, short-rules, step-short, Marked, OfferOk, no-rows, stored-at, offer-taken}
+use Rattle.model.proofs.Laws.Step.{offering, answering, StepOk, step-short, OfferOk, no-rows, stored-at, offer-taken}
 use Rattle.model.proofs.Laws.Faults.{fault-small}
 use Rattle.model.proofs.Laws.Sounds.{sound-facts}
 use Rattle.model.proofs.Laws.Took.{idle-facts, answer-ok}
+use Rattle.model.proofs.Laws.Lending.{call-room}
+use Rattle.model.proofs.Laws.Due.{rows-due, states-due, transitions-due}
 
 -- THE SEARCH: a record in hand on sound tables goes against the proposal
 held-facts : (x : Tables) → x .hand ≢ 0 → Phase x → Whole x × HandFits (x .store) (x .answers) (x .s) (x .t) (x .c) (x .hand)
@@ -43,26 +46,21 @@ search-found x e n =
     found x (search (x .store) (x .answers) (x .s) (x .t) (x .c) (x .hand))
     (in-hand-ends (x .store) (x .answers) (x .s) (x .t) (x .c) (full-of x (f .0)) (x .hand) (f .1))
 
--- HOW A CALL that no line refuses comes out on sound tables
-data Ran (x : Tables) : Outcome → Type 0 where
-  ran : {y : Tables} → Ran x (leaves y)
-  ran-short : {n : Shortage} → StepShort x n → Ran x (refuses (shortageNumber n))
+-- HOW A CALL that no line refuses ends on sound tables
+data Ran : Outcome → Type 0 where
+  ran : {y : Tables} → Ran (leaves y)
+  ran-short : {n : Shortage} → ShortOk n → Ran (refuses (shortageNumber n))
 
--- what is short where the mark is stored was short before
-short-before : (x y : Tables) (i v : ℕ) → Marked x y i v → {n : Shortage} → StepShort y n → StepShort x n
-short-before x y i v k (short-of s) = short-of (short-keeps x y (k .ext) (k .same-s) s)
-short-before x y i v k (short-rules l) = short-rules (sym (ap length (k .same-t)) ∙ l)
+end-ran : (y : Tables) (e : Ended) → StepOk y e → Ran (endOf e)
+end-ran y (short n) s = ran-short (step-short y n s)
+end-ran y (asks z) s = ran
+end-ran y (proposes z) s = ran
 
-end-ran : (x y : Tables) (i v : ℕ) → Marked x y i v → (e : Ended) → StepOk y e → Ran x (endOf e)
-end-ran x y i v k (short n) s = ran-short (short-before x y i v k (step-short y n s))
-end-ran x y i v k (asks z) s = ran
-end-ran x y i v k (proposes z) s = ran
+offer-ran : (x : Tables) (xs : List ℕ) (m : ℕ) (e : Ended) → OfferOk x xs m e → Ran (endOf e)
+offer-ran x xs m e no-rows = ran-short short-rows
+offer-ran x xs m e (stored-at y i k t s) = end-ran y e s
 
-offer-ran : (x : Tables) (xs : List ℕ) (m : ℕ) (e : Ended) → OfferOk x xs m e → Ran x (endOf e)
-offer-ran x xs m e (no-rows q) = ran-short (short-of (short-rows q))
-offer-ran x xs m e (stored-at y i k t s) = end-ran x y i (m + 1) k e s
-
-done-ran : (x : Tables) → Sounds x → (k : Call) → faultOf x k ≡ 0 → Ran x (doneBy x k)
+done-ran : (x : Tables) → Sounds x → (k : Call) → faultOf x k ≡ 0 → Ran (doneBy x k)
 done-ran x s (offers xs m) f =
     let o = offering x xs m f in
     let w = idle-facts x s (o .idle-now) in
@@ -70,76 +68,60 @@ done-ran x s (offers xs m) f =
 done-ran x s (answers m) f =
     let a = answering x m f in
     let r = answer-ok x s (a .0) m (a .1) .1 in
-    end-ran x (r .marked-tables) (x .asked) (m + 1) (r .marked) (answered x m) (r .step)
+    end-ran (r .marked-tables) (answered x m) (r .step)
 done-ran x s accept f = ran
 done-ran x s looks f = ran
 done-ran x s (emits r) f = ran
 
--- which number says what
-module _ (x : Tables) where
-  ran-number : (o : Outcome) → Ran x o → among (numberOf o) (0 ∷ 34 ∷ 35 ∷ 36 ∷ []) ≡ true
-  unfolding among
-  ran-number o ran = refl
-  ran-number o (ran-short (short-of (short-rows q))) = refl
-  ran-number o (ran-short (short-of (short-states q))) = refl
-  ran-number o (ran-short (short-rules l)) = refl
+-- which numbers there are
+ran-number : (o : Outcome) → Ran o → among (numberOf o) (0 ∷ 34 ∷ 35 ∷ 36 ∷ []) ≡ true
+unfolding among
+ran-number o ran = refl
+ran-number o (ran-short short-rows) = refl
+ran-number o (ran-short short-states) = refl
+ran-number o (ran-short short-rules) = refl
 
-  ran-rows : (o : Outcome) → Ran x o → numberOf o ≡ 34 → RowsShort (x .store)
-  ran-rows o ran e = absurd (omega arith)
-  ran-rows o (ran-short (short-of (short-rows q))) e = q
-  ran-rows o (ran-short (short-of (short-states q))) e = absurd (omega arith)
-  ran-rows o (ran-short (short-rules l)) e = absurd (omega arith)
-
-  ran-states : (o : Outcome) → Ran x o → numberOf o ≡ 35 → StatesShort x
-  ran-states o ran e = absurd (omega arith)
-  ran-states o (ran-short (short-of (short-rows q))) e = absurd (omega arith)
-  ran-states o (ran-short (short-of (short-states q))) e = q
-  ran-states o (ran-short (short-rules l)) e = absurd (omega arith)
-
-  ran-rules : (o : Outcome) → Ran x o → numberOf o ≡ 36 → length (x .t) ≡ mostRules
-  ran-rules o ran e = absurd (omega arith)
-  ran-rules o (ran-short (short-of (short-rows q))) e = absurd (omega arith)
-  ran-rules o (ran-short (short-of (short-states q))) e = absurd (omega arith)
-  ran-rules o (ran-short (short-rules l)) e = l
-
-  ran-turns : (o : Outcome) → Ran x o → numberOf o ≢ 255
-  ran-turns o ran e = omega arith
-  ran-turns o (ran-short (short-of (short-rows q))) e = omega arith
-  ran-turns o (ran-short (short-of (short-states q))) e = omega arith
-  ran-turns o (ran-short (short-rules l)) e = omega arith
+ran-turns : (o : Outcome) → Ran o → numberOf o ≢ 255
+ran-turns o ran e = omega arith
+ran-turns o (ran-short short-rows) e = omega arith
+ran-turns o (ran-short short-states) e = omega arith
+ran-turns o (ran-short short-rules) e = omega arith
 
 -- A CALL on sound tables, by its fault
 module _ (x : Tables) (k : Call) (e : isSound x ≡ true) where
   call-refused : faultOf x k ≢ 0 → call x k ≡ refuses (faultOf x k)
   call-refused n = rw (e, ne-eqb (faultOf x k) 0 n)
 
-  call-ran : faultOf x k ≡ 0 → Ran x (call x k)
+  call-ran : faultOf x k ≡ 0 → Ran (call x k)
   call-ran f = rw (e, eq-eqb (faultOf x k) 0 f) (done-ran x (sound-facts x e) k f)
 
-  -- a number beyond the lines' comes from the step
-  beyond : (n : ℕ) → 33 < n → call x k ≡ refuses n → Ran x (call x k) × (numberOf (call x k) ≡ n)
-  beyond n l p = (go (ℕ-discrete (faultOf x k) 0), ap numberOf p)
+  -- a number beyond the lines' is the step's
+  faultless : (n : ℕ) → 33 < n → call x k ≡ refuses n → faultOf x k ≡ 0
+  faultless n l p = go (ℕ-discrete (faultOf x k) 0)
     where
-      go : Dec (faultOf x k ≡ 0) → Ran x (call x k)
-      go (yes f) = call-ran f
+      go : Dec (faultOf x k ≡ 0) → faultOf x k ≡ 0
+      go (yes f) = f
       go (no f) = let q = ap numberOf (sym (call-refused f) ∙ p) in let s = fault-small x k in absurd (omega arith)
 
   call-due : Due x k
   call-due =
       record {
         refused = call-refused;
-        taken-or-short = λ f. ran-number x (call x k) (call-ran f);
-        rows = λ p. (let r = beyond 34 (omega arith) p in ran-rows x (call x k) (r .0) (r .1));
-        states = λ p. (let r = beyond 35 (omega arith) p in ran-states x (call x k) (r .0) (r .1));
-        transitions = λ p. (let r = beyond 36 (omega arith) p in ran-rules x (call x k) (r .0) (r .1));
+        taken-or-short = λ f. ran-number (call x k) (call-ran f);
+        rows = λ p. rows-due x (sound-facts x e) k e (faultless 34 (omega arith) p) p;
+        states = λ p. states-due x (sound-facts x e) k e (faultless 35 (omega arith) p) p;
+        transitions = λ p. transitions-due x (sound-facts x e) k e (faultless 36 (omega arith) p) p;
       }
 
 pub search-ends : SearchEnds
 search-ends = record { in-hand = search-found; in-calls = λ x k. go x k (isSound x) refl }
   where
     go : (x : Tables) (k : Call) (b : Bool) → isSound x ≡ b → call x k ≢ refuses 255
-    go x k true e p = let r = beyond x k e 255 (omega arith) p in ran-turns x (call x k) (r .0) (r .1)
+    go x k true e p = ran-turns (call x k) (call-ran x k e (faultless x k e 255 (omega arith) p)) (ap numberOf p)
     go x k false e p = let q = rw e at (ap numberOf p) in omega arith
 
 pub taken-when-due : TakenWhenDue
 taken-when-due = call-due
+
+pub room-alone : RoomAlone
+room-alone x r k u l d = call-room r x l u k d
