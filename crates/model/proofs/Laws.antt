@@ -65,6 +65,8 @@ pub mod Taken
 pub mod Took
 pub mod Along
 pub mod LentPart
+-- the record that a question is for
+pub mod Asks
 -- runs: call after call
 pub mod RunStep
 pub mod AgreeRun

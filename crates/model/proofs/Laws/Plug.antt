@@ -112,7 +112,7 @@ module _ (x : Store) (g : Good x) (u : Tree) where
       let m = map-clear i (λ k b c. clear-to n k (omega arith) (omega arith) c) (r .below) (clear-none x (kidsAt x i) (clear-kids x g i v h)) in
       ap plugged t ∙ plug-known (symbolAt x i) (map (treeAt x) (kidsAt x i)) (r .known) ∙ ap (treeWith (symbolAt x i)) m ∙ sym t
 
-  pub plug-clear : (i : ℕ) → i < used x → hasHole x i ≡ false → plug (treeAt x i) u ≡ treeAt x i
+  plug-clear : (i : ℕ) → i < used x → hasHole x i ≡ false → plug (treeAt x i) u ≡ treeAt x i
   plug-clear i v h = clear-to (suc i) i (omega arith) v h
 
   -- and goes into frames that fit, to where the hole is

@@ -1,4 +1,4 @@
--- Filling on trees: filled rows and rows of answers are those of the plugged trees.
+-- Filling on trees: filled rows, rows of answers and opened questions are those of plugged trees, and a row of answers is what was said of them.
 -- The frames of a context lead from a record to a row exactly if that row has the plugged tree, and a tree has one row.
 use mathlib.Core.Path.{_≡_, refl, sym, ap, _∙_, subst}
 use mathlib.Core.Logic.{_≢_}
@@ -12,16 +12,19 @@ use Rattle.model.specs.Terms.{Tree, treeAt}
 use Rattle.model.specs.Table.{Tables, answerAt, answerIn}
 use Rattle.model.specs.Facts.{IsRecord, IsContext, Fits}
 use Rattle.model.specs.TableFacts.{Core}
+use Rattle.model.specs.Calls.{numberOf}
 use Rattle.model.specs.Run.{meant, startedRun, after, Said, said, saidIn}
 use Rattle.model.specs.Promise.{Holds}
-use Rattle.model.specs.Plug.{plugAt, StoredAbout, in-row, nowhere, FillsTrees, RowsSaid}
+use Rattle.model.specs.Plug.{plugAt, StoredAbout, in-row, nowhere, FillsTrees, AsksPlugs, RowsSaid}
 use Rattle.model.proofs.Laws.Frames.{leads-within}
 use Rattle.model.proofs.Laws.Filled.{filled-leads, leads-filled}
 use Rattle.model.proofs.Laws.Down.{context-fits}
 use Rattle.model.proofs.Laws.Plug.{leads-framed, framed-leads, fill-framed, plug-context}
 use Rattle.model.proofs.Laws.ReflectLists.{record-of, context-of}
 use Rattle.model.proofs.Laws.Sounds.{sound-facts}
+use Rattle.model.proofs.Laws.Taken.{call-taken}
 use Rattle.model.proofs.Laws.Along.{lent-sound}
+use Rattle.model.proofs.Laws.Asks.{asks-plugged}
 use Rattle.model.proofs.Promises.Sound.{stays-sound}
 use Rattle.model.proofs.Promises.History.{answers-taken}
 
@@ -67,6 +70,12 @@ fills-trees x e =
       absent = λ c i q r z. absent x k c (context-of (x .store) c q) i (record-of (x .store) i r) z;
       answer = λ c i q r. answer x k c (context-of (x .store) c q) i (record-of (x .store) i r);
     }
+
+-- ASKS PLUGS: a call that leaves tables is the step that the law follows
+pub asks-plugs : AsksPlugs
+asks-plugs x begun y k e b p n =
+    let t = call-taken x k (ap numberOf p) in
+    asks-plugged x begun y (sound-facts x e) k (t .faultless) b (t .done ∙ sym (t .outcome) ∙ p) n
 
 -- ROWS SAID: what is stored about a record is what was said of it
 module _ (x : Tables) (es : List Said) (h : Holds x es) where
