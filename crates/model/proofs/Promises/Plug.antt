@@ -15,7 +15,7 @@ use Rattle.model.specs.TableFacts.{Core}
 use Rattle.model.specs.Calls.{numberOf}
 use Rattle.model.specs.Run.{meant, startedRun, after, Said, said, saidIn}
 use Rattle.model.specs.Promise.{Holds}
-use Rattle.model.specs.Plug.{plugAt, StoredAbout, in-row, nowhere, FillsTrees, AsksPlugs, RowsSaid}
+use Rattle.model.specs.Plug.{framed, plugAt, StoredAbout, in-row, nowhere, FillsTrees, AsksPlugs, RowsSaid}
 use Rattle.model.proofs.Laws.Frames.{leads-within}
 use Rattle.model.proofs.Laws.Filled.{filled-leads, leads-filled}
 use Rattle.model.proofs.Laws.Down.{context-fits}
@@ -36,8 +36,12 @@ module _ (x : Tables) (k : Core x) (c : ℕ) (ic : IsContext (x .store) c) where
   fits : Fits (x .store) frames
   fits = context-fits (x .store) (k .good) c (ic .within) (ic .hole)
 
+  -- the plugged tree is the frames around the record's
+  plugs : (i : ℕ) → plugAt (x .store) c i ≡ framed (x .store) frames (treeAt (x .store) i)
+  plugs i = plug-context (x .store) (k .good) (treeAt (x .store) i) c ic
+
   made : (i j : ℕ) (y : Store) → i < used (x .store) → fill (x .store) frames i ≡ built j y → treeAt y j ≡ plugAt (x .store) c i
-  made i j y u e = fill-framed (x .store) (k .good) frames fits i u j y e ∙ sym (plug-context (x .store) (k .good) (treeAt (x .store) i) c ic)
+  made i j y u e = fill-framed (x .store) (k .good) frames fits i u j y e ∙ sym (plugs i)
 
   module _ (i : ℕ) (r : IsRecord (x .store) i) where
     abbrev row : ℕ
@@ -46,11 +50,11 @@ module _ (x : Tables) (k : Core x) (c : ℕ) (ic : IsContext (x .store) c) where
     found : row ≢ 0 → (row < used (x .store)) × (treeAt (x .store) row ≡ plugAt (x .store) c i)
     found n =
         let l = filled-leads (x .store) (k .good) frames fits i (r .some) n in
-        (leads-within (x .store) frames i row (r .within) l, leads-framed (x .store) (k .good) frames i row l ∙ sym (plug-context (x .store) (k .good) (treeAt (x .store) i) c ic))
+        (leads-within (x .store) frames i row (r .within) l, leads-framed (x .store) (k .good) frames i row l ∙ sym (plugs i))
 
     absent : row ≡ 0 → (j : ℕ) → j < used (x .store) → treeAt (x .store) j ≢ plugAt (x .store) c i
     absent z j u e =
-        let l = framed-leads (x .store) (k .good) frames fits i j (r .within) u (e ∙ plug-context (x .store) (k .good) (treeAt (x .store) i) c ic) in
+        let l = framed-leads (x .store) (k .good) frames fits i j (r .within) u (e ∙ plugs i) in
         let f = leads-filled (x .store) (k .good) frames fits i j (r .some) l in
         omega (arith, z, f .0, f .1)
 
