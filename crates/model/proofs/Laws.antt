@@ -18,6 +18,7 @@ pub mod Filled
 pub mod Down
 -- records as trees and as lists of symbols, and an automaton's one verdict on them
 pub mod Trees
+pub mod Plug
 pub mod Listed
 pub mod Verdict
 -- the emitted list: blocks, rule bodies, written and read
@@ -68,6 +69,8 @@ pub mod Begun
 pub mod Due
 pub mod Along
 pub mod LentPart
+-- the record that a question is for
+pub mod Asks
 -- runs: call after call
 pub mod RunStep
 pub mod AgreeRun

@@ -8,4 +8,5 @@ pub mod Order
 pub mod Automata
 pub mod Learns
 pub mod History
+pub mod Plug
 pub mod All

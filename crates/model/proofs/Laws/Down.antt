@@ -163,7 +163,7 @@ context-leads x g c u h = go (down (hasHole x) x c) (down-is (hasHole x) x g (su
         zero-by false q w = absurd (true≢false w)
 
 -- A RECORD'S frames fit, down to whatever row
-clear-kids : (x : Store) → Good x → (i : ℕ) → i < used x → hasHole x i ≡ false → holesIn x (kidsAt x i) ≡ 0
+pub clear-kids : (x : Store) → Good x → (i : ℕ) → i < used x → hasHole x i ≡ false → holesIn x (kidsAt x i) ≡ 0
 clear-kids x g i u h = clear-any (map (hasHole x) (kidsAt x i)) (neither (eqb i 0) (anyTrue (map (hasHole x) (kidsAt x i))) (sym (hole-eq x (earlier x g) i u) ∙ h) .1)
 
 pub fits-record : (p : ℕ → Bool) (x : Store) → Good x → (n i : ℕ) → i < used x → i < n → hasHole x i ≡ false → Fits x (downFrom p n x i .around)

@@ -4,13 +4,13 @@ use mathlib.Core.Path.{_≡_, refl, sym, ap, _∙_, subst}
 use mathlib.Core.Logic.{_≢_, _⊎_, inl, inr}
 use mathlib.Core.Bool.{Bool, true, false, not, cond}
 use mathlib.Core.List.{List, [], _∷_, _++_, append-assoc, append-nil}
-use Prim.Native.Nat.{ℕ, suc, _+_, _<_}
+use Prim.Native.Nat.{ℕ, _+_, _<_}
 use native.Mathlib.Omega.{arith}
 use native.Mathlib.Decide.{ℕ-discrete}
 use borrow.Author.Tests.{eq-eqb}
 use Rattle.model.specs.Base.{In, here}
 use Rattle.model.specs.Store.{Store, used, isRecord, framesOf, filledRow, Extends}
-use Rattle.model.specs.Terms.{Tree, Within, treeWith, holeTree, treeAt, treeOf}
+use Rattle.model.specs.Terms.{Tree, Within, treeAt, treeOf}
 use Rattle.model.specs.Table.{Tables, answerAt}
 use Rattle.model.specs.Facts.{Good}
 use Rattle.model.specs.TableFacts.{Core, Open}
@@ -18,12 +18,11 @@ use Rattle.model.specs.Calls.{Call, offers, answers, accept, looks, emit
 use Rattle.model.specs.Run.{Lent, meant, afterCall, after, isTaken, Said, said, saidBy, saidIn, offeredBy, questionOf, askedBy, heardIn}
 use Rattle.model.specs.Promise.{Holds}
 use Rattle.model.proofs.Laws.Lists.{no-in, in-one, in-left, in-right, in-either}
-use Rattle.model.proofs.Laws.Fold.{fold-same, earlier}
-use Rattle.model.proofs.Laws.Rows.{kids-ext, record-ext}
+use Rattle.model.proofs.Laws.Rows.{record-ext}
 use Rattle.model.proofs.Laws.Fill.{ext-refl, ext-trans}
 use Rattle.model.proofs.Laws.Filled.{filled-leads}
 use Rattle.model.proofs.Laws.Down.{context-fits}
-use Rattle.model.proofs.Laws.Trees.{one-row, within-leads}
+use Rattle.model.proofs.Laws.Trees.{tree-kept, one-row, within-leads}
 use Rattle.model.proofs.Laws.Settle.{Keeps, answered-used}
 use Rattle.model.specs.Phase.{Phase, idle, holding, filling, Nearly, Sounds}
 use Rattle.model.proofs.Laws.Step.{Marked, Left}
@@ -32,13 +31,6 @@ use Rattle.model.proofs.Laws.Took.{Took, took-offer, took-answer, took-
 use Rattle.model.proofs.Laws.Along.{along}
 use Rattle.model.proofs.Laws.RunStep.{FreshLent, fresh-sounds, RunStep, still, opens, shows, run-step}
 use Rattle.model.proofs.Promises.Calls.{refused-untouched}
-
--- ROWS KEPT in a good store: what stood before has its tree
-module _ (x y : Store) (g : Good y) (e : Extends x y) where
-  tree-kept : (i : ℕ) → i < used x → treeAt x i ≡ treeAt y i
-  tree-kept i u =
-      let m = e .more in
-      fold-same (λ (j a : ℕ) (ts : List Tree). treeWith a ts) holeTree x y (λ j v. rw (kids-ext x y e j v) (earlier y g j (omega arith))) (sym (e .counts)) (e .kept) (suc i) i u
 
 -- a row that has the answer said of its record
 abbrev pub Keeping : Tables → Said → Type 0
