@@ -64,13 +64,13 @@ pub mod Sounds
 pub mod Lent
 pub mod Taken
 pub mod Took
--- what runs short, where it does
+-- where a step stands: what runs short there, and the record that its question is for
 pub mod Begun
 pub mod Due
+pub mod Asks
+-- lent words and lists, call by call
 pub mod Along
 pub mod LentPart
--- the record that a question is for
-pub mod Asks
 -- runs: call after call
 pub mod RunStep
 pub mod AgreeRun

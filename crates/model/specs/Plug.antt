@@ -56,7 +56,7 @@ FillsTrees = (x : Tables) → isSound x ≡ true → Plugged x
 
 -- A QUESTION OPENED by a step: the record in hand with a representative in the place of the spot; or a member of T in a member of C
 pub data AsksFor (begun : Tables) (asked : Tree) : Type 0 where
-  of-search : {hand rep : ℕ} {p : Spot} → searchOf begun ≡ atUnknown hand p rep →
+  of-search : {hand rep : ℕ} {p : Spot} → begun .hand ≢ 0 → searchOf begun ≡ atUnknown hand p rep →
       treeAt (begun .store) hand ≡ plug (contextOf (begun .store) (p .around)) (treeAt (begun .store) (p .row)) →
       asked ≡ plug (contextOf (begun .store) (p .around)) (treeAt (begun .store) rep) → AsksFor begun asked
   of-seek : {c i : ℕ} (y : Tables) → Settles begun y → seek (y .store) (y .answers) (y .c) (y .t) ≡ unknown c i → asked ≡ plugAt (y .store) c i →

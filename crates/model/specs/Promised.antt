@@ -1,6 +1,7 @@
 -- Every promise at once, in the order of the demands (§7.3): one record, of which proofs/Promises/All.antt has the one value.
 use Rattle.model.specs.Due.{RoomAlone}
 use Rattle.model.specs.Promise.{RefusedUntouched, ReadsUntouched, UnsoundRefused, SoundMeans, StaysSound, StaysNearlySound, SearchEnds, TakenWhenDue, CountsTold, LooksNext, Ordered, AskedOnce, AnswersTaken, OneAutomaton, ListBack, Vouched, GrowsEach, LearnsEach, TakenAlone}
+use Rattle.model.specs.Plug.{FillsTrees, AsksPlugs, RowsSaid}
 use Rattle.model.specs.Worked.{Runs, Corners, PremisesHold}
 
 pub record Promised : Type 0 where
@@ -18,6 +19,9 @@ pub record Promised : Type 0 where
   pub looks-next : LooksNext
   -- the partial learner
   pub ordered : Ordered
+  pub fills-trees : FillsTrees
+  pub asks-plugs : AsksPlugs
+  pub rows-said : RowsSaid
   pub asked-once : AskedOnce
   pub answers-taken : AnswersTaken
   pub one-automaton : OneAutomaton

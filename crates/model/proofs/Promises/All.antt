@@ -6,6 +6,7 @@ use Rattle.model.proofs.Promises.Looks.{looks-next}
 use Rattle.model.proofs.Promises.Steps.{search-ends, taken-when-due, room-alone}
 use Rattle.model.proofs.Promises.Order.{ordered}
 use Rattle.model.proofs.Promises.History.{asked-once, answers-taken, vouched}
+use Rattle.model.proofs.Promises.Plug.{fills-trees, asks-plugs, rows-said}
 use Rattle.model.proofs.Promises.Automata.{one-automaton}
 use Rattle.model.proofs.Promises.Listing.{list-back}
 use Rattle.model.proofs.Promises.Learns.{grows-each, learns-each}
@@ -26,6 +27,9 @@ promised =
       counts-told = counts-told;
       looks-next = looks-next;
       ordered = ordered;
+      fills-trees = fills-trees;
+      asks-plugs = asks-plugs;
+      rows-said = rows-said;
       asked-once = asked-once;
       answers-taken = answers-taken;
       one-automaton = one-automaton;
