@@ -19,6 +19,7 @@ pub mod Down
 -- records as trees and as lists of symbols, and an automaton's one verdict on them
 pub mod Trees
 pub mod Listed
+pub mod Records
 pub mod Verdict
 -- the emitted list: blocks, rule bodies, written and read
 pub mod Blocks

@@ -5,6 +5,7 @@ pub mod Listing
 pub mod Steps
 pub mod Order
 pub mod Automata
+pub mod Offers
 pub mod Learns
 pub mod History
 pub mod All
