@@ -20,6 +20,7 @@ pub mod Down
 pub mod Trees
 pub mod Plug
 pub mod Listed
+pub mod Records
 pub mod Verdict
 -- the emitted list: blocks, rule bodies, written and read
 pub mod Blocks

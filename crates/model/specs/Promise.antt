@@ -99,6 +99,14 @@ OffersTaken =
     ((i : ℕ) → i < used (x .store) → treeAt (x .store) i ≡ t → (answerAt (x .answers) i ≡ 0) ⊎ (answerAt (x .answers) i ≡ m + 1)) →
     among (numberOf (call x (offers (symbolsOf t) m))) (0 ∷ 34 ∷ 35 ∷ 36 ∷ []) ≡ true
 
+-- the other calls are not refused by a line too many either: an answer of 0 or 1 while asking, acceptance while proposing, a look,
+-- an emission with enough room while no question is open
+pub record OthersTaken : Type 0 where
+  pub answer : (x : Tables) (m : ℕ) → isSound x ≡ true → phaseOf x ≡ 1 → m ≤ 1 → among (numberOf (call x (answers m))) (0 ∷ 34 ∷ 35 ∷ 36 ∷ []) ≡ true
+  pub acceptance : (x : Tables) → isSound x ≡ true → phaseOf x ≡ 0 → numberOf (call x accept) ≡ 0
+  pub look : (x : Tables) → isSound x ≡ true → numberOf (call x looks) ≡ 0
+  pub emission : (x : Tables) (room : ℕ) → isSound x ≡ true → x .asked ≡ 0 → length (emitted (automatonOf x)) ≤ room → numberOf (call x (emits room)) ≡ 0
+
 -- the counts told are the lengths of S, T and C, the phase and row told are the tables'
 pub record Tells (seen : Seen) (x : Tables) : Type 0 where
   pub states : seen .states ≡ length (x .s)

@@ -9,10 +9,10 @@ use native.Mathlib.Omega.{arith}
 use lib.Dec.{leb}
 use borrow.Author.Tests.{leb-true, ne-eqb}
 use Rattle.model.specs.Base.{isIn}
-use Rattle.model.specs.Terms.{Tree, tree, Forest, leaf, grove, evalTree, evalForest}
+use Rattle.model.specs.Terms.{Tree, tree, Forest, leaf, grove, Over, over-tree, AllOver, over-grove, evalTree, evalForest}
 use Rattle.model.proofs.Laws.Tests.{both-true, or-cases}
 use Rattle.text.specs.Bytes.{opening, closing, isLetter, noLetter}
-use Rattle.text.specs.Written.{letterOf, others, bracketed, written, textOf, Over, over-tree, AllOver, over-grove}
+use Rattle.text.specs.Written.{letterOf, others, bracketed, written, textOf}
 use Rattle.text.specs.Reading.{balancedFrom}
 use Rattle.text.specs.Promise.{Lettered}
 use Rattle.text.proofs.Known.{letter-at}

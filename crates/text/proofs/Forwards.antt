@@ -9,19 +9,17 @@ use lib.Dec.{eqb}
 use lib.ListN.{length, drop}
 use borrow.Author.Tests.{lt-ltb, ne-eqb}
 use Rattle.model.specs.Limits.{mostChildren}
-use Rattle.model.specs.Terms.{Tree, tree, Forest, leaf, grove, evalTree, evalForest}
-use Rattle.text.specs.Written.{letterOf, others, bracketed, written, textOf, listed, symbolsOf, childCount, Over, over-tree, AllOver, over-grove}
+use Rattle.model.specs.Terms.{Tree, tree, Forest, leaf, grove, childCount, Over, over-tree, AllOver, over-grove, evalTree, evalForest, listed, symbolsOf}
+use Rattle.model.proofs.Laws.Records.{listsOf}
+use Rattle.text.specs.Written.{letterOf, others, bracketed, written, textOf}
 use Rattle.text.specs.Reading.{unread, read, noSymbol, knownOf, symbolIn, closed, opens, afterChild, recordAt, listAt}
 use Rattle.text.specs.Promise.{Lettered}
 use Rattle.text.proofs.Steps.{record-step, list-step}
 use Rattle.text.proofs.Known.{few-letters, symbol-held}
 
--- the written children, and their symbols
+-- the written children
 abbrev pub textsOf : (letters : List ℕ) → Forest → List (List ℕ)
 textsOf ls ts = evalForest (written ls) ts
-
-abbrev pub listsOf : Forest → List (List ℕ)
-listsOf ts = evalForest listed ts
 
 -- what follows a child opens no bracket
 others-shut : (ts : List (List ℕ)) (rest : List ℕ) → opens (others ts ++ rest) ≡ false

@@ -5,7 +5,7 @@ pub mod Known
 pub mod Forwards
 pub mod Balance
 pub mod Readback
-pub mod Stacked
 pub mod Rows
 pub mod FirstLine
 pub mod Promises
+pub mod All

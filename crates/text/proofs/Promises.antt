@@ -4,16 +4,16 @@ use mathlib.Core.Logic.{_≢_}
 use mathlib.Core.Bool.{Bool, true, false, cond}
 use mathlib.Core.List.{List, [], _∷_, append-nil}
 use Prim.Native.Nat.{ℕ}
-use Rattle.model.specs.Terms.{Tree, treeOf, treeAt}
+use Rattle.model.specs.Terms.{Tree, Over, treeAt, treeOf, symbolsOf}
 use Rattle.model.proofs.Laws.Fold.{earlier}
 use Rattle.model.proofs.Laws.Trees.{rows-as-trees}
-use Rattle.text.specs.Written.{written, textOf, symbolsOf, Over}
+use Rattle.model.proofs.Laws.Records.{symbols-back}
+use Rattle.text.specs.Written.{written, textOf}
 use Rattle.text.specs.Reading.{Reading, unread, read, knownOf, recordAt, balancedFrom, wholeOf, readText}
 use Rattle.text.specs.Promise.{Lettered, FirstLine, ReadExactly, RoundTrip}
 use Rattle.text.proofs.Forwards.{record-written}
 use Rattle.text.proofs.Balance.{record-balances}
 use Rattle.text.proofs.Readback.{record-read}
-use Rattle.text.proofs.Stacked.{symbols-back}
 use Rattle.text.proofs.Rows.{row-over}
 use Rattle.text.proofs.FirstLine.{line-lettered}
 

@@ -9,13 +9,14 @@ use lib.Dec.{ltb, eqb}
 use lib.ListN.{length, drop}
 use borrow.Author.Tests.{ltb-true, eqb-true, eqb-false}
 use Rattle.model.specs.Limits.{mostChildren}
-use Rattle.model.specs.Terms.{Tree, tree, Forest, leaf, grove, evalTree, evalForest}
+use Rattle.model.specs.Terms.{Tree, tree, Forest, leaf, grove, childCount, Over, over-tree, AllOver, over-leaf, over-grove, evalTree, evalForest, listed, symbolsOf}
 use Rattle.model.proofs.Laws.Tests.{both-true}
+use Rattle.model.proofs.Laws.Records.{listsOf}
 use Rattle.text.specs.Bytes.{comma, opening, closing}
-use Rattle.text.specs.Written.{others, bracketed, textOf, listed, symbolsOf, childCount, Over, over-tree, AllOver, over-leaf, over-grove}
+use Rattle.text.specs.Written.{others, bracketed, textOf}
 use Rattle.text.specs.Reading.{Reading, unread, read, noSymbol, knownOf, symbolIn, closed, opens, afterChild, recordFrom, listFrom, recordAt}
 use Rattle.text.proofs.Known.{Names, symbol-names}
-use Rattle.text.proofs.Forwards.{textsOf, listsOf}
+use Rattle.text.proofs.Forwards.{textsOf}
 
 -- READ AS A RECORD, and as a child and the others behind it
 pub record Record (letters counts symbols text after rest : List ℕ) : Type 0 where

@@ -8,13 +8,12 @@ use lib.Dec.{eqb}
 use lib.ListN.{length, length-map}
 use Rattle.model.specs.Base.{anyTrue, Below, none-below, one-below}
 use Rattle.model.specs.Store.{Store, used, symbolAt, countOf, kidsAt, hasHole}
-use Rattle.model.specs.Terms.{Tree, forest, treeAt}
+use Rattle.model.specs.Terms.{Tree, forest, childCount, Over, over-tree, AllOver, over-leaf, over-grove, treeAt}
 use Rattle.model.specs.Facts.{Good, IsRecord, None, none-nil, none-cons}
 use Rattle.model.proofs.Laws.Tests.{neither, clear-any}
 use Rattle.model.proofs.Laws.Fold.{earlier, hole-eq}
 use Rattle.model.proofs.Laws.Down.{clear-none, clear-some}
 use Rattle.model.proofs.Laws.Trees.{tree-eq}
-use Rattle.text.specs.Written.{childCount, Over, over-tree, AllOver, over-leaf, over-grove}
 
 forest-count : (ts : List Tree) → childCount (forest ts) ≡ length ts
 unfolding forest childCount

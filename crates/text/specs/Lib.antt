@@ -6,3 +6,4 @@ pub mod Lines
 pub mod Script
 pub mod Worked
 pub mod Promise
+pub mod Promised

@@ -8,14 +8,14 @@ use lib.ListN.{length, getD}
 use Rattle.model.specs.Limits.{mostChildren}
 use Rattle.model.specs.Base.{Distinct, Each}
 use Rattle.model.specs.Store.{Store, used}
-use Rattle.model.specs.Terms.{Tree, treeOf, treeAt}
+use Rattle.model.specs.Terms.{Tree, Over, treeAt, treeOf, symbolsOf}
 use Rattle.model.specs.Sound.{alphabetFits}
 use Rattle.model.specs.Facts.{Good, IsRecord}
 use Rattle.model.specs.Entry.{startNumber}
 use Rattle.model.specs.Run.{startedRun, after}
 use Rattle.text.specs.Bytes.{isLetter}
 use Rattle.text.specs.Alphabet.{alphabet, alphabetOf}
-use Rattle.text.specs.Written.{textOf, rowText, symbolsOf, Over}
+use Rattle.text.specs.Written.{textOf, rowText}
 use Rattle.text.specs.Reading.{readText}
 use Rattle.text.specs.Script.{repliedTo, callsIn, leftAfter}
 use Rattle.text.specs.declared.Script.{Script}

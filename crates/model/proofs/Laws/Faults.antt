@@ -6,8 +6,7 @@ use Prim.Native.Nat.{ℕ, _+_, _-_, _≤_}
 use native.Mathlib.Omega.{arith}
 use lib.Dec.{ltb, leb, eqb}
 use lib.ListN.{length, getD}
-use Rattle.model.specs.Limits.{mostListed}
-use Rattle.model.specs.Terms.{orElse, unless, symbolsFault, recordFault, knownRow}
+use Rattle.model.specs.Terms.{orElse, unless, lengthFits, symbolsFault, recordFault, knownRow}
 use Rattle.model.specs.Table.{Tables, answerAt, automatonOf}
 use Rattle.model.specs.Calls.{Call, offers, answers, accept, looks, emits, isAsking, isProposing, markFits, contradicts, verdictIs, faultOf}
 use Rattle.model.specs.Listing.{emitted}
@@ -31,7 +30,7 @@ symbols-small ns k (a ∷ xs) =
 record-small : (ns xs : List ℕ) → recordFault ns xs ≤ 33
 record-small ns xs =
     or-small (unless (ltb 0 (length xs)) 11) _ 33 (unless-small (ltb 0 (length xs)) 11 33 (omega arith))
-    (or-small (unless (leb (length xs) mostListed) 12) _ 33 (unless-small (leb (length xs) mostListed) 12 33 (omega arith)) (symbols-small ns 0 xs))
+    (or-small (unless (lengthFits xs) 12) _ 33 (unless-small (lengthFits xs) 12 33 (omega arith)) (symbols-small ns 0 xs))
 
 pub fault-small : (x : Tables) (k : Call) → faultOf x k ≤ 33
 fault-small x (offers xs m) =
