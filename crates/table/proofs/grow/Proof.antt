@@ -56,9 +56,6 @@ state-of-requires c κs =
     let g = c .before .before .loop .inv .1 in
     (c .before .before .before .before .pre .0, c .before .loop-test .taken, g .few, g .long, g .below)
 
-cast-if1 : tie.Need-cast-if1 Inv-loop μ-loop
-cast-if1 c = let w = within (c .before) in omega arith
-
 cast-if2 : tie.Need-cast-if2 Inv-loop μ-loop
 cast-if2 c = search needs
 
@@ -118,7 +115,6 @@ grow-spec =
     loop-holds
     cast-state-of
     state-of-requires
-    cast-if1
     cast-if2
     returns
     cast-ps
