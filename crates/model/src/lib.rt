@@ -15,6 +15,7 @@ pub struct State(pub u16);
 pub struct Context(pub u16);
 
 // The run's own lists (§2.2). A count says how much of the array after it is meant; in `hand` and `asked` 0 is none; `accepted` is 0 or 1.
+// Order and widths of the fields leave no padding, here and in the two structs below: a byte without a field would be what the stack held.
 #[repr(C)]
 pub struct Lists {
     pub letters: u8,

@@ -28,14 +28,6 @@ abbrev μ-loop : tie.MeasureT-loop
 abbrev Met : Type 0
 Met = lts.After-state-of (state-of-reads.Asked, state-of-reads.Learnt) reads.Pre reads.Post Inv-loop μ-loop
 
--- the state found is a place in S, or the one past it
-within : (m : Met) → m .state-of .result .0 ≤ m .before .before .before .loop .n
-within m =
-    let s = m .before .before .before .before .before in
-    let l = m .before .before .before .loop in
-    let w = G.state-within (rowAt (s .args .table .now) (s .args .contexts)) (rowAt (s .args .table .now) (s .args .contexts) (l .k)) (l .n) (l .ps) (omega (arith, l .inv .1 .few, l .inv .1 .long)) in
-    omega (arith, w, m .state-of .ensures)
-
 loop-holds : tie.Need-loop-holds Inv-loop μ-loop
 loop-holds c =
     let h : length (c .before .args .places) ≡ mostStates = c .before .good .1 .1 .1 .0 .1 .0 .1 in (
