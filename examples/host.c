@@ -3,6 +3,10 @@
 
 #include <stdio.h>
 
+_Static_assert(sizeof(struct kuldveth_lists) == 1232, "lists without padding");
+_Static_assert(sizeof(struct kuldveth_seen) == 10, "what a call tells, without padding");
+_Static_assert(sizeof(struct kuldveth_emitted) == 8, "what emitting tells, without padding");
+
 static uint32_t words[KULDVETH_WORDS_PER_ROW * 5];
 static struct kuldveth_lists lists;
 static uint8_t bytes[4096];
@@ -26,6 +30,10 @@ int main(void)
     const uint8_t counts[] = {1, 0};
     const uint8_t op[] = {1, 0};
 
+    if (kuldveth_version() != KULDVETH_VERSION) {
+        fprintf(stderr, "the library has version %u, the header %u\n", (unsigned)kuldveth_version(), KULDVETH_VERSION);
+        return 1;
+    }
     tell(kuldveth_start(words, length, &lists, counts, sizeof counts));
     tell(kuldveth_offer(words, length, &lists, op, sizeof op, 1));
     tell(kuldveth_answer(words, length, &lists, 0));
@@ -36,10 +44,10 @@ int main(void)
     tell(kuldveth_look(words, length, &lists));
 
     const struct kuldveth_emitted list = kuldveth_emit(words, length, &lists, bytes, sizeof bytes);
-    printf("emitted %d %u:", list.number, (unsigned)list.size);
+    printf("emitted %u %u:", (unsigned)list.number, (unsigned)list.size);
     for (uint32_t i = 0; i < list.size; i++)
         printf(" %02x", bytes[i]);
     const struct kuldveth_emitted rules = kuldveth_load(bytes, list.size);
-    printf("\nloaded %d %u\n", rules.number, (unsigned)rules.size);
+    printf("\nloaded %u %u\n", (unsigned)rules.number, (unsigned)rules.size);
     return 0;
 }

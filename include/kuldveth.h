@@ -10,6 +10,10 @@
 #include <stddef.h>
 #include <stdint.h>
 
+/* The version of this header (§11): it goes up with each change of a layout or of a call. kuldveth_version() tells that of the
+ * library that is linked. Where the two differ, make no other call. */
+#define KULDVETH_VERSION 2
+
 /* Limits (§11). */
 #define KULDVETH_WORDS_PER_ROW 6
 #define KULDVETH_MOST_ROWS 16384
@@ -20,12 +24,14 @@
 #define KULDVETH_MOST_RULES 256
 #define KULDVETH_MOST_CONTEXTS 289
 
-/* The run's own lists (§2.2). The host keeps them and lends them to each call; start needs nothing of what they held. */
+/* The run's own lists (§2.2). The host keeps them and lends them to each call; start needs nothing of what they held.
+ * 1,232 bytes without padding: a taken start sets every byte, and a host may store, compare and hash them. */
 struct kuldveth_lists {
     uint8_t letters;
     uint8_t counts[KULDVETH_MOST_SYMBOLS];
+    uint8_t accepted;
     uint16_t used;
-    uint8_t states;
+    uint16_t states;
     uint16_t s[KULDVETH_MOST_STATES];
     uint16_t rules;
     uint16_t t[KULDVETH_MOST_RULES];
@@ -33,25 +39,26 @@ struct kuldveth_lists {
     uint16_t c[KULDVETH_MOST_CONTEXTS];
     uint16_t hand;
     uint16_t asked;
-    uint8_t accepted;
 };
 
 /* Phases (§3.1). */
 enum { KULDVETH_PROPOSING = 0, KULDVETH_ASKING = 1, KULDVETH_ACCEPTED = 2 };
 
-/* What a call tells (§3.3): number 0, then phase, the open row or 0, and the counts; or a refusal's number and zeros. */
+/* What a call tells (§3.3): number 0, then phase, the open row or 0, and the counts; or a refusal's number and zeros.
+ * 10 bytes without padding. */
 struct kuldveth_seen {
     uint8_t number;
     uint8_t phase;
     uint16_t row;
-    uint8_t states;
+    uint16_t states;
     uint16_t rules;
     uint16_t contexts;
 };
 
-/* What emitting and loading tell (§3.7, §3.8): number 0 and the bytes written or the rules read, or a refusal's number and 0. */
+/* What emitting and loading tell (§3.7, §3.8): number 0 and the bytes written or the rules read, or a refusal's number and 0.
+ * 8 bytes without padding. */
 struct kuldveth_emitted {
-    uint8_t number;
+    uint32_t number;
     uint32_t size;
 };
 
@@ -79,6 +86,9 @@ enum {
     KULDVETH_NO_STATES = 35,         /* a 33rd state */
     KULDVETH_NO_RULES = 36           /* a 257th transition */
 };
+
+/* The version of the library (§11). */
+uint32_t kuldveth_version(void);
 
 /* Start (§3.2): 18, 17. counts has the child count of each symbol. Writes row 0 and the lists. */
 struct kuldveth_seen kuldveth_start(uint32_t *words, size_t words_length, struct kuldveth_lists *lists,

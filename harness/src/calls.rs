@@ -1,5 +1,6 @@
 //! The calls of `crates/kuldveth` that change what is lent, made between guard words.
 
+use crate::bytes::{lists_of, of_lists, of_seen, raw_seen, LISTS_BYTES};
 use oracle::testing::compare::{Call, Tables};
 use oracle::{Lists, Seen};
 
@@ -69,30 +70,53 @@ pub fn oracle_call(words: &mut [u32], lists: &mut Lists, call: &Call) -> Seen {
 const GUARD: usize = 96;
 const GUARD_WORD: u32 = 0xA5C3_0FE1;
 
-/// Lists with bytes around them that no call may write.
+/// The bytes of lists, and words around them that no call may write.
 #[repr(C)]
 struct Guarded {
     before: [u32; GUARD],
-    lists: Lists,
+    lists: [u8; LISTS_BYTES],
     after: [u32; GUARD],
 }
 
+/// What a call returned and left, the lists as bytes.
+pub struct Left {
+    pub seen: Seen,
+    pub words: Vec<u32>,
+    pub lists: [u8; LISTS_BYTES],
+}
+
+impl Left {
+    /// Whether every byte is one of such a `Seen` and such tables.
+    pub fn is(&self, seen: &Seen, tables: &Tables) -> bool {
+        raw_seen(self.seen) == of_seen(seen)
+            && self.words == tables.words
+            && self.lists == of_lists(&tables.lists)
+    }
+
+    pub fn tables(self) -> Tables {
+        let (words, lists) = (self.words, lists_of(&self.lists));
+        Tables { words, lists }
+    }
+}
+
 /// What the library makes of a call on copies of the tables; panics if it writes around them.
-pub fn guarded(tables: &Tables, made: &Call) -> (Seen, Tables) {
+pub fn guarded(tables: &Tables, made: &Call) -> Left {
     let end = GUARD + tables.words.len();
     let mut words = vec![GUARD_WORD; end + GUARD];
     words[GUARD..end].copy_from_slice(&tables.words);
     let mut lent = Guarded {
         before: [GUARD_WORD; GUARD],
-        lists: tables.lists.clone(),
+        lists: of_lists(&tables.lists),
         after: [GUARD_WORD; GUARD],
     };
-    let seen = call(&mut words[GUARD..end], &mut lent.lists, made);
+    // Any bytes are lists, and these are aligned as the words before them.
+    let lists = unsafe { &mut *lent.lists.as_mut_ptr().cast::<Lists>() };
+    let seen = call(&mut words[GUARD..end], lists, made);
     let guards = [&words[..GUARD], &words[end..], &lent.before, &lent.after];
     let kept = |guard: &[u32]| guard.iter().all(|&word| word == GUARD_WORD);
     assert!(guards.into_iter().all(kept), "{made:?} wrote past an end");
     words.truncate(end);
     words.drain(..GUARD);
     let lists = lent.lists;
-    (seen, Tables { words, lists })
+    Left { seen, words, lists }
 }

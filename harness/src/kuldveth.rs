@@ -5,6 +5,7 @@ use oracle::{Emitted, Lists, Seen};
 
 // A slice crosses as a pointer and a length. The functions require nothing of what is lent.
 extern "C" {
+    fn kuldveth_version() -> u32;
     fn kuldveth_look(words: *const u32, size: usize, lists: *const Lists) -> Seen;
     fn kuldveth_emit(
         words: *const u32,
@@ -14,6 +15,11 @@ extern "C" {
         room: usize,
     ) -> Emitted;
     fn kuldveth_load(bytes: *const u8, size: usize) -> Emitted;
+}
+
+/// The version of the library that is linked.
+pub fn version() -> u32 {
+    unsafe { kuldveth_version() }
 }
 
 pub fn look(words: &[u32], lists: &Lists) -> Seen {

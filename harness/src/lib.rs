@@ -1,6 +1,7 @@
 //! The proved functions beside a second program: those over the record table beside what they do, written
 //! again by plain means from docs/SPECIFICATION.md, the calls of `crates/kuldveth` beside the oracle.
 
+pub mod bytes;
 pub mod calls;
 pub mod cases;
 pub mod colliding;

@@ -1,6 +1,6 @@
 //! The worked run (docs/SPECIFICATION.md, §9): o has one child, p none; the archive keeps o[p] alone.
 
-use kuldveth_host::{load, Phase, Refusal, Run, Told};
+use kuldveth_host::{fits, load, Phase, Refusal, Run, Told};
 
 /// One line for what a call told.
 fn show(told: Told) {
@@ -12,6 +12,7 @@ fn show(told: Told) {
 }
 
 fn main() -> Result<(), Refusal> {
+    assert!(fits(), "the library has another version");
     let op = [1, 0];
     let (mut run, told) = Run::start(5, &[1, 0])?;
     show(told);

@@ -1,6 +1,11 @@
 //! What crosses to the library: field by field the structs of `crates/model/src/lib.rt`, a slice as pointer and length.
 //! The functions require nothing of contents; pointers, lengths and aliasing are kept right by the borrows in `Run`.
 
+use std::mem::size_of;
+
+/// The version of these layouts and calls (§11).
+pub const VERSION: u32 = 2;
+
 /// Numbers in a row of the record table, and how many rows it may have (§2.1).
 pub const WORDS_PER_ROW: usize = 6;
 pub const MOST_ROWS: usize = 16_384;
@@ -11,8 +16,9 @@ pub const MOST_ROWS: usize = 16_384;
 pub struct Lists {
     pub letters: u8,
     pub counts: [u8; 64],
+    pub accepted: u8,
     pub used: u16,
-    pub states: u8,
+    pub states: u16,
     pub s: [u16; 32],
     pub rules: u16,
     pub t: [u16; 256],
@@ -20,7 +26,6 @@ pub struct Lists {
     pub c: [u16; 289],
     pub hand: u16,
     pub asked: u16,
-    pub accepted: u8,
 }
 
 impl Lists {
@@ -28,6 +33,7 @@ impl Lists {
         Lists {
             letters: 0,
             counts: [0; 64],
+            accepted: 0,
             used: 0,
             states: 0,
             s: [0; 32],
@@ -37,7 +43,6 @@ impl Lists {
             c: [0; 289],
             hand: 0,
             asked: 0,
-            accepted: 0,
         }
     }
 }
@@ -48,7 +53,7 @@ pub(crate) struct Seen {
     pub number: u8,
     pub phase: u8,
     pub row: u16,
-    pub states: u8,
+    pub states: u16,
     pub rules: u16,
     pub contexts: u16,
 }
@@ -56,11 +61,17 @@ pub(crate) struct Seen {
 /// What emitting and loading tell (§3.7, §3.8).
 #[repr(C)]
 pub(crate) struct Emitted {
-    pub number: u8,
+    pub number: u32,
     pub size: u32,
 }
 
+// No struct has padding: each is as long as its fields together.
+const _: () = assert!(size_of::<Lists>() == 2 + 64 + 2 * (2 + 32 + 1 + 256 + 1 + 289 + 2));
+const _: () = assert!(size_of::<Seen>() == 2 + 2 * 4);
+const _: () = assert!(size_of::<Emitted>() == 2 * 4);
+
 extern "C" {
+    pub(crate) fn kuldveth_version() -> u32;
     pub(crate) fn kuldveth_start(
         words: *mut u32,
         size: usize,

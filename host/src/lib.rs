@@ -4,19 +4,29 @@
 mod lent;
 mod refusal;
 
-pub use lent::{Lists, MOST_ROWS, WORDS_PER_ROW};
+pub use lent::{Lists, MOST_ROWS, VERSION, WORDS_PER_ROW};
 pub use refusal::Refusal;
 
 use lent::{
     kuldveth_accept, kuldveth_answer, kuldveth_emit, kuldveth_load, kuldveth_look, kuldveth_offer,
-    kuldveth_start, Emitted, Seen,
+    kuldveth_start, kuldveth_version, Emitted, Seen,
 };
+
+/// The version of the library that is linked (§11).
+pub fn version() -> u32 {
+    unsafe { kuldveth_version() }
+}
+
+/// Whether the library that is linked has the layouts and calls of this crate. If not, make no other call.
+pub fn fits() -> bool {
+    version() == VERSION
+}
 
 /// What a call that was taken tells: the phase and the sizes of the automaton that stands behind it.
 #[derive(Clone, Copy, Debug, PartialEq, Eq)]
 pub struct Told {
     pub phase: Phase,
-    pub states: u8,
+    pub states: u16,
     pub rules: u16,
     pub contexts: u16,
 }
@@ -106,7 +116,7 @@ pub fn load(bytes: &[u8]) -> Result<usize, Refusal> {
 }
 
 fn told(seen: Seen) -> Result<Told, Refusal> {
-    if let Some(refusal) = Refusal::of(seen.number) {
+    if let Some(refusal) = Refusal::of(seen.number.into()) {
         return Err(refusal);
     }
     Ok(Told {

@@ -24,11 +24,11 @@ pub enum Refusal {
     NoStates,
     NoRules,
     /// A number that no refusal has.
-    Other(u8),
+    Other(u32),
 }
 
 /// Each refusal with its number and what it says.
-const KNOWN: [(u8, Refusal, &str); 17] = [
+const KNOWN: [(u32, Refusal, &str); 17] = [
     (11, Refusal::EmptyRecord, "empty record"),
     (12, Refusal::LongRecord, "over 1,024 symbols"),
     (13, Refusal::UnknownSymbol, "unknown symbol"),
@@ -70,7 +70,7 @@ const KNOWN: [(u8, Refusal, &str); 17] = [
 
 impl Refusal {
     /// The refusal with a number; none for 0.
-    pub fn of(number: u8) -> Option<Refusal> {
+    pub fn of(number: u32) -> Option<Refusal> {
         if number == 0 {
             return None;
         }
@@ -79,7 +79,7 @@ impl Refusal {
     }
 
     /// Its number.
-    pub fn number(self) -> u8 {
+    pub fn number(self) -> u32 {
         match (self, KNOWN.iter().find(|(_, refusal, _)| *refusal == self)) {
             (Refusal::Other(number), _) => number,
             (_, Some((number, _, _))) => *number,

@@ -12,8 +12,9 @@ pub type Row = u16;
 pub struct Lists {
     pub letters: u8,
     pub counts: [u8; SYMBOLS_MAX],
+    pub accepted: u8,
     pub used: u16,
-    pub states: u8,
+    pub states: u16,
     pub s: [Row; STATES_MAX],
     pub rules: u16,
     pub t: [Row; RULES_MAX],
@@ -23,7 +24,6 @@ pub struct Lists {
     pub hand: Row,
     /// The open question, 0 for none.
     pub asked: Row,
-    pub accepted: u8,
 }
 
 impl Lists {
@@ -32,6 +32,7 @@ impl Lists {
         Lists {
             letters: 0,
             counts: [0; SYMBOLS_MAX],
+            accepted: 0,
             used: 0,
             states: 0,
             s: [0; STATES_MAX],
@@ -41,7 +42,6 @@ impl Lists {
             c: [0; CONTEXTS_MAX],
             hand: 0,
             asked: 0,
-            accepted: 0,
         }
     }
 
@@ -111,7 +111,7 @@ pub struct Seen {
     pub number: u8,
     pub phase: u8,
     pub row: Row,
-    pub states: u8,
+    pub states: u16,
     pub rules: u16,
     pub contexts: u16,
 }
@@ -121,7 +121,7 @@ pub struct Seen {
 #[repr(C)]
 #[derive(Clone, Copy, Debug, Default, PartialEq, Eq)]
 pub struct Emitted {
-    pub number: u8,
+    pub number: u32,
     pub size: u32,
 }
 
@@ -160,7 +160,7 @@ impl From<Refusal> for Seen {
 impl From<Refusal> for Emitted {
     fn from(refusal: Refusal) -> Emitted {
         Emitted {
-            number: refusal as u8,
+            number: refusal as u32,
             size: 0,
         }
     }

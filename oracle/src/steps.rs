@@ -44,7 +44,7 @@ impl Run {
                 rows.push(row);
             }
         }
-        self.lists.states = rows.len() as u8;
+        self.lists.states = rows.len() as u16;
         Ok(())
     }
 }

@@ -56,6 +56,7 @@ fn fresh(counts: &[u8]) -> Lists
     Lists {
         letters: counts.len() as u8,
         counts: spread(counts),
+        accepted: 0,
         used: 1,
         states: 0,
         s: [0; MOST_STATES],
@@ -65,7 +66,6 @@ fn fresh(counts: &[u8]) -> Lists
         c: [0; MOST_CONTEXTS],
         hand: 0,
         asked: 0,
-        accepted: 0,
     }
 }
 

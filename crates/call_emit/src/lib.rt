@@ -144,7 +144,7 @@ fn write_rules(
 }
 
 // A refusal: its number and nothing else.
-fn refuse(number: u8) -> Emitted
+fn refuse(number: u32) -> Emitted
     ensures { λ r. ⌜ (r .number ≡ number) × (r .size ≡ 0) ⌝ }
 {
     Emitted {

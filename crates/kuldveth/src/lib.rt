@@ -1,11 +1,21 @@
 // products: the calls that a host makes from C and Rust: thin functions over the calls by value (§3).
 // Nothing is required of what a host lends.
 ghost use mathlib.Core.Path.{_≡_};
+ghost use Rattle.model.specs.Limits.{version};
 ghost use Rattle.model.specs.Calls.{offers, answers, accept as acceptCall, looks};
 ghost use Rattle.model.specs.Entry.{startSeen, startWords, startLists, callSeen, callWords, callLists, emitSeen, emitOut, loadSeen};
 use model::Emitted;
 use model::Lists;
 use model::Seen;
+use model::limits::VERSION;
+
+// The version of the layouts and of the calls (§11): a host compares it with the one that its header has.
+#[no_mangle]
+pub extern "C" fn kuldveth_version() -> u32
+    ensures { λ r. ⌜ r ≡ version ⌝ }
+{
+    VERSION
+}
 
 // Start of a run over an alphabet given by its child counts (§3.2).
 #[no_mangle]

@@ -59,6 +59,7 @@ listsOf l x =
     record {
       letters = length (x .store .counts);
       counts = over (x .store .counts) (l .counts);
+      accepted = cond (x .accepted) 1 0;
       used = length (x .store .nodes);
       states = length (x .s);
       s = over (x .s) (l .s);
@@ -68,7 +69,6 @@ listsOf l x =
       c = over (x .c) (l .c);
       hand = x .hand;
       asked = x .asked;
-      accepted = cond (x .accepted) 1 0;
     }
 
 -- WHAT IS RETURNED
@@ -110,6 +110,7 @@ zeroLists =
     record {
       letters = 0;
       counts = replicate mostSymbols 0;
+      accepted = 0;
       used = 0;
       states = 0;
       s = replicate mostStates 0;
@@ -119,7 +120,6 @@ zeroLists =
       c = replicate mostContexts 0;
       hand = 0;
       asked = 0;
-      accepted = 0;
     }
 
 abbrev pub zeroedBy : Lists → Outcome → Lists

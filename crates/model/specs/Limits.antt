@@ -36,3 +36,7 @@ mostContexts = 289
 -- an offered record has 1 to 1,024 symbols (§3.4)
 abbrev pub mostListed : ℕ
 mostListed = 1024
+
+-- which layouts and calls a host has before it (§11)
+abbrev pub version : ℕ
+version = 2

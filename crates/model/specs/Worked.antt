@@ -27,6 +27,7 @@ oldLists =
     record {
       letters = 9;
       counts = replicate mostSymbols 9;
+      accepted = 9;
       used = 99;
       states = 9;
       s = replicate mostStates 9;
@@ -36,7 +37,6 @@ oldLists =
       c = replicate mostContexts 9;
       hand = 9;
       asked = 9;
-      accepted = 9;
     }
 
 abbrev pub fresh : (rows : ℕ) → Lent
@@ -121,6 +121,7 @@ pub record Starts : Type 0 where
       record {
         letters = 2;
         counts = 1 ∷ 0 ∷ replicate (mostSymbols - 2) 0;
+        accepted = 0;
         used = 1;
         states = 0;
         s = replicate mostStates 0;
@@ -130,7 +131,6 @@ pub record Starts : Type 0 where
         c = replicate mostContexts 0;
         hand = 0;
         asked = 0;
-        accepted = 0;
       }
   pub most-rows : startSeen (oldWords mostRows) counts ≡ seen 0 0 0 0 1
   pub a-row-more : startSeen (oldWords (mostRows + 1)) counts ≡ zeros 18
@@ -166,7 +166,7 @@ pub record Corners : Type 0 where
   -- any call: 18 before 30; a flag of 2 is not sound
   pub not-whole-rows : callSeen (7 ∷ fresh 9 .words) oldLists looks ≡ zeros 18
   pub not-sound : callSeen (fresh 9 .words) oldLists looks ≡ zeros 30
-  pub flag-2 : callSeen (fresh 9 .words) (record { letters = 2; counts = counts; used = 1; states = 0; s = []; rules = 0; t = []; contexts = 1; c = 0 ∷ []; hand = 0; asked = 0; accepted = 2 }) looks ≡ zeros 30
+  pub flag-2 : callSeen (fresh 9 .words) (record { letters = 2; counts = counts; accepted = 2; used = 1; states = 0; s = []; rules = 0; t = []; contexts = 1; c = 0 ∷ []; hand = 0; asked = 0 }) looks ≡ zeros 30
   -- emitting: 31, 20; 33 bytes are enough
   pub emitted-while-asking : emitting (at 9 1) 0 ≡ wrote 31 0
   pub one-byte-short : emitting (at 9 5) 32 ≡ wrote 20 0

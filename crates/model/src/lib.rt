@@ -15,12 +15,14 @@ pub struct State(pub u16);
 pub struct Context(pub u16);
 
 // The run's own lists (§2.2). A count says how much of the array after it is meant; in `hand` and `asked` 0 is none; `accepted` is 0 or 1.
+// Order and widths of the fields leave no padding, here and in the two structs below: a byte without a field would be what the stack held.
 #[repr(C)]
 pub struct Lists {
     pub letters: u8,
     pub counts: [u8; MOST_SYMBOLS],
+    pub accepted: u8,
     pub used: u16,
-    pub states: u8,
+    pub states: u16,
     pub s: [u16; MOST_STATES],
     pub rules: u16,
     pub t: [u16; MOST_RULES],
@@ -28,7 +30,6 @@ pub struct Lists {
     pub c: [u16; MOST_CONTEXTS],
     pub hand: u16,
     pub asked: u16,
-    pub accepted: u8,
 }
 
 // What looking tells (§3.3): phase 0 proposing, 1 asking, 2 accepted. A refusal has its number and zeros.
@@ -37,7 +38,7 @@ pub struct Seen {
     pub number: u8,
     pub phase: u8,
     pub row: u16,
-    pub states: u8,
+    pub states: u16,
     pub rules: u16,
     pub contexts: u16,
 }
@@ -45,6 +46,6 @@ pub struct Seen {
 // What emitting and loading return (§3.7, §3.8): bytes written, or rules read.
 #[repr(C)]
 pub struct Emitted {
-    pub number: u8,
+    pub number: u32,
     pub size: u32,
 }

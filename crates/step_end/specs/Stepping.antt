@@ -57,6 +57,7 @@ abbrev pub asking : Lists → (hand row used : ℕ) → Lists
 asking l h j n = record {
   letters = l .letters;
   counts = l .counts;
+  accepted = 0;
   used = n;
   states = l .states;
   s = l .s;
@@ -66,13 +67,13 @@ asking l h j n = record {
   c = l .c;
   hand = h;
   asked = j;
-  accepted = 0;
 }
 
 abbrev pub proposing : Lists → (s : List ℕ) → (states : ℕ) → Lists
 proposing l ss q = record {
   letters = l .letters;
   counts = l .counts;
+  accepted = 0;
   used = l .used;
   states = q;
   s = ss;
@@ -82,13 +83,13 @@ proposing l ss q = record {
   c = l .c;
   hand = 0;
   asked = 0;
-  accepted = 0;
 }
 
 abbrev pub withRule : Lists → (row : ℕ) → Lists
 withRule l i = record {
   letters = l .letters;
   counts = l .counts;
+  accepted = l .accepted;
   used = l .used;
   states = l .states;
   s = l .s;
@@ -98,13 +99,13 @@ withRule l i = record {
   c = l .c;
   hand = l .hand;
   asked = l .asked;
-  accepted = l .accepted;
 }
 
 abbrev pub contextIn : (there : Bool) → Lists → (context used : ℕ) → Lists
 contextIn b l i n = record {
   letters = l .letters;
   counts = l .counts;
+  accepted = 0;
   used = n;
   states = l .states;
   s = l .s;
@@ -114,7 +115,6 @@ contextIn b l i n = record {
   c = cond b (l .c) (set (l .c) (l .contexts) i);
   hand = 0;
   asked = 0;
-  accepted = 0;
 }
 
 -- appended if it is absent
@@ -125,6 +125,7 @@ abbrev pub closed : Lists → Lists
 closed l = record {
   letters = l .letters;
   counts = l .counts;
+  accepted = 0;
   used = l .used;
   states = l .states;
   s = l .s;
@@ -134,13 +135,13 @@ closed l = record {
   c = l .c;
   hand = l .hand;
   asked = 0;
-  accepted = 0;
 }
 
 abbrev pub accepting : Lists → Lists
 accepting l = record {
   letters = l .letters;
   counts = l .counts;
+  accepted = 1;
   used = l .used;
   states = l .states;
   s = l .s;
@@ -150,13 +151,13 @@ accepting l = record {
   c = l .c;
   hand = l .hand;
   asked = l .asked;
-  accepted = 1;
 }
 
 abbrev pub takenUp : Lists → (row used : ℕ) → Lists
 takenUp l i n = record {
   letters = l .letters;
   counts = l .counts;
+  accepted = 0;
   used = n;
   states = l .states;
   s = l .s;
@@ -166,5 +167,4 @@ takenUp l i n = record {
   c = l .c;
   hand = i;
   asked = 0;
-  accepted = 0;
 }

@@ -38,7 +38,7 @@ pub fn asking(lists: Lists, hand: u16, row: Row, used: u16) -> Lists
 }
 
 // An automaton is proposed.
-fn proposing(lists: Lists, s: [u16; MOST_STATES], states: u8) -> Lists
+fn proposing(lists: Lists, s: [u16; MOST_STATES], states: u16) -> Lists
     ensures { λ r. ⌜ r ≡ proposingOf lists s states ⌝ }
 {
     let mut left = lists;

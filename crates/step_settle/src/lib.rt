@@ -25,7 +25,7 @@ pub enum Step {
     NoRows,
     NoStates,
     Asks(Row, u16),
-    Proposes(u8),
+    Proposes(u16),
 }
 
 // S as its places in T name it.
@@ -64,7 +64,7 @@ fn propose(
 {
     let mut places = [0u16; MOST_STATES];
     judge::find_places(s, states, t, rules, &mut places);
-    let old = states as u8;
+    let old = states as u16;
     let grown = table::grow(table, rules, contexts, places, old);
     let ok = grown.ok;
     if !ok {

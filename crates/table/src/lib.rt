@@ -138,7 +138,7 @@ pub fn state_of(
 // What S has become: more than 32 states were wanted, or its places in T.
 pub struct Growth {
     pub ok: bool,
-    pub states: u8,
+    pub states: u16,
     pub places: [u16; MOST_STATES],
 }
 
@@ -148,7 +148,7 @@ pub fn grow(
     rules: usize,
     contexts: usize,
     places: [u16; MOST_STATES],
-    states: u8,
+    states: u16,
 ) -> Growth
     requires { ⌜ Sized (now table) rules contexts × (states ≤ mostStates) × ((i : ℕ) → i < states → getD places i 0 < rules) ⌝ }
     ensures { λ r. ⌜ grownBy (growAt (now (table .entry)) contexts rules (take states places)) r ⌝ }
@@ -159,7 +159,7 @@ pub fn grow(
     let mut k = 0;
     while k < rules {
         let q = state_of(table, rules, contexts, &ps, n as usize, k);
-        if q.0 as u8 == n {
+        if q.0 == n {
             if n as usize == MOST_STATES {
                 return Growth {
                     ok: false,

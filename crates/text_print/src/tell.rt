@@ -86,14 +86,14 @@ fn tell_refused(number: u8, out: &mut [u8]) -> usize
 }
 
 // A proposal, with its counts of states, rules and contexts.
-fn tell_proposal(states: u8, rules: u16, contexts: u16, out: &mut [u8]) -> usize
+fn tell_proposal(states: u16, rules: u16, contexts: u16, out: &mut [u8]) -> usize
     requires { ⌜ replyRoom ≤ length (now out) ⌝ }
     ensures { λ r. ⌜ r ≡ length (proposeText states rules contexts) ⌝ }
     ensures out { λ r. ⌜ now (out .exit) ≡ over (proposeText states rules contexts) (now (out .entry)) ⌝ }
 {
     let word = [b'p', b'r', b'o', b'p', b'o', b's', b'e'];
     let a = list::put_bytes(out, 0, &word);
-    let b = put_number(states as u16, out, a);
+    let b = put_number(states, out, a);
     let c = put_number(rules, out, b);
     let end = put_number(contexts, out, c);
     out[end] = b'\n';

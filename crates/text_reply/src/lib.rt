@@ -41,6 +41,7 @@ pub fn fresh() -> Script
         lists: Lists {
             letters: 0,
             counts: [0; MOST_SYMBOLS],
+            accepted: 0,
             used: 0,
             states: 0,
             s: [0; MOST_STATES],
@@ -50,7 +51,6 @@ pub fn fresh() -> Script
             c: [0; MOST_CONTEXTS],
             hand: 0,
             asked: 0,
-            accepted: 0,
         },
     }
 }

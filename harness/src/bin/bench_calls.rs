@@ -191,7 +191,7 @@ fn list_lines() {
     let size = oracle::emit(&words, &lists, &mut expected).size;
     let mut list = found;
     list.truncate(size as usize);
-    let load_line = |name: &str, bytes: &[u8], number: u8| {
+    let load_line = |name: &str, bytes: &[u8], number: u32| {
         assert_eq!(oracle::load(bytes).number, number);
         same_line(name, || kuldveth::load(bytes), || oracle::load(bytes));
     };

@@ -1,5 +1,6 @@
 //! One call by both, and what the calls of a case met.
 
+use crate::bytes::{of_emitted, raw_emitted};
 use crate::calls::{guarded, oracle_call};
 use crate::kuldveth;
 use oracle::testing::compare::{Call, Tables};
@@ -13,17 +14,17 @@ fn expected(tables: &Tables, call: &Call) -> (Seen, Tables) {
 }
 
 fn differ(tables: &Tables, call: &Call) -> bool {
-    guarded(tables, call) != expected(tables, call)
+    let (seen, left) = expected(tables, call);
+    !guarded(tables, call).is(&seen, &left)
 }
 
-/// Makes the call by both on the tables and leaves them as it left them. Every returned field, word
-/// and list is the same by both, and a refused call leaves all as it was.
+/// Makes the call by both on the tables and leaves them as it left them. Every returned byte, every word
+/// and every byte of the lists is the same by both, and a refused call leaves all as it was.
 pub fn both(tables: &mut Tables, call: &Call) -> Seen {
-    let found = guarded(tables, call);
-    if found != expected(tables, call) {
+    let (seen, left) = expected(tables, call);
+    if !guarded(tables, call).is(&seen, &left) {
         report(tables.clone(), call.clone());
     }
-    let (seen, left) = found;
     if seen.number != 0 {
         assert!(left == *tables, "{call:?} changed\n{tables:?}");
         let zeros = Seen {
@@ -44,7 +45,8 @@ fn report(mut tables: Tables, mut call: Call) -> ! {
     {
         (tables, call) = found;
     }
-    let (seen, left) = guarded(&tables, &call);
+    let found = guarded(&tables, &call);
+    let (seen, left) = (found.seen, found.tables());
     let (expected, right) = expected(&tables, &call);
     panic!(
         "{call:?} over\n{tables:?}\nlibrary: {seen:?}\n{left:?}\noracle: {expected:?}\n{right:?}"
@@ -99,7 +101,8 @@ pub fn emit(tables: &Tables, room: usize) -> (Emitted, Vec<u8>) {
     let emitted = kuldveth::emit(&tables.words, &tables.lists, &mut found[within.clone()]);
     let right = oracle::emit(&before.words, &before.lists, &mut expected[within.clone()]);
     assert_eq!(
-        emitted, right,
+        raw_emitted(emitted),
+        of_emitted(&right),
         "emitting with room for {room} from\n{before:?}"
     );
     assert_eq!(
@@ -114,7 +117,8 @@ pub fn emit(tables: &Tables, room: usize) -> (Emitted, Vec<u8>) {
 pub fn load(bytes: &[u8]) -> Emitted {
     let before = bytes.to_vec();
     let loaded = kuldveth::load(bytes);
-    assert_eq!(loaded, oracle::load(&before), "loading {before:?}");
+    let right = of_emitted(&oracle::load(&before));
+    assert_eq!(raw_emitted(loaded), right, "loading {before:?}");
     assert_eq!(bytes, before, "loading changed the bytes");
     loaded
 }

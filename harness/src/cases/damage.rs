@@ -94,9 +94,10 @@ impl Damaged<'_> {
     fn every_number(&mut self) {
         let bytes: Vec<u8> = (0..40).chain([63, 64, 65, 128, 254, 255]).collect();
         self.each(&bytes, |tables| &mut tables.lists.letters);
-        self.each(&bytes, |tables| &mut tables.lists.states);
         self.each(&bytes, |tables| &mut tables.lists.accepted);
         let edges = [255, 256, 257, 288, 289, 290, 16_383, 16_384, 16_385, 65_535];
+        let states: Vec<u16> = (0..40).chain(edges).collect();
+        self.each(&states, |tables| &mut tables.lists.states);
         let used = self.tables.lists.used;
         let numbers: Vec<u16> = (0..used + 4).chain(edges).collect();
         self.each(&numbers, |tables| &mut tables.lists.used);

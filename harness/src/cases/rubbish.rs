@@ -10,7 +10,7 @@ fn random_lists(random: &mut Random) -> Lists {
     let mut lists = Lists::zeroed();
     lists.letters = random.bits() as u8;
     lists.used = random.bits() as u16;
-    lists.states = random.bits() as u8;
+    lists.states = random.bits() as u16;
     lists.rules = random.bits() as u16;
     lists.contexts = random.bits() as u16;
     lists.hand = random.bits() as u16;
@@ -58,7 +58,7 @@ pub fn small_numbers(random: &mut Random) -> Tables {
     lists.counts[..3].copy_from_slice(&[0, 1, 2]);
     lists.used = random.within(1, rows) as u16;
     lists.contexts = random.within(1, 2) as u16;
-    lists.states = random.below(2) as u8;
+    lists.states = random.below(2) as u16;
     lists.rules = random.below(3) as u16;
     lists.asked = random.below(3) as u16;
     lists.hand = random.below(6).saturating_sub(3) as u16;

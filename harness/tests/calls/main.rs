@@ -1,5 +1,6 @@
 //! The calls that change what is lent, against the oracle, one subject a module. Seeds and counts are fixed.
 
+mod bytes;
 mod colliding;
 mod damage;
 mod deep;

@@ -32,7 +32,7 @@ fn starts() {
                 lists.s.fill_with(|| random.bits() as u16);
                 lists.t.fill_with(|| random.bits() as u16);
                 lists.c.fill_with(|| random.bits() as u16);
-                (lists.states, lists.rules, lists.contexts) = (255, 65_535, 65_535);
+                (lists.states, lists.rules, lists.contexts) = (65_535, 65_535, 65_535);
                 let number = match (fits(size), (1..=64).contains(&letters) && most <= 4) {
                     (false, _) => 18,
                     (_, false) => 17,

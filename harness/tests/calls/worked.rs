@@ -21,7 +21,7 @@ fn offer(symbols: &[u8], mark: u8) -> Call {
     Call::Offer(symbols.to_vec(), mark)
 }
 
-fn seen(phase: u8, row: u16, states: u8, rules: u16, contexts: u16) -> Seen {
+fn seen(phase: u8, row: u16, states: u16, rules: u16, contexts: u16) -> Seen {
     Seen {
         number: 0,
         phase,

@@ -1,5 +1,6 @@
 //! One look by both.
 
+use harness::bytes::{of_seen, raw_seen};
 use harness::kuldveth;
 use oracle::testing::compare::Tables;
 use oracle::{Seen, ACCEPTED, ASKING, PROPOSING};
@@ -10,6 +11,7 @@ pub fn look(tables: &Tables) -> Seen {
     let seen = kuldveth::look(&tables.words, &tables.lists);
     let expected = oracle::look(&before.words, &before.lists);
     assert_eq!(seen, expected, "library and oracle differ on\n{before:?}");
+    assert_eq!(raw_seen(seen), of_seen(&expected), "looking at\n{before:?}");
     assert!(*tables == before, "looking changed\n{before:?}");
     seen
 }

@@ -81,10 +81,11 @@ fn every_list(tables: &mut Tables, met: &mut Met) {
 fn every_number(tables: &mut Tables, met: &mut Met) {
     let bytes: Vec<u8> = (0..=66).chain([127, 128, 254, 255]).collect();
     each(tables, &bytes, |tables| &mut tables.lists.letters, met);
-    each(tables, &bytes, |tables| &mut tables.lists.states, met);
     each(tables, &bytes, |tables| &mut tables.lists.accepted, met);
     let used = tables.lists.used;
     let edges = [255, 256, 257, 288, 289, 290, 16_383, 16_384, 16_385, 65_535];
+    let states: Vec<u16> = (0..=66).chain(edges).collect();
+    each(tables, &states, |tables| &mut tables.lists.states, met);
     let numbers: Vec<u16> = (0..used + 4).chain(edges).collect();
     each(tables, &numbers, |tables| &mut tables.lists.used, met);
     each(tables, &numbers, |tables| &mut tables.lists.rules, met);

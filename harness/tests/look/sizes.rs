@@ -73,7 +73,7 @@ fn lengths() {
     let mut random = Random::new(91);
     let words = words(60, 0);
     for letters in [0, 1, 64, 65, 255] {
-        for states in [0, 1, 32, 33, 255] {
+        for states in [0, 1, 32, 33, 255, 256, 257, 65_535] {
             for rules in [0, 1, 256, 257, 65_535] {
                 for contexts in [0, 1, 2, 289, 290, 65_535] {
                     let mut lists = started();
@@ -95,7 +95,7 @@ fn lengths() {
 #[test]
 fn every_number_at_its_largest() {
     let mut lists = started();
-    (lists.letters, lists.states, lists.accepted) = (255, 255, 255);
+    (lists.letters, lists.states, lists.accepted) = (255, 65_535, 255);
     (lists.used, lists.rules, lists.contexts) = (65_535, 65_535, 65_535);
     (lists.hand, lists.asked) = (65_535, 65_535);
     for size in [0, 5, 6, 98_304, 98_310] {

@@ -49,7 +49,7 @@ pub fn damage(tables: &mut Tables, random: &mut Random) {
         0 => lists.letters = number as u8,
         1 => lists.counts[place(random, lists.letters as usize, 64)] = number as u8,
         2 => lists.used = number as u16,
-        3 => lists.states = number as u8,
+        3 => lists.states = number as u16,
         4 => lists.s[place(random, lists.states as usize, 32)] = number as u16,
         5 => lists.rules = number as u16,
         6 => lists.t[place(random, lists.rules as usize, 256)] = number as u16,

@@ -283,7 +283,7 @@ impl Loose {
         lists.letters = self.counts.len() as u8;
         lists.counts[..self.counts.len()].copy_from_slice(&self.counts);
         lists.used = order.len() as u16;
-        lists.states = self.s.len() as u8;
+        lists.states = self.s.len() as u16;
         lists.rules = self.t.len() as u16;
         lists.contexts = self.c.len() as u16;
         (0..self.s.len()).for_each(|at| lists.s[at] = number(&self.s[at]));

@@ -9,7 +9,7 @@ fn looked(tables: &Tables) -> Seen {
     look(&tables.words, &tables.lists)
 }
 
-fn counts(seen: Seen) -> (u8, u8, u8, u16, u16) {
+fn counts(seen: Seen) -> (u8, u8, u16, u16, u16) {
     (
         seen.number,
         seen.phase,

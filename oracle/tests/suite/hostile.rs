@@ -35,7 +35,7 @@ fn random_lists(random: &mut Random) -> Lists {
     let mut lists = Lists::zeroed();
     lists.letters = random.bits() as u8;
     lists.used = random.bits() as u16;
-    lists.states = random.bits() as u8;
+    lists.states = random.bits() as u16;
     lists.rules = random.bits() as u16;
     lists.contexts = random.bits() as u16;
     lists.hand = random.bits() as u16;

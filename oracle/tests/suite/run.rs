@@ -17,7 +17,7 @@ fn fresh(rows: usize) -> (Vec<u32>, Lists) {
     (words, lists)
 }
 
-fn proposing(states: u8, rules: u16, contexts: u16) -> Seen {
+fn proposing(states: u16, rules: u16, contexts: u16) -> Seen {
     Seen {
         number: 0,
         phase: 0,
@@ -28,7 +28,7 @@ fn proposing(states: u8, rules: u16, contexts: u16) -> Seen {
     }
 }
 
-fn asking(row: u16, states: u8, rules: u16, contexts: u16) -> Seen {
+fn asking(row: u16, states: u16, rules: u16, contexts: u16) -> Seen {
     Seen {
         phase: 1,
         row,
@@ -245,11 +245,12 @@ fn order_of_refusals() {
 #[test]
 fn layout() {
     use std::mem::{offset_of, size_of};
-    assert_eq!(size_of::<Lists>(), 1_234);
+    assert_eq!(size_of::<Lists>(), 1_232);
     assert_eq!(
-        (offset_of!(Lists, counts), offset_of!(Lists, used)),
-        (1, 66)
+        (offset_of!(Lists, counts), offset_of!(Lists, accepted)),
+        (1, 65)
     );
+    assert_eq!(offset_of!(Lists, used), 66);
     assert_eq!((offset_of!(Lists, states), offset_of!(Lists, s)), (68, 70));
     assert_eq!((offset_of!(Lists, rules), offset_of!(Lists, t)), (134, 136));
     assert_eq!(
@@ -260,6 +261,11 @@ fn layout() {
         (offset_of!(Lists, hand), offset_of!(Lists, asked)),
         (1_228, 1_230)
     );
-    assert_eq!(offset_of!(Lists, accepted), 1_232);
+    assert_eq!((offset_of!(Seen, row), offset_of!(Seen, states)), (2, 4));
+    assert_eq!(
+        (offset_of!(Seen, rules), offset_of!(Seen, contexts)),
+        (6, 8)
+    );
+    assert_eq!(offset_of!(Emitted, size), 4);
     assert_eq!((size_of::<Seen>(), size_of::<Emitted>()), (10, 8));
 }

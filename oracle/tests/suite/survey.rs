@@ -4,7 +4,7 @@
 use oracle::testing::checked::learn;
 use oracle::testing::target::Target;
 
-fn learnt(target: &Target, states: u8, rules: u16) {
+fn learnt(target: &Target, states: u16, rules: u16) {
     let (run, seen) = learn(target, 1_000);
     assert_eq!((seen.number, seen.states, seen.rules), (0, states, rules));
     assert!(run.taken < states as usize + rules as usize);

@@ -14,7 +14,7 @@ spread-requires c κs = search needs
 returns : tie.Need-returns
 returns c =
     let s = c .before .before in
-    λ i. record { letters = length (s .args .counts .now); counts = c .spread .ensures i; used = 1; states = 0; s = replicate mostStates 0; rules = 0; t = replicate mostRules 0; contexts = 1; c = replicate mostContexts 0; hand = 0; asked = 0; accepted = 0 }
+    λ i. record { letters = length (s .args .counts .now); counts = c .spread .ensures i; accepted = 0; used = 1; states = 0; s = replicate mostStates 0; rules = 0; t = replicate mostRules 0; contexts = 1; c = replicate mostContexts 0; hand = 0; asked = 0 }
 
 pub fresh-spec : {M : Type 1} → statement M
 fresh-spec = tie.close (tie.spec cast-t3 spread-requires returns)

@@ -26,7 +26,7 @@ Start = lts.Start (write-finals-reads.Asked, write-finals-reads.Learnt, write-ru
 arrays : (s : Start) → Arrays (s .args .lists .s) (s .args .lists .states) (s .args .lists .t) (s .args .lists .rules) (s .args .lists .c) (s .args .lists .contexts)
 arrays s =
     let f = listsFit-facts (s .args .lists) (s .pre .1) in
-    record { s-long = search needs; few-s = f .states; t-long = search needs; few-t = f .rules; c-long = length-unmapped ℕ (s .args .lists .c) mostContexts (s .good .1 .0 .1 .1 .1 .1 .1 .1 .1 .1 .1 .1 .0 .1 .0 .1); few-c = f .contexts }
+    record { s-long = search needs; few-s = f .states; t-long = search needs; few-t = f .rules; c-long = length-unmapped ℕ (s .args .lists .c) mostContexts (s .good .1 .0 .1 .1 .1 .1 .1 .1 .1 .1 .1 .1 .1 .0 .1 .0 .1); few-c = f .contexts }
 
 few-letters : (s : Start) → s .args .lists .letters ≤ mostSymbols
 few-letters s = listsFit-facts (s .args .lists) (s .pre .1) .letters

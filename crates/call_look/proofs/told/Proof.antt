@@ -18,7 +18,7 @@ returns c =
     let f = listsFit-facts l (s .pre) in
     let a : length (l .s) ≡ mostStates = search needs in
     let b : length (l .t) ≡ mostRules = search needs in
-    let d : length (l .c) ≡ mostContexts = length-unmapped ℕ (l .c) mostContexts (s .good .1 .0 .1 .1 .1 .1 .1 .1 .1 .1 .1 .1 .0 .1 .0 .1) in
+    let d : length (l .c) ≡ mostContexts = length-unmapped ℕ (l .c) mostContexts (s .good .1 .0 .1 .1 .1 .1 .1 .1 .1 .1 .1 .1 .1 .0 .1 .0 .1) in
     told-is (s .args .words .now) l (omega (arith, f .states)) (omega (arith, f .rules)) (omega (arith, f .contexts)) 2 (phase-accepted (s .args .words .now) l (c .if2 .taken))
 
 returns-2 : tie.Need-returns-2
@@ -28,7 +28,7 @@ returns-2 c =
     let f = listsFit-facts l (s .pre) in
     let a : length (l .s) ≡ mostStates = search needs in
     let b : length (l .t) ≡ mostRules = search needs in
-    let d : length (l .c) ≡ mostContexts = length-unmapped ℕ (l .c) mostContexts (s .good .1 .0 .1 .1 .1 .1 .1 .1 .1 .1 .1 .1 .0 .1 .0 .1) in
+    let d : length (l .c) ≡ mostContexts = length-unmapped ℕ (l .c) mostContexts (s .good .1 .0 .1 .1 .1 .1 .1 .1 .1 .1 .1 .1 .1 .0 .1 .0 .1) in
     told-is (s .args .words .now) l (omega (arith, f .states)) (omega (arith, f .rules)) (omega (arith, f .contexts)) (c .before .before .if1 .phase)
     (⊎-elim (λ w. w .1 ∙ phase-asking (s .args .words .now) l (c .if2 .left) (w .0 .taken)) (λ w. w .1 ∙ phase-proposing (s .args .words .now) l (c .if2 .left) (w .0 .left)) (c .before .before .if1 .came))
 

@@ -56,9 +56,9 @@ returns-3 c =
     let l = s .args .lists in
     let t = look-taken (s .args .words .now) l (k .result) (k .ensures) n in
     let a : length (l .counts) ≡ mostSymbols = search needs in
-    let d : length (l .s) ≡ mostStates = length-unmapped ℕ (l .s) mostStates (s .good .1 .0 .1 .1 .1 .1 .1 .1 .0 .1 .0 .1) in
-    let e : length (l .t) ≡ mostRules = length-unmapped ℕ (l .t) mostRules (s .good .1 .0 .1 .1 .1 .1 .1 .1 .1 .1 .0 .1 .0 .1) in
-    let f : length (l .c) ≡ mostContexts = length-unmapped ℕ (l .c) mostContexts (s .good .1 .0 .1 .1 .1 .1 .1 .1 .1 .1 .1 .1 .0 .1 .0 .1) in
+    let d : length (l .s) ≡ mostStates = length-unmapped ℕ (l .s) mostStates (s .good .1 .0 .1 .1 .1 .1 .1 .1 .1 .0 .1 .0 .1) in
+    let e : length (l .t) ≡ mostRules = length-unmapped ℕ (l .t) mostRules (s .good .1 .0 .1 .1 .1 .1 .1 .1 .1 .1 .1 .0 .1 .0 .1) in
+    let f : length (l .c) ≡ mostContexts = length-unmapped ℕ (l .c) mostContexts (s .good .1 .0 .1 .1 .1 .1 .1 .1 .1 .1 .1 .1 .1 .0 .1 .0 .1) in
     accept-taken (s .args .words .now) l (k .result) (k .ensures) n _ (in-arrays l (t .1) a d e f) (c .before .before .before .if2 .left)
     (c .told .ensures ∙ ap (λ (m : Lists). seenOf (look (tablesOf (s .args .words .now) m))) (c .before .before .accepting .ensures)) (c .before .before .accepting .ensures)
 

@@ -120,4 +120,4 @@ module _ (ws : List ℕ) (l : Lists) (seen : Seen) (e : seen ≡ callSeen ws l l
             let j = over-take (l .rules) (l .t) (f .rules) in
             let k = length-take-le (l .contexts) (l .c) (f .contexts) in
             let m = over-take (l .contexts) (l .c) (f .contexts) in
-            sym (λ i. record { letters = a i; counts = b i; used = c i; states = d i; s = g i; rules = h i; t = j i; contexts = k i; c = m i; hand = l .hand; asked = l .asked; accepted = 1 })
+            sym (λ i. record { letters = a i; counts = b i; accepted = 1; used = c i; states = d i; s = g i; rules = h i; t = j i; contexts = k i; c = m i; hand = l .hand; asked = l .asked })

@@ -186,7 +186,7 @@ module _ {ws : List ℕ} {l : Lists} {xs : List ℕ} {m : ℕ} {holes head next 
         let f = sym (over-take (l .rules) (l .t) ht) in
         let g = sym (length-take-le (l .contexts) (l .c) hc) in
         let h = sym (over-take (l .contexts) (l .c) hc) in
-        λ i. record { letters = a i; counts = b i; used = q .stands .count i; states = c i; s = d i; rules = e i; t = f i; contexts = g i; c = h i; hand = j; asked = 0; accepted = 0 }
+        λ i. record { letters = a i; counts = b i; accepted = 0; used = q .stands .count i; states = c i; s = d i; rules = e i; t = f i; contexts = g i; c = h i; hand = j; asked = 0 }
 
     reps-are : RepsOf (answersOf (X .store) (X .answers) (X .c)) (X .s) (X .t) reps
     reps-are =

@@ -36,9 +36,9 @@ advance-requires c κs =
     let k = c .before .before .before .before .before .closed in
     let f = k .ensures in
     let a : length (l .counts) ≡ mostSymbols = length-unmapped ℕ (l .counts) mostSymbols (s .good .1 .0 .1 .1 .1 .0 .1 .0 .1) in
-    let b : length (l .s) ≡ mostStates = length-unmapped ℕ (l .s) mostStates (s .good .1 .0 .1 .1 .1 .1 .1 .1 .0 .1 .0 .1) in
-    let d : length (l .t) ≡ mostRules = length-unmapped ℕ (l .t) mostRules (s .good .1 .0 .1 .1 .1 .1 .1 .1 .1 .1 .0 .1 .0 .1) in
-    let g : length (l .c) ≡ mostContexts = length-unmapped ℕ (l .c) mostContexts (s .good .1 .0 .1 .1 .1 .1 .1 .1 .1 .1 .1 .1 .0 .1 .0 .1) in
+    let b : length (l .s) ≡ mostStates = length-unmapped ℕ (l .s) mostStates (s .good .1 .0 .1 .1 .1 .1 .1 .1 .1 .0 .1 .0 .1) in
+    let d : length (l .t) ≡ mostRules = length-unmapped ℕ (l .t) mostRules (s .good .1 .0 .1 .1 .1 .1 .1 .1 .1 .1 .1 .0 .1 .0 .1) in
+    let g : length (l .c) ≡ mostContexts = length-unmapped ℕ (l .c) mostContexts (s .good .1 .0 .1 .1 .1 .1 .1 .1 .1 .1 .1 .1 .1 .0 .1 .0 .1) in
     let arrays = in-arrays l (s .pre .1) a b d g in (
       stepping-answered ws l (s .args .mark) (s .pre .1) (s .pre .2) (s .pre .3) (s .pre .4) arrays w _ (k .result) e f,
       omega (arith, ap (λ (o : Lists). o .rules) f, s .pre .7),

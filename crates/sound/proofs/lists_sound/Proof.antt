@@ -40,11 +40,11 @@ is-sound-requires c κs =
     let f = listsFit-facts (s .args .lists) (s .pre .1) in (
       s .pre .0,
       record {
-        s-long = length-unmapped ℕ (s .args .lists .s) mostStates (s .good .1 .0 .1 .1 .1 .1 .1 .1 .0 .1 .0 .1);
+        s-long = length-unmapped ℕ (s .args .lists .s) mostStates (s .good .1 .0 .1 .1 .1 .1 .1 .1 .1 .0 .1 .0 .1);
         few-s = f .states;
-        t-long = length-unmapped ℕ (s .args .lists .t) mostRules (s .good .1 .0 .1 .1 .1 .1 .1 .1 .1 .1 .0 .1 .0 .1);
+        t-long = length-unmapped ℕ (s .args .lists .t) mostRules (s .good .1 .0 .1 .1 .1 .1 .1 .1 .1 .1 .1 .0 .1 .0 .1);
         few-t = f .rules;
-        c-long = length-unmapped ℕ (s .args .lists .c) mostContexts (s .good .1 .0 .1 .1 .1 .1 .1 .1 .1 .1 .1 .1 .0 .1 .0 .1);
+        c-long = length-unmapped ℕ (s .args .lists .c) mostContexts (s .good .1 .0 .1 .1 .1 .1 .1 .1 .1 .1 .1 .1 .1 .0 .1 .0 .1);
         few-c = f .contexts;
       },
       s .pre .2,

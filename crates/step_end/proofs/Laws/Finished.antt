@@ -134,6 +134,7 @@ module _ {ws : List ℕ} {l : Lists} {hs he ne mix : List ℕ} (p : Stepping ws 
         λ i. record {
           letters = kept-length (l .letters) (l .counts) (g .counts) few-letters i;
           counts = kept-over (l .letters) (l .counts) (g .counts) few-letters i;
+          accepted = sym (ap (λ (b : Bool). cond b 1 0) (g .running)) i;
           used = used (y .store);
           states = kept-length (l .states) (l .s) e few-states i;
           s = kept-over (l .states) (l .s) e few-states i;
@@ -143,7 +144,6 @@ module _ {ws : List ℕ} {l : Lists} {hs he ne mix : List ℕ} (p : Stepping ws 
           c = kept-over (l .contexts) (l .c) (g .same-c) few-contexts i;
           hand = sym f i;
           asked = y .asked;
-          accepted = sym (ap (λ (b : Bool). cond b 1 0) (g .running)) i;
         }
 
     proposing-is : (y : Tables) → Grows G y → y .store ≡ G .store → y .hand ≡ 0 → y .asked ≡ 0 → proposing l (over (y .s) (l .s)) (length (y .s)) ≡ listsOf l y
@@ -152,6 +152,7 @@ module _ {ws : List ℕ} {l : Lists} {hs he ne mix : List ℕ} (p : Stepping ws 
         λ i. record {
           letters = kept-length (l .letters) (l .counts) (g .counts) few-letters i;
           counts = kept-over (l .letters) (l .counts) (g .counts) few-letters i;
+          accepted = sym (ap (λ (b : Bool). cond b 1 0) (g .running)) i;
           used = u i;
           states = length (y .s);
           s = over (y .s) (l .s);
@@ -161,7 +162,6 @@ module _ {ws : List ℕ} {l : Lists} {hs he ne mix : List ℕ} (p : Stepping ws 
           c = kept-over (l .contexts) (l .c) (g .same-c) few-contexts i;
           hand = sym f i;
           asked = sym k i;
-          accepted = sym (ap (λ (b : Bool). cond b 1 0) (g .running)) i;
         }
 
     pub finished : (q : Step) (ss us : List ℕ) {r : Stepped} → StepAs ws (countsIn l) (l .used) (l .s) (settled G) q us ss → FinishedAs l q ss r → Finished ws l (settled (tablesOf ws l)) r us

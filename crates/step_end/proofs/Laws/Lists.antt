@@ -46,7 +46,7 @@ lists-twice l x y a b c d =
     let q = over-over (y .s) (x .s) (l .s) b in
     let r = over-over (y .t) (x .t) (l .t) c in
     let s = over-over (y .c) (x .c) (l .c) d in
-    λ i. record { letters = length (y .store .counts); counts = p i; used = length (y .store .nodes); states = length (y .s); s = q i; rules = length (y .t); t = r i; contexts = length (y .c); c = s i; hand = y .hand; asked = y .asked; accepted = listsOf l y .accepted }
+    λ i. record { letters = length (y .store .counts); counts = p i; accepted = listsOf l y .accepted; used = length (y .store .nodes); states = length (y .s); s = q i; rules = length (y .t); t = r i; contexts = length (y .c); c = s i; hand = y .hand; asked = y .asked }
 
 -- what the lists of tables mean, over words that hold the tables' rows
 pub tables-left : (ws us : List ℕ) (l : Lists) (y : Tables) → y .store .counts ≡ countsIn l → Left ws (countsIn l) us (y .store) (y .answers) → tablesOf us (listsOf l y) ≡ y

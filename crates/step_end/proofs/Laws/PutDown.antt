@@ -87,6 +87,7 @@ module _ {ws : List ℕ} {l : Lists} {hs he ne mix : List ℕ} (p : Stepping ws 
       λ i. record {
         letters = kept-length (l .letters) (l .counts) (d .filled .ext .counts) (few-letters p a) i;
         counts = kept-over (l .letters) (l .counts) (d .filled .ext .counts) (few-letters p a) i;
+        accepted = 0;
         used = d .stands .count i;
         states = sym (length-take-le (l .states) (l .s) (few-states p a)) i;
         s = sym (over-take (l .states) (l .s) (few-states p a)) i;
@@ -96,7 +97,6 @@ module _ {ws : List ℕ} {l : Lists} {hs he ne mix : List ℕ} (p : Stepping ws 
         c = more-array b (l .contexts) j (l .c) within i;
         hand = 0;
         asked = 0;
-        accepted = 0;
       }
 
   left-after : Left ws (countsIn l) us (Y .store) (Y .answers)

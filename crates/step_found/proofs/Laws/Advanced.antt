@@ -58,6 +58,7 @@ asking-is l g fit y e w h j n p =
     λ i. record {
       letters = letters i;
       counts = counts i;
+      accepted = 0;
       used = p i;
       states = sym (length-take-le (l .states) (l .s) b) i;
       s = sym (over-take (l .states) (l .s) b) i;
@@ -67,7 +68,6 @@ asking-is l g fit y e w h j n p =
       c = sym (over-take (l .contexts) (l .c) d) i;
       hand = h;
       asked = j;
-      accepted = 0;
     }
 
 -- the tables with a record in hand
@@ -136,6 +136,7 @@ lists-ruled l i y n =
     λ j. record {
       letters = length (y .store .counts);
       counts = over (y .store .counts) (l .counts);
+      accepted = cond (y .accepted) 1 0;
       used = length (y .store .nodes);
       states = length (y .s);
       s = over (y .s) (l .s);
@@ -145,7 +146,6 @@ lists-ruled l i y n =
       c = over (y .c) (l .c);
       hand = y .hand;
       asked = y .asked;
-      accepted = cond (y .accepted) 1 0;
     }
 
 ended-ruled : (ws : List ℕ) (l : Lists) (i : ℕ) (r : Stepped) (us : List ℕ) (t : List ℕ) → l .rules < length t → (e : Ended) → WithRules t e → EndedAs ws (withRule l i) e r us → EndedAs ws l e r us

@@ -37,7 +37,7 @@ long s =
       counts = search needs;
       s = search needs;
       t = search needs;
-      c = length-unmapped ℕ (s .args .lists .c) mostContexts (s .good .1 .0 .1 .1 .1 .1 .1 .1 .1 .1 .1 .1 .0 .1 .0 .1);
+      c = length-unmapped ℕ (s .args .lists .c) mostContexts (s .good .1 .0 .1 .1 .1 .1 .1 .1 .1 .1 .1 .1 .1 .0 .1 .0 .1);
     }
 
 came : (c : Filled) →

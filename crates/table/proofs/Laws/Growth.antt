@@ -20,7 +20,7 @@ use Rattle.table.specs.declared.Growth.{Growth}
 use Rattle.table.specs.Answers.{placesFrom, grownBy}
 
 -- a state is a place in S, or the one past it
-pub state-within : (r : ℕ → List ℕ) (v : List ℕ) (n : ℕ) (ps : List ℕ) → n ≤ length ps → stateFrom r v 0 (take n ps) ≤ n
+state-within : (r : ℕ → List ℕ) (v : List ℕ) (n : ℕ) (ps : List ℕ) → n ≤ length ps → stateFrom r v 0 (take n ps) ≤ n
 state-within r v n ps h =
     let e = length-take-le n ps h in
     let b = state-most r v 0 (take n ps) in

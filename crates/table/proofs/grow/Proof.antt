@@ -28,14 +28,6 @@ abbrev μ-loop : tie.MeasureT-loop
 abbrev Met : Type 0
 Met = lts.After-state-of (state-of-reads.Asked, state-of-reads.Learnt) reads.Pre reads.Post Inv-loop μ-loop
 
--- the state found is a place in S, or the one past it
-within : (m : Met) → m .state-of .result .0 ≤ m .before .before .before .loop .n
-within m =
-    let s = m .before .before .before .before .before in
-    let l = m .before .before .before .loop in
-    let w = G.state-within (rowAt (s .args .table .now) (s .args .contexts)) (rowAt (s .args .table .now) (s .args .contexts) (l .k)) (l .n) (l .ps) (omega (arith, l .inv .1 .few, l .inv .1 .long)) in
-    omega (arith, w, m .state-of .ensures)
-
 loop-holds : tie.Need-loop-holds Inv-loop μ-loop
 loop-holds c =
     let h : length (c .before .args .places) ≡ mostStates = c .before .good .1 .1 .1 .0 .1 .0 .1 in (
@@ -55,9 +47,6 @@ state-of-requires : tie.Need-state-of-requires Inv-loop μ-loop
 state-of-requires c κs =
     let g = c .before .before .loop .inv .1 in
     (c .before .before .before .before .pre .0, c .before .loop-test .taken, g .few, g .long, g .below)
-
-cast-if1 : tie.Need-cast-if1 Inv-loop μ-loop
-cast-if1 c = let w = within (c .before) in omega arith
 
 cast-if2 : tie.Need-cast-if2 Inv-loop μ-loop
 cast-if2 c = search needs
@@ -118,7 +107,6 @@ grow-spec =
     loop-holds
     cast-state-of
     state-of-requires
-    cast-if1
     cast-if2
     returns
     cast-ps

@@ -190,7 +190,7 @@ pub fn emit(words: &[u32], lists: &Lists, out: &mut [u8]) -> Emitted {
     let run = match read(words, lists) {
         Ok(run) if run.asked.is_some() => return refused(31),
         Ok(run) => run,
-        Err(number) => return refused(number),
+        Err(number) => return refused(number as u32),
     };
     let bytes = run.bytes();
     if bytes.len() > out.len() {

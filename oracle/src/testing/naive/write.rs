@@ -30,7 +30,7 @@ impl Naive {
             }
         };
         lists.used = self.rows.len() as u16;
-        lists.states = self.s.len() as u8;
+        lists.states = self.s.len() as u16;
         lists.rules = self.t.len() as u16;
         lists.contexts = self.c.len() as u16;
         copy(&self.s, &mut lists.s);
@@ -52,7 +52,7 @@ impl Naive {
                 2 * self.accepted as u8
             },
             row: asked.map_or(0, |asked| self.row_number(asked)),
-            states: self.s.len() as u8,
+            states: self.s.len() as u16,
             rules: self.t.len() as u16,
             contexts: self.c.len() as u16,
         }

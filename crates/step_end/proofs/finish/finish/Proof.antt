@@ -27,7 +27,7 @@ arrays s =
       counts = search needs;
       s = search needs;
       t = search needs;
-      c = length-unmapped ℕ (s .args .lists .c) mostContexts (s .good .1 .0 .1 .1 .1 .1 .1 .1 .1 .1 .1 .1 .0 .1 .0 .1);
+      c = length-unmapped ℕ (s .args .lists .c) mostContexts (s .good .1 .0 .1 .1 .1 .1 .1 .1 .1 .1 .1 .1 .1 .0 .1 .0 .1);
     }
 
 letters : (s : Start) → s .args .lists .letters ≤ length (s .args .lists .counts)

@@ -21,7 +21,7 @@ cast-is-among c = search needs
 is-among-requires : tie.Need-is-among-requires
 is-among-requires c κs =
     let s = c .before .before in
-    let e : length (s .args .lists .c) ≡ mostContexts = length-unmapped ℕ (s .args .lists .c) mostContexts (s .good .0 .1 .1 .1 .1 .1 .1 .1 .1 .1 .1 .0 .1 .0 .1) in
+    let e : length (s .args .lists .c) ≡ mostContexts = length-unmapped ℕ (s .args .lists .c) mostContexts (s .good .0 .1 .1 .1 .1 .1 .1 .1 .1 .1 .1 .1 .0 .1 .0 .1) in
     omega (arith, s .pre)
 
 cast-left : tie.Need-cast-left
