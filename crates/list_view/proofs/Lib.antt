@@ -1,3 +1,4 @@
 pub mod Looks
 pub mod Views
+pub mod Loads
 pub mod Parts
