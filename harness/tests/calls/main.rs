@@ -9,4 +9,5 @@ mod emitted;
 mod fresh;
 mod shortages;
 mod sizes;
+mod view;
 mod worked;

@@ -36,7 +36,8 @@ fn in_the_model(field: String) -> String {
 fn fields_are_those_of_the_model() {
     let model = include_str!("../../../crates/model/src/lib.rt");
     let lent = include_str!("../../../oracle/src/lent.rs");
-    for name in ["Lists", "Seen", "Emitted"] {
+    let names = ["Lists", "Seen", "Emitted", "ListSizes", "Found", "ListRule"];
+    for name in names {
         let oracle: Vec<String> = fields(lent, name).into_iter().map(in_the_model).collect();
         assert_eq!(fields(model, name), oracle);
         assert!(model.contains(&format!("#[repr(C)]\npub struct {name}")));

@@ -9,7 +9,7 @@ use Rattle.model.specs.Entry.{loadSeen}
 use Rattle.model.specs.View.{ruleBy}
 use Rattle.model.specs.declared.Emitted.{Emitted}
 use Rattle.list_view.specs.declared.ShownRule.{ShownRule}
-use Rattle.list_view.proofs.Loads.{no-list, target-small, rule-read, rule-past}
+use Rattle.list_view.proofs.Loads.{no-list, small-target, rule-read, rule-past}
 use Rattle.list_view.proofs.seen.rule_seen.Statement.{statement}
 use Rattle.list_view.proofs.seen.rule_seen.Tie as tie
 
@@ -64,7 +64,7 @@ count-in-requires c κs = search needs
 cast-t9 : tie.Need-cast-t9
 cast-t9 c =
     let m : Met = c .before .before .before in
-    omega (arith, target-small (bytes m) (loads m) (number m) (has m), ap (λ (x : ShownRule). x .target .0) (m .rule-in .ensures))
+    omega (arith, small-target (bytes m) (loads m) (number m) (has m), ap (λ (x : ShownRule). x .target .0) (m .rule-in .ensures))
 
 returns-3 : tie.Need-returns-3
 returns-3 c =

@@ -8,7 +8,7 @@ use Rattle.model.specs.Entry.{loadSeen}
 use Rattle.model.specs.View.{sizesBy}
 use Rattle.model.specs.declared.Emitted.{Emitted}
 use Rattle.list_view.proofs.Looks.{few-shown}
-use Rattle.list_view.proofs.Loads.{no-list, few-symbols, few-states, sizes-read}
+use Rattle.list_view.proofs.Loads.{no-list, small-counts, small-finals, sizes-read}
 use Rattle.list_view.proofs.seen.sizes_seen.Statement.{statement}
 use Rattle.list_view.proofs.seen.sizes_seen.Tie as tie
 
@@ -43,12 +43,12 @@ body-requires-2 c κs = search needs
 cast-t8 : tie.Need-cast-t8
 cast-t8 c =
     let bs = c .before .before .before .before .before .before .before .args .bytes .now in
-    omega (arith, few-symbols bs (loads c) (c .before .before .body .result .now) (c .before .before .body .ensures))
+    omega (arith, small-counts bs (loads c) (c .before .before .body .result .now) (c .before .before .body .ensures))
 
 cast-t10 : tie.Need-cast-t10
 cast-t10 c =
     let bs = c .before .before .before .before .before .before .before .args .bytes .now in
-    omega (arith, few-states bs (loads c) (c .body2 .result .now) (finals-are c))
+    omega (arith, small-finals bs (loads c) (c .body2 .result .now) (finals-are c))
 
 cast-t11 : tie.Need-cast-t11
 cast-t11 c =
