@@ -109,8 +109,8 @@ pub fn every_part(bytes: &[u8], random: &mut Random, met: &mut Met) {
         lent.children(number);
         lent.is_final(number);
     }
-    (0..300).for_each(|k| lent.rule(k));
-    [511, 512, 4_096, 32_768, 65_280, 65_535].map(|k| lent.rule(k));
+    let far = [511, 512, 4_096, 32_768, 65_280, 65_535];
+    (0..300).chain(far).for_each(|k| lent.rule(k));
     lent.left_sides(random);
     lent.random_sides(random, 60);
     assert_eq!(bytes, before, "a call changed the bytes");

@@ -1,4 +1,4 @@
-//! The calls that change what is lent, against the oracle, one subject a module. Seeds and counts are fixed.
+//! The calls of a host against the oracle, one subject a module. Seeds and counts are fixed.
 
 mod colliding;
 mod damage;
