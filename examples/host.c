@@ -24,6 +24,28 @@ static void tell(struct kuldveth_seen seen)
         printf("propose %d %d %d\n", seen.states, seen.rules, seen.contexts);
 }
 
+/* The automaton that a list is: its states, then rule by rule. */
+static void show_list(const uint8_t *list, size_t length)
+{
+    const struct kuldveth_sizes sizes = kuldveth_list_sizes(list, length);
+    for (uint8_t state = 0; state < sizes.states; state++)
+        printf("state %d%s\n", state, kuldveth_list_final(list, length, state).value == 1 ? ", final" : "");
+    for (uint16_t k = 0; k < sizes.rules; k++) {
+        const struct kuldveth_rule rule = kuldveth_list_rule(list, length, k);
+        printf("symbol %d", rule.symbol);
+        for (uint8_t i = 0; i < rule.children; i++)
+            printf(", child state %d", rule.states[i]);
+        printf(": state %d\n", rule.target);
+    }
+
+    const uint8_t child[] = {1};
+    const struct kuldveth_found target = kuldveth_list_target(list, length, 0, child, sizeof child);
+    if (target.found == 1)
+        printf("symbol 0, child state 1: state %d\n", target.value);
+    else
+        printf("symbol 0, child state 1: no rule\n");
+}
+
 int main(void)
 {
     const size_t length = sizeof words / sizeof words[0];
@@ -49,5 +71,6 @@ int main(void)
         printf(" %02x", bytes[i]);
     const struct kuldveth_emitted rules = kuldveth_load(bytes, list.size);
     printf("\nloaded %u %u\n", (unsigned)rules.number, (unsigned)rules.size);
+    show_list(bytes, list.size);
     return 0;
 }

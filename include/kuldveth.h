@@ -62,6 +62,33 @@ struct kuldveth_emitted {
     uint32_t size;
 };
 
+/* How many symbols, states and rules a list has (§6.3). Of bytes that are no list: number 21 and zeros. */
+struct kuldveth_sizes {
+    uint16_t number;
+    uint16_t symbols;
+    uint16_t states;
+    uint16_t rules;
+};
+
+/* One value of a list (§6.3): found 1 and the value; found 0 and 0 where the list has none; number 21 and zeros where the
+ * bytes are no list. */
+struct kuldveth_found {
+    uint16_t number;
+    uint8_t found;
+    uint8_t value;
+};
+
+/* One rule of a list (§6.3): found 1, its symbol, the number of its child states, these and then zeros, its target. Past the
+ * last rule found is 0, and so is all the rest; of bytes that are no list: number 21 and zeros. */
+struct kuldveth_rule {
+    uint8_t number;
+    uint8_t found;
+    uint8_t symbol;
+    uint8_t children;
+    uint8_t states[KULDVETH_MOST_CHILDREN];
+    uint8_t target;
+};
+
 /* Refusals because of the input (§5.1). Nothing lent changes. */
 enum {
     KULDVETH_EMPTY_RECORD = 11,      /* no symbols */
@@ -114,5 +141,26 @@ struct kuldveth_emitted kuldveth_emit(const uint32_t *words, size_t words_length
 
 /* Loading a list (§3.8): 21. */
 struct kuldveth_emitted kuldveth_load(const uint8_t *bytes, size_t bytes_length);
+
+/* What a list says (§6.3): five calls over the host's bytes, of which none is copied or written. Any bytes and any numbers
+ * may be given; bytes that are no list get 21. Each call tests the whole list again, as loading does: some 50 ns for the list
+ * of §9, and 13 microseconds for the longest, whose 256 rules are compared with each other. A host that asks much about a
+ * large list keeps what it was told. */
+
+/* How many symbols, states and rules there are. */
+struct kuldveth_sizes kuldveth_list_sizes(const uint8_t *bytes, size_t bytes_length);
+
+/* The child count of a symbol; found 0 where the alphabet does not have it. */
+struct kuldveth_found kuldveth_list_children(const uint8_t *bytes, size_t bytes_length, uint8_t symbol);
+
+/* Whether a state is final, 1 or 0; found 0 where there is no such state. */
+struct kuldveth_found kuldveth_list_final(const uint8_t *bytes, size_t bytes_length, uint8_t state);
+
+/* The rule with a number, from 0 on in the order of the list; found 0 past the last. */
+struct kuldveth_rule kuldveth_list_rule(const uint8_t *bytes, size_t bytes_length, uint16_t k);
+
+/* The target of the rule with this symbol and exactly these child states; found 0 where there is no such rule. */
+struct kuldveth_found kuldveth_list_target(const uint8_t *bytes, size_t bytes_length, uint8_t symbol,
+                                           const uint8_t *states, size_t states_length);
 
 #endif

@@ -1,7 +1,7 @@
 //! The calls that `crates/kuldveth` exports, in the oracle's types: field by field they are those of
 //! `crates/model/src/lib.rt`.
 
-use oracle::{Emitted, Lists, Seen};
+use oracle::{Emitted, Found, ListRule, ListSizes, Lists, Seen};
 
 // A slice crosses as a pointer and a length. The functions require nothing of what is lent.
 extern "C" {
@@ -15,6 +15,17 @@ extern "C" {
         room: usize,
     ) -> Emitted;
     fn kuldveth_load(bytes: *const u8, size: usize) -> Emitted;
+    fn kuldveth_list_sizes(bytes: *const u8, size: usize) -> ListSizes;
+    fn kuldveth_list_children(bytes: *const u8, size: usize, symbol: u8) -> Found;
+    fn kuldveth_list_final(bytes: *const u8, size: usize, state: u8) -> Found;
+    fn kuldveth_list_rule(bytes: *const u8, size: usize, k: u16) -> ListRule;
+    fn kuldveth_list_target(
+        bytes: *const u8,
+        size: usize,
+        symbol: u8,
+        states: *const u8,
+        count: usize,
+    ) -> Found;
 }
 
 /// The version of the library that is linked.
@@ -40,4 +51,25 @@ pub fn emit(words: &[u32], lists: &Lists, out: &mut [u8]) -> Emitted {
 
 pub fn load(bytes: &[u8]) -> Emitted {
     unsafe { kuldveth_load(bytes.as_ptr(), bytes.len()) }
+}
+
+pub fn list_sizes(bytes: &[u8]) -> ListSizes {
+    unsafe { kuldveth_list_sizes(bytes.as_ptr(), bytes.len()) }
+}
+
+pub fn list_children(bytes: &[u8], symbol: u8) -> Found {
+    unsafe { kuldveth_list_children(bytes.as_ptr(), bytes.len(), symbol) }
+}
+
+pub fn list_final(bytes: &[u8], state: u8) -> Found {
+    unsafe { kuldveth_list_final(bytes.as_ptr(), bytes.len(), state) }
+}
+
+pub fn list_rule(bytes: &[u8], k: u16) -> ListRule {
+    unsafe { kuldveth_list_rule(bytes.as_ptr(), bytes.len(), k) }
+}
+
+pub fn list_target(bytes: &[u8], symbol: u8, states: &[u8]) -> Found {
+    let (first, count) = (states.as_ptr(), states.len());
+    unsafe { kuldveth_list_target(bytes.as_ptr(), bytes.len(), symbol, first, count) }
 }

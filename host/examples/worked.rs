@@ -1,6 +1,6 @@
 //! The worked run (docs/SPECIFICATION.md, §9): o has one child, p none; the archive keeps o[p] alone.
 
-use kuldveth_host::{fits, load, Phase, Refusal, Run, Told};
+use kuldveth_host::{fits, load, List, Phase, Refusal, Run, Told};
 
 /// One line for what a call told.
 fn show(told: Told) {
@@ -8,6 +8,25 @@ fn show(told: Told) {
         Phase::Proposing => println!("propose {} {} {}", told.states, told.rules, told.contexts),
         Phase::Asking { row } => println!("ask row {row}"),
         Phase::Accepted => println!("accepted"),
+    }
+}
+
+/// The automaton that a list is: its states, then rule by rule.
+fn show_list(list: List) {
+    for state in 0..list.sizes().states as u8 {
+        let last = list.is_final(state) == Some(true);
+        println!("state {state}{}", if last { ", final" } else { "" });
+    }
+    for rule in list.rules() {
+        print!("symbol {}", rule.symbol);
+        for state in rule.states() {
+            print!(", child state {state}");
+        }
+        println!(": state {}", rule.target);
+    }
+    match list.target(0, &[1]) {
+        Some(target) => println!("symbol 0, child state 1: state {target}"),
+        None => println!("symbol 0, child state 1: no rule"),
     }
 }
 
@@ -31,5 +50,6 @@ fn main() -> Result<(), Refusal> {
         print!(" {byte:02x}");
     }
     println!("\nloaded 0 {}", load(&bytes)?);
+    show_list(List::load(&bytes)?);
     Ok(())
 }

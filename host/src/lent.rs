@@ -65,10 +65,41 @@ pub(crate) struct Emitted {
     pub size: u32,
 }
 
+/// How many symbols, states and rules a list has (§6.3).
+#[repr(C)]
+pub(crate) struct ListSizes {
+    pub number: u16,
+    pub symbols: u16,
+    pub states: u16,
+    pub rules: u16,
+}
+
+/// One value of a list, if it is there (§6.3).
+#[repr(C)]
+pub(crate) struct Found {
+    pub number: u16,
+    pub found: u8,
+    pub value: u8,
+}
+
+/// One rule of a list, if it is there (§6.3).
+#[repr(C)]
+pub(crate) struct ListRule {
+    pub number: u8,
+    pub found: u8,
+    pub symbol: u8,
+    pub children: u8,
+    pub states: [u8; 4],
+    pub target: u8,
+}
+
 // No struct has padding: each is as long as its fields together.
 const _: () = assert!(size_of::<Lists>() == 2 + 64 + 2 * (2 + 32 + 1 + 256 + 1 + 289 + 2));
 const _: () = assert!(size_of::<Seen>() == 2 + 2 * 4);
 const _: () = assert!(size_of::<Emitted>() == 2 * 4);
+const _: () = assert!(size_of::<ListSizes>() == 2 * 4);
+const _: () = assert!(size_of::<Found>() == 2 + 2);
+const _: () = assert!(size_of::<ListRule>() == 9);
 
 extern "C" {
     pub(crate) fn kuldveth_version() -> u32;
@@ -103,4 +134,15 @@ extern "C" {
         room: usize,
     ) -> Emitted;
     pub(crate) fn kuldveth_load(bytes: *const u8, size: usize) -> Emitted;
+    pub(crate) fn kuldveth_list_sizes(bytes: *const u8, size: usize) -> ListSizes;
+    pub(crate) fn kuldveth_list_children(bytes: *const u8, size: usize, symbol: u8) -> Found;
+    pub(crate) fn kuldveth_list_final(bytes: *const u8, size: usize, state: u8) -> Found;
+    pub(crate) fn kuldveth_list_rule(bytes: *const u8, size: usize, k: u16) -> ListRule;
+    pub(crate) fn kuldveth_list_target(
+        bytes: *const u8,
+        size: usize,
+        symbol: u8,
+        states: *const u8,
+        length: usize,
+    ) -> Found;
 }

@@ -1,10 +1,12 @@
 //! The calls of the verified learner for Rust hosts. `Run` owns the tables that the calls are lent; each method is one
-//! call of `docs/SPECIFICATION.md`, §3, and a refusal changes nothing.
+//! call of `docs/SPECIFICATION.md`, §3, and a refusal changes nothing. `List` shows an emitted automaton over its bytes.
 
 mod lent;
+mod list;
 mod refusal;
 
 pub use lent::{Lists, MOST_ROWS, VERSION, WORDS_PER_ROW};
+pub use list::{List, Rule, Sizes};
 pub use refusal::Refusal;
 
 use lent::{

@@ -125,6 +125,37 @@ pub struct Emitted {
     pub size: u32,
 }
 
+/// How many symbols, states and rules a list has, or a refusal's number and zeros.
+#[repr(C)]
+#[derive(Clone, Copy, Debug, Default, PartialEq, Eq)]
+pub struct ListSizes {
+    pub number: u16,
+    pub symbols: u16,
+    pub states: u16,
+    pub rules: u16,
+}
+
+/// One value of a list: found 1 and the value, or found 0 and 0; with a refusal's number both are 0.
+#[repr(C)]
+#[derive(Clone, Copy, Debug, Default, PartialEq, Eq)]
+pub struct Found {
+    pub number: u16,
+    pub found: u8,
+    pub value: u8,
+}
+
+/// One rule of a list, the places past its children 0; all zeros where there is none.
+#[repr(C)]
+#[derive(Clone, Copy, Debug, Default, PartialEq, Eq)]
+pub struct ListRule {
+    pub number: u8,
+    pub found: u8,
+    pub symbol: u8,
+    pub children: u8,
+    pub states: [u8; 4],
+    pub target: u8,
+}
+
 /// The refusals by name, with their numbers (docs/SPECIFICATION.md, 5).
 #[repr(u8)]
 #[derive(Clone, Copy, Debug, PartialEq, Eq)]

@@ -20,7 +20,10 @@ mod sound;
 mod steps;
 mod table;
 pub mod testing;
+mod view;
 
 pub use calls::{accept, answer, emit, look, offer, start};
 pub use lent::{Emitted, Lists, Refusal, Row, Seen, ACCEPTED, ASKING, PROPOSING};
+pub use lent::{Found, ListRule, ListSizes};
 pub use list::{automaton, load, Automaton, Rule};
+pub use view::View;

@@ -4,7 +4,11 @@ ghost use mathlib.Core.Path.{_≡_};
 ghost use Rattle.model.specs.Limits.{version};
 ghost use Rattle.model.specs.Calls.{offers, answers, accept as acceptCall, looks};
 ghost use Rattle.model.specs.Entry.{startSeen, startWords, startLists, callSeen, callWords, callLists, emitSeen, emitOut, loadSeen};
+ghost use Rattle.model.specs.View.{sizesSeen, childrenSeen, finalSeen, ruleSeen, targetSeen};
 use model::Emitted;
+use model::Found;
+use model::ListRule;
+use model::ListSizes;
 use model::Lists;
 use model::Seen;
 use model::limits::VERSION;
@@ -93,4 +97,44 @@ pub extern "C" fn kuldveth_load(bytes: &[u8]) -> Emitted
     ensures { λ r. ⌜ r ≡ loadSeen (now (bytes .entry)) ⌝ }
 {
     list::load(bytes)
+}
+
+// How many symbols, states and rules a list has (§6.3).
+#[no_mangle]
+pub extern "C" fn kuldveth_list_sizes(bytes: &[u8]) -> ListSizes
+    ensures { λ r. ⌜ r ≡ sizesSeen (now (bytes .entry)) ⌝ }
+{
+    list_view::sizes_seen(bytes)
+}
+
+// The child count of a symbol of a list (§6.3).
+#[no_mangle]
+pub extern "C" fn kuldveth_list_children(bytes: &[u8], symbol: u8) -> Found
+    ensures { λ r. ⌜ r ≡ childrenSeen (now (bytes .entry)) symbol ⌝ }
+{
+    list_view::children_seen(bytes, symbol)
+}
+
+// Whether a state of a list is final (§6.3).
+#[no_mangle]
+pub extern "C" fn kuldveth_list_final(bytes: &[u8], state: u8) -> Found
+    ensures { λ r. ⌜ r ≡ finalSeen (now (bytes .entry)) state ⌝ }
+{
+    list_view::final_seen(bytes, state)
+}
+
+// A rule of a list by its number (§6.3).
+#[no_mangle]
+pub extern "C" fn kuldveth_list_rule(bytes: &[u8], k: u16) -> ListRule
+    ensures { λ r. ⌜ r ≡ ruleSeen (now (bytes .entry)) k ⌝ }
+{
+    list_view::rule_seen(bytes, k)
+}
+
+// The target of the rule of a list with a left side (§6.3).
+#[no_mangle]
+pub extern "C" fn kuldveth_list_target(bytes: &[u8], symbol: u8, states: &[u8]) -> Found
+    ensures { λ r. ⌜ r ≡ targetSeen (now (bytes .entry)) symbol (now (states .entry)) ⌝ }
+{
+    list_view::target_seen(bytes, symbol, states)
 }

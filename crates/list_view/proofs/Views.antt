@@ -9,19 +9,21 @@ use native.Mathlib.Omega.{arith}
 use lib.Dec.{leb, eqb}
 use lib.ListN.{length, getD, take}
 use lib.Seq.{drop-nil}
-use borrow.Author.Tests.{leb-true, eqb-true, eqb-false}
+use borrow.Author.Tests.{eqb-true, eqb-false}
 use Rattle.model.specs.Limits.{mostSymbols, mostChildren, mostRules}
 use Rattle.model.specs.Base.{isIn, all}
 use Rattle.model.specs.Automata.{Rule, Automaton, isFinal, targetIn}
 use Rattle.model.specs.Sound.{alphabetFits}
 use Rattle.model.specs.Listing.{valueOf, bodyAt, behind, isBlock, ruleIn, Read, broken, loaded, rulesFrom, finalsFit, readFinals, readList}
 use Rattle.model.specs.Entry.{loadedBy, loadSeen}
+use Rattle.model.specs.View.{noRule}
 use Rattle.model.proofs.Laws.Tests.{both-true}
+use Rattle.model.proofs.Laws.ReflectRows.{counts-at}
 use Rattle.model.proofs.Laws.ListRead.{list-limits}
 use Rattle.model.proofs.Laws.RulesRead.{nextFits, rules-end, rules-next, rules-stop}
 use Rattle.list.specs.Blocks.{rulesIn, after}
 use Rattle.list.specs.Flat.{flatWidth}
-use Rattle.list_view.specs.Shown.{asTarget, shownBy, shownBytes, automatonBy, automatonIn, noRule, Shows}
+use Rattle.list_view.specs.Shown.{asTarget, shownBy, shownBytes, automatonBy, automatonIn, Shows}
 use Rattle.list.proofs.Walk.{length-rules-in}
 
 -- WHAT THE READER READ: the rules behind those before it are those of the blocks, and nothing is left
@@ -65,13 +67,13 @@ added (suc n) ns fs rs bs a e = go (eqb (length bs) 0) refl (nextFits ns fs rs b
           ends = m .ends;
         }
 
-record List-read (bs : List ℕ) (a : Automaton) : Type 0 where
-  counts : bodyAt bs ≡ a .counts
-  finals : bodyAt (behind bs) ≡ a .finals
-  rules : rulesIn (length (a .rules)) (behind (behind bs)) ≡ a .rules
-  ends : after (length (a .rules)) (behind (behind bs)) ≡ []
+pub record List-read (bs : List ℕ) (a : Automaton) : Type 0 where
+  pub counts : bodyAt bs ≡ a .counts
+  pub finals : bodyAt (behind bs) ≡ a .finals
+  pub rules : rulesIn (length (a .rules)) (behind (behind bs)) ≡ a .rules
+  pub ends : after (length (a .rules)) (behind (behind bs)) ≡ []
 
-list-read : (bs : List ℕ) (a : Automaton) → readList bs ≡ loaded a → List-read bs a
+pub list-read : (bs : List ℕ) (a : Automaton) → readList bs ≡ loaded a → List-read bs a
 list-read bs a e =
     let us : List ℕ = behind bs in
     let g = given (isBlock 1 bs && alphabetFits (bodyAt bs)) (readFinals (bodyAt bs) us) a e in
@@ -96,7 +98,7 @@ no-rule : ruleIn (bodyAt []) ≡ noRule
 unfolding valueOf
 no-rule = refl
 
-rule-at : (n : ℕ) (bs : List ℕ) → after n bs ≡ [] → (k : ℕ) → ruleIn (bodyAt (after k bs)) ≡ getD (rulesIn n bs) k noRule
+pub rule-at : (n : ℕ) (bs : List ℕ) → after n bs ≡ [] → (k : ℕ) → ruleIn (bodyAt (after k bs)) ≡ getD (rulesIn n bs) k noRule
 unfolding rulesIn after
 rule-at zero bs e k = ap (λ (us : List ℕ). ruleIn (bodyAt (after k us))) e ∙ ap (λ (us : List ℕ). ruleIn (bodyAt us)) (after-nil k) ∙ no-rule
 rule-at (suc n) bs e zero = refl
@@ -110,19 +112,13 @@ record Seen (bs : List ℕ) (r : Read) : Type 0 where
   ends : after (loadedBy r .size) (behind (behind (shownBy bs r))) ≡ []
   few : (s : ℕ) → getD (automatonBy r .counts) s 0 ≤ mostChildren
 
-few-children : (ns : List ℕ) → all (λ (k : ℕ). leb k mostChildren) ns ≡ true → (s : ℕ) → getD ns s 0 ≤ mostChildren
-unfolding all
-few-children [] c s = omega arith
-few-children (n ∷ ns) c zero = leb-true n mostChildren (both-true (leb n mostChildren) (all (λ (k : ℕ). leb k mostChildren) ns) c .0)
-few-children (n ∷ ns) c (suc s) = few-children ns (both-true (leb n mostChildren) (all (λ (k : ℕ). leb k mostChildren) ns) c .1) s
-
 seen : (bs : List ℕ) (r : Read) → readList bs ≡ r → Seen bs r
 unfolding rulesIn after valueOf
 seen bs broken e = record { counts = refl; finals = refl; rules = refl; ends = refl; few = λ s. omega arith }
 seen bs (loaded a) e =
     let l = list-read bs a e in
     let c = both-true (isIn 1 mostSymbols (length (a .counts))) (all (λ (k : ℕ). leb k mostChildren) (a .counts)) (list-limits bs a e .0) in
-    record { counts = l .counts; finals = l .finals; rules = l .rules; ends = l .ends; few = few-children (a .counts) (c .1) }
+    record { counts = l .counts; finals = l .finals; rules = l .rules; ends = l .ends; few = counts-at (a .counts) (c .1) }
 
 pub view-shows : (bs : List ℕ) → Shows bs
 view-shows bs =

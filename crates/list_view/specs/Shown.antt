@@ -1,13 +1,17 @@
 -- What the view shows (§6.3): lookups of any bytes, block by block; of bytes that are no list it shows none.
 use mathlib.Core.Path.{_≡_}
-use mathlib.Core.List.{List, [], _∷_}
-use mathlib.Core.Option.{Option, none, some}
+use mathlib.Core.Bool.{cond}
+use mathlib.Core.List.{List, []}
+use mathlib.Core.Option.{Option, some}
 use Prim.Native.Nat.{ℕ}
+use lib.Dec.{eqb}
 use lib.ListN.{length, getD, take}
 use Rattle.model.specs.Automata.{Rule, Automaton, isFinal, targetIn}
 use Rattle.model.specs.Listing.{bodyAt, behind, ruleIn, Read, broken, loaded, readList}
 use Rattle.model.specs.Entry.{loadSeen}
+use Rattle.model.specs.View.{targetFound, fourPlaces, noRule}
 use Rattle.model.specs.declared.State.{State}
+use Rattle.model.specs.declared.Found.{Found}
 use Rattle.list_view.specs.declared.Sizes.{Sizes}
 use Rattle.list_view.specs.declared.ShownRule.{ShownRule}
 use Rattle.list_view.specs.declared.Target.{Target}
@@ -29,13 +33,15 @@ abbrev pub ruleShown : Rule → ShownRule
 ruleShown r =
     record {
       symbol = r .symbol;
-      states = getD (r .states) 0 0 ∷ getD (r .states) 1 0 ∷ getD (r .states) 2 0 ∷ getD (r .states) 3 0 ∷ [];
+      states = fourPlaces (r .states);
       target = state (r .target);
     }
 
+abbrev pub targetOf : Found → Target
+targetOf f = cond (eqb (f .found) 1) (To (state (f .value))) Missing
+
 abbrev pub asTarget : Option ℕ → Target
-asTarget none = Missing
-asTarget (some q) = To (state q)
+asTarget o = targetOf (targetFound o)
 
 abbrev pub targetAt : (bytes : List ℕ) → (rules symbol : ℕ) → (states : List ℕ) → Target
 targetAt bs n a qs = asTarget (targetIn a (take (flatWidth (bodyAt bs) a) qs) (rulesIn n (behind (behind bs))))
@@ -56,9 +62,6 @@ abbrev pub automatonIn : (bytes : List ℕ) → Automaton
 automatonIn bs = automatonBy (readList bs)
 
 -- WHAT A HOST SEES through a view of any bytes: the automaton that they are, field by field; past the last rule one with zeros
-abbrev pub noRule : Rule
-noRule = record { symbol = 0; states = []; target = 0 }
-
 pub record Shows (bytes : List ℕ) : Type 0 where
   pub sizes : sizesIn (shownBytes bytes) (loadSeen bytes .size) ≡
       record { letters = length (automatonIn bytes .counts); states = length (automatonIn bytes .finals); rules = length (automatonIn bytes .rules) }

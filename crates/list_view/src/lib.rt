@@ -2,6 +2,7 @@
 // Each function is equal to a definition of model.
 mod held;
 mod lookup;
+mod seen;
 
 pub use held::child_count;
 pub use held::is_final;
@@ -17,6 +18,11 @@ pub use lookup::shown_bytes;
 pub use lookup::sizes_in;
 pub use lookup::target_in;
 use model::State;
+pub use seen::children_seen;
+pub use seen::final_seen;
+pub use seen::rule_seen;
+pub use seen::sizes_seen;
+pub use seen::target_seen;
 
 // How many symbols, states and rules a list has.
 pub struct Sizes {

@@ -6,8 +6,9 @@ ghost use Rattle.model.specs.Base.{same};
 ghost use Rattle.model.specs.Automata.{hasLeftSide, isFinal, targetIn};
 ghost use Rattle.model.specs.Listing.{bodyAt, behind, ruleIn};
 ghost use Rattle.model.specs.Entry.{loadSeen};
+ghost use Rattle.model.specs.View.{targetFound};
 ghost use Rattle.list.specs.Blocks.{rulesIn, after};
-ghost use Rattle.list_view.specs.Shown.{sizesIn, ruleAt, ruleShown, asTarget, targetAt, shownBytes};
+ghost use Rattle.list_view.specs.Shown.{sizesIn, ruleAt, ruleShown, targetOf, targetAt, shownBytes};
 use crate::ShownRule;
 use crate::Sizes;
 use crate::Target;
@@ -17,6 +18,7 @@ use list::load;
 use list::rest;
 use list::states_in;
 use list::width;
+use model::Found;
 use model::State;
 
 // A byte at a place, 0 past the end.
@@ -125,19 +127,37 @@ fn left_is(body: &[u8], symbol: usize, states: &[u8]) -> bool
 }
 
 // The target of the first rule with a left side, among the first rules in the bytes.
-fn find_target(bytes: &[u8], rules: u16, symbol: usize, states: &[u8]) -> Target
-    ensures { λ r. ⌜ r ≡ asTarget (targetIn symbol (now (states .entry)) (rulesIn rules (now (bytes .entry)))) ⌝ }
+pub(crate) fn find_target(bytes: &[u8], rules: u16, symbol: usize, states: &[u8]) -> Found
+    ensures { λ r. ⌜ r ≡ targetFound (targetIn symbol (now (states .entry)) (rulesIn rules (now (bytes .entry)))) ⌝ }
 {
     let mut at = bytes;
     let mut left = rules;
     while 0 < left {
         let found = body(at);
         if left_is(found, symbol, states) {
-            return Target::To(State(target_byte(found) as u16));
+            return Found {
+                number: 0,
+                found: 1,
+                value: target_byte(found),
+            };
         }
         let next = rest(at);
         at = next;
         left -= 1;
+    }
+    Found {
+        number: 0,
+        found: 0,
+        value: 0,
+    }
+}
+
+// What is found, as a target.
+fn as_target(seen: Found) -> Target
+    ensures { λ r. ⌜ r ≡ targetOf seen ⌝ }
+{
+    if seen.found == 1 {
+        return Target::To(State(seen.value as u16));
     }
     Target::Missing
 }
@@ -148,7 +168,7 @@ pub fn target_in(bytes: &[u8], rules: u16, symbol: u8, states: [u8; 4]) -> Targe
 {
     let a = symbol as usize;
     let n = width(body(bytes), a);
-    find_target(rest(rest(bytes)), rules, a, &states[..n])
+    as_target(find_target(rest(rest(bytes)), rules, a, &states[..n]))
 }
 
 // The bytes that a view shows: those that load, and none of any others.

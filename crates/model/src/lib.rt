@@ -49,3 +49,31 @@ pub struct Emitted {
     pub number: u32,
     pub size: u32,
 }
+
+// How many symbols, states and rules a list has (§6.3).
+#[repr(C)]
+pub struct ListSizes {
+    pub number: u16,
+    pub symbols: u16,
+    pub states: u16,
+    pub rules: u16,
+}
+
+// One value of a list (§6.3): `found` is 1 where it is there, 0 where it is not.
+#[repr(C)]
+pub struct Found {
+    pub number: u16,
+    pub found: u8,
+    pub value: u8,
+}
+
+// A rule of a list (§6.3): the first `children` of `states` are its child states, and the others are 0.
+#[repr(C)]
+pub struct ListRule {
+    pub number: u8,
+    pub found: u8,
+    pub symbol: u8,
+    pub children: u8,
+    pub states: [u8; 4],
+    pub target: u8,
+}

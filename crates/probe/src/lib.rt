@@ -1,5 +1,8 @@
 // products: the functions of the bank as calls that require nothing, for tests alone.
-// The second program in harness/ runs them on whatever it lends.
+// The second program in harness/ runs them on whatever it lends. No host links them: libprobe.a is a library of its own, and
+// `./test` checks that libkuldveth.a exports none of them. The contracts leave some of what is lent open: those of `probe_fill` and
+// `probe_store` the rows past the used ones where rows run out, that of `probe_pass` the marks past the used rows, and all marks
+// where T1 does not hold or there is not room for them.
 ghost use mathlib.Core.Path.{_≡_};
 ghost use mathlib.Core.Bool.{true};
 ghost use mathlib.Core.List.{[], _∷_};

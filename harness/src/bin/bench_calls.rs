@@ -1,7 +1,9 @@
-//! Times of whole learning runs, of single calls on full tables, and of emitting and loading, library and oracle in turn.
+//! Times of whole learning runs, of single calls on full tables, of emitting, loading and the calls about a list, library and
+//! oracle in turn.
 //! docs/BENCHMARKS.md says what the lines mean.
 
 use harness::calls::{call, oracle_call};
+use harness::cases::lists::longest_list;
 use harness::crowded::Crowded;
 use harness::kuldveth;
 use harness::learning::{learning, runs};
@@ -9,7 +11,8 @@ use harness::teaching::started;
 use oracle::limits::ROWS_MAX;
 use oracle::testing::big;
 use oracle::testing::compare::{Call, Tables};
-use oracle::{Emitted, Lists, Seen};
+use oracle::{Lists, Seen, View};
+use std::fmt::Debug;
 use std::time::{Duration, Instant};
 
 const RUNS: usize = 60;
@@ -147,10 +150,10 @@ fn collided_lines() {
 }
 
 /// One line of calls that return the same by both.
-fn same_line(
+fn same_line<T: PartialEq + Debug>(
     name: &str,
-    mut library: impl FnMut() -> Emitted,
-    mut oracle: impl FnMut() -> Emitted,
+    mut library: impl FnMut() -> T,
+    mut oracle: impl FnMut() -> T,
 ) {
     let mut least = (Duration::MAX, Duration::MAX);
     for _ in 0..RUNS {
@@ -163,20 +166,6 @@ fn same_line(
         least = (least.0.min(middle - begin), least.1.min(end - middle));
     }
     line(name, least.0, least.1);
-}
-
-fn block(kind: u16, body: &[u8]) -> Vec<u8> {
-    let size = (body.len() as u32).to_le_bytes();
-    [&size[..], &kind.to_le_bytes(), body].concat()
-}
-
-/// 64 symbols, 32 states and 256 rules of four children with distinct left sides.
-fn longest_list() -> Vec<u8> {
-    let mut bytes = [block(1, &[4; 64]), block(2, &[1; 32])].concat();
-    for rule in 0..=255u8 {
-        bytes.extend(block(3, &[0, 0, 0, rule / 32, rule % 32, 0]));
-    }
-    bytes
 }
 
 fn list_lines() {
@@ -200,6 +189,16 @@ fn list_lines() {
     load_line("loading 256 rules of four children", &longest, 0);
     let cut = &longest[..longest.len() - 1];
     load_line("loading the same cut in its last rule, 21", cut, 21);
+    same_line(
+        "its last rule",
+        || kuldveth::list_rule(&longest, 255),
+        || View::of(&longest).rule(255),
+    );
+    same_line(
+        "the target of its last rule",
+        || kuldveth::list_target(&longest, 0, &[0, 0, 7, 31]),
+        || View::of(&longest).target(0, &[0, 0, 7, 31]),
+    );
 }
 
 fn main() {

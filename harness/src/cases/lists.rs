@@ -9,6 +9,21 @@ pub fn proposed(random: &mut Random) -> Option<Vec<u8>> {
     Some(list(&Taught::random(random).proposing(random, 40)?))
 }
 
+/// A block of a list (docs/SPECIFICATION.md, 6.1).
+pub fn block(kind: u16, body: &[u8]) -> Vec<u8> {
+    let size = (body.len() as u32).to_le_bytes();
+    [&size[..], &kind.to_le_bytes(), body].concat()
+}
+
+/// 64 symbols, 32 states and 256 rules of four children with distinct left sides.
+pub fn longest_list() -> Vec<u8> {
+    let mut bytes = [block(1, &[4; 64]), block(2, &[1; 32])].concat();
+    for rule in 0..=255u8 {
+        bytes.extend(block(3, &[0, 0, 0, rule / 32, rule % 32, 0]));
+    }
+    bytes
+}
+
 /// Every byte set to every value; every byte taken out, doubled, and cut after.
 pub fn every_byte(good: &[u8], met: &mut Met) {
     assert_eq!(met.load(good).number, 0);

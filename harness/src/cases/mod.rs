@@ -12,6 +12,7 @@ pub mod lists;
 pub mod refusals;
 pub mod rubbish;
 pub mod shortages;
+pub mod view;
 
 use compare::Met;
 use oracle::testing::random::Random;
@@ -21,7 +22,7 @@ use std::thread;
 type Kind = fn(&mut Random, &mut Met);
 
 /// The kinds of random cases, one after the other by case number.
-const KINDS: [(&str, Kind); 16] = [
+const KINDS: [(&str, Kind); 17] = [
     ("truthful teacher", fresh::truthful_teacher),
     ("contradictory teacher", fresh::contradictory_teacher),
     ("random teacher", fresh::random_teacher),
@@ -55,6 +56,7 @@ const KINDS: [(&str, Kind); 16] = [
     }),
     ("lists damaged", lists::random_list),
     ("rows of one bucket", colliding::random_rows),
+    ("lists viewed", view::random_lists),
 ];
 
 /// What sort of case a number stands for.

@@ -1,4 +1,4 @@
-//! The calls that change what is lent, against the oracle, one subject a module. Seeds and counts are fixed.
+//! The calls of a host against the oracle, one subject a module. Seeds and counts are fixed.
 
 mod bytes;
 mod colliding;
@@ -10,4 +10,5 @@ mod emitted;
 mod fresh;
 mod shortages;
 mod sizes;
+mod view;
 mod worked;

@@ -74,7 +74,8 @@ fn bytes_of(kind: &str) -> usize {
 #[test]
 fn fields_are_those_of_the_model() {
     let lent = include_str!("../../../oracle/src/lent.rs");
-    for name in ["Lists", "Seen", "Emitted"] {
+    let names = ["Lists", "Seen", "Emitted", "ListSizes", "Found", "ListRule"];
+    for name in names {
         let oracle: Vec<String> = fields(lent, name).into_iter().map(in_the_model).collect();
         assert_eq!(fields(MODEL, name), oracle);
         assert!(MODEL.contains(&format!("#[repr(C)]\npub struct {name}")));

@@ -1,7 +1,7 @@
 //! Loading: lists of runs, damaged at every byte, cut and extended, and bytes that are no list.
 
 use harness::cases::compare::{load, Met};
-use harness::cases::lists::{every_byte, no_list, proposed, some_bytes};
+use harness::cases::lists::{block, every_byte, no_list, proposed, some_bytes};
 use oracle::testing::random::Random;
 use oracle::{Emitted, Lists};
 
@@ -35,11 +35,6 @@ fn every_byte_damaged() {
     let lists = lists.filter(|bytes| (60..400).contains(&bytes.len()));
     lists.take(6).for_each(|bytes| every_byte(&bytes, &mut met));
     met.listed_at_least(1_000, [0, 21]);
-}
-
-fn block(kind: u16, body: &[u8]) -> Vec<u8> {
-    let size = (body.len() as u32).to_le_bytes();
-    [&size[..], &kind.to_le_bytes(), body].concat()
 }
 
 /// A list of two-child rules with distinct left sides, around every limit.

@@ -2,14 +2,13 @@
 -- The invariant: the rules left give what all of them give. The measure is how many are left.
 use mathlib.Core.Path.{_≡_, refl, sym, ap, _∙_}
 use mathlib.Core.List.{List}
-use mathlib.Core.Option.{some}
 use Prim.Native.Nat.{ℕ, _-_}
 use native.Mathlib.Omega.{arith}
 use borrow.Author.Needs.{needs}
 use Rattle.model.specs.Automata.{hasLeftSide, targetIn}
 use Rattle.model.specs.Listing.{bodyAt, ruleIn}
+use Rattle.model.specs.View.{present, targetFound}
 use Rattle.list.specs.Blocks.{rulesIn}
-use Rattle.list_view.specs.Shown.{asTarget}
 use Rattle.list_view.proofs.Looks.{target-found, target-passed, target-none}
 use Rattle.list_view.proofs.lookup.find_target.Statement.{statement}
 use Rattle.list_view.proofs.lookup.find_target.Tie as tie
@@ -45,15 +44,12 @@ left-is-requires c κs = search needs
 target-byte-requires : tie.Need-target-byte-requires Inv-loop μ-loop
 target-byte-requires c κs = search needs
 
-cast-t12 : tie.Need-cast-t12 Inv-loop μ-loop
-cast-t12 c = search needs
-
 returns : tie.Need-returns Inv-loop μ-loop
 returns c =
     let m : Met = c .before .before in
     let l = here m .loop in
-    ap (λ (q : ℕ). asTarget (some q)) (c .target-byte .ensures ∙ ap (λ (us : List ℕ). ruleIn us .target) (m .before .body .ensures)) ∙
-    ap asTarget (sym (sym (l .inv) ∙ target-found (start m .args .symbol) (start m .args .states .now) (l .left) (l .at .now) (m .before .before .loop-test .taken) (tested m ∙ c .before .if1 .taken)))
+    ap present (c .target-byte .ensures ∙ ap (λ (us : List ℕ). ruleIn us .target) (m .before .body .ensures)) ∙
+    ap targetFound (sym (sym (l .inv) ∙ target-found (start m .args .symbol) (start m .args .states .now) (l .left) (l .at .now) (m .before .before .loop-test .taken) (tested m ∙ c .before .if1 .taken)))
 
 rest-requires : tie.Need-rest-requires Inv-loop μ-loop
 rest-requires c κs = search needs
@@ -75,7 +71,7 @@ returns-2 : tie.Need-returns-2 Inv-loop μ-loop
 returns-2 c =
     let l = c .before .loop in
     let a = c .before .before .before .before .args in
-    ap asTarget (sym (sym (l .inv) ∙ target-none (a .symbol) (a .states .now) (l .left) (l .at .now) (omega arith)))
+    ap targetFound (sym (sym (l .inv) ∙ target-none (a .symbol) (a .states .now) (l .left) (l .at .now) (omega arith)))
 
 pub find-target-spec : {M : Type 1} → statement M
 find-target-spec =
@@ -87,7 +83,6 @@ find-target-spec =
     body-requires
     left-is-requires
     target-byte-requires
-    cast-t12
     returns
     rest-requires
     sub-left

@@ -11,7 +11,7 @@ use Rattle.model.specs.Automata.{targetIn}
 use Rattle.model.specs.Listing.{bodyAt, behind}
 use Rattle.list.specs.Blocks.{rulesIn}
 use Rattle.list.specs.Flat.{flatWidth}
-use Rattle.list_view.specs.Shown.{asTarget}
+use Rattle.list_view.specs.Shown.{targetOf, asTarget}
 use Rattle.list_view.proofs.lookup.target_in.Statement.{statement}
 use Rattle.list_view.proofs.lookup.target_in.Tie as tie
 
@@ -39,14 +39,18 @@ slice-aggregate-find-target c =
 find-target-requires : tie.Need-find-target-requires
 find-target-requires c κs = search needs
 
+as-target-requires : tie.Need-as-target-requires
+as-target-requires c κs = search needs
+
 returns : tie.Need-returns
 returns c =
-    let w = c .before .before .before .before in
+    let f = c .before in
+    let w = f .before .before .before .before in
     let a = w .before .before .before .args in
-    c .find-target .ensures ∙
-    ap (λ (n : ℕ). asTarget (targetIn (a .symbol) (take n (a .t4)) (rulesIn (a .rules) (c .before .before .rest2 .result .now)))) (w .width .ensures ∙ ap (λ (us : List ℕ). flatWidth us (a .symbol)) (w .before .body .ensures)) ∙
+    c .as-target .ensures ∙ ap targetOf (f .find-target .ensures) ∙
+    ap (λ (n : ℕ). asTarget (targetIn (a .symbol) (take n (a .t4)) (rulesIn (a .rules) (f .before .before .rest2 .result .now)))) (w .width .ensures ∙ ap (λ (us : List ℕ). flatWidth us (a .symbol)) (w .before .body .ensures)) ∙
     ap (λ (us : List ℕ). asTarget (targetIn (a .symbol) (take (flatWidth (bodyAt (a .bytes .now)) (a .symbol)) (a .t4)) (rulesIn (a .rules) us)))
-    (c .before .before .rest2 .ensures ∙ ap behind (c .before .before .before .rest .ensures))
+    (f .before .before .rest2 .ensures ∙ ap behind (f .before .before .before .rest .ensures))
 
 pub target-in-spec : {M : Type 1} → statement M
 target-in-spec =
@@ -59,4 +63,5 @@ target-in-spec =
     array-share-prefix-states
     slice-aggregate-find-target
     find-target-requires
+    as-target-requires
     returns)
