@@ -76,7 +76,9 @@ impl Crowded {
         let end = self.used() + rows;
         let mut left = vec![each; rows.div_ceil(each)];
         for _ in 0..tries(rows).div_ceil(self.base.max(1)) {
-            let Some(mut children) = self.draw() else { return };
+            let Some(mut children) = self.draw() else {
+                return;
+            };
             for last in 0..self.base {
                 if self.used() == end {
                     return;

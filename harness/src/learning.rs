@@ -8,7 +8,7 @@ use oracle::testing::compare::{Call, Tables};
 use oracle::testing::random::Random;
 
 /// More calls than a run can have: each taken one but the last answers a row or adds to S and T.
-const CALLS: usize = 2 * ROWS_MAX;
+pub const CALLS: usize = 2 * ROWS_MAX;
 /// The seeds that are tried.
 const SEEDS: u64 = 2_000;
 

@@ -64,7 +64,10 @@ fn run_apart(seed: u64, cases: Range<u64>) -> Option<usize> {
 
 /// Runs cases from 0 on, so many minutes long; the cases and the calls made.
 fn run_for(seed: u64, minutes: u64) -> Option<(u64, usize)> {
-    let (begin, time) = (Instant::now(), Duration::from_secs(minutes.saturating_mul(60)));
+    let (begin, time) = (
+        Instant::now(),
+        Duration::from_secs(minutes.saturating_mul(60)),
+    );
     let (mut cases, mut calls, mut last) = (0, 0, begin);
     while begin.elapsed() < time {
         calls += run_apart(seed, cases..cases + BATCH)?;

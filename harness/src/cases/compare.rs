@@ -44,7 +44,8 @@ const SHRINKING: Duration = Duration::from_secs(10);
 /// Panics with the smallest input found on which both differ.
 fn report(mut tables: Tables, mut call: Call) -> ! {
     let begin = Instant::now();
-    let differs = |(tables, call): &(Tables, Call)| begin.elapsed() < SHRINKING && differ(tables, call);
+    let differs =
+        |(tables, call): &(Tables, Call)| begin.elapsed() < SHRINKING && differ(tables, call);
     while let Some(found) = smaller(&tables, &call).into_iter().find(differs) {
         (tables, call) = found;
     }

@@ -171,9 +171,8 @@ const SHRINKING: Duration = Duration::from_secs(10);
 /// Takes parts away as long as the learners still differ and there is time.
 fn smallest(mut tables: Tables, mut call: Call) -> (Tables, Call) {
     let begin = Instant::now();
-    let differs = |(tables, call): &(Tables, Call)| {
-        begin.elapsed() < SHRINKING && differ(tables, call)
-    };
+    let differs =
+        |(tables, call): &(Tables, Call)| begin.elapsed() < SHRINKING && differ(tables, call);
     while let Some(found) = smaller_inputs(&tables, &call).into_iter().find(differs) {
         (tables, call) = found;
     }

@@ -5,6 +5,7 @@ use oracle::testing::big;
 use oracle::testing::compare::{fast, Call, Tables};
 use oracle::testing::damage::damage;
 use oracle::testing::random::Random;
+use oracle::testing::watch::each_case;
 use oracle::Lists;
 
 fn calls() -> [Call; 7] {
@@ -50,13 +51,12 @@ fn random_lists(random: &mut Random) -> Lists {
 
 #[test]
 fn wholly_random_tables() {
-    let mut random = Random::new(41);
-    for _ in 0..5_000 {
+    each_case(41, 0..5_000, |_, random| {
         let size = random.below(60);
         let words = (0..size).map(|_| random.bits() as u32).collect();
-        let lists = random_lists(&mut random);
+        let lists = random_lists(random);
         survive(&Tables { words, lists });
-    }
+    });
 }
 
 #[test]
