@@ -10,7 +10,7 @@ use oracle::testing::random::Random;
 /// More calls than a run can have: each taken one but the last answers a row or adds to S and T.
 pub const CALLS: usize = 2 * ROWS_MAX;
 /// The seeds that are tried.
-const SEEDS: u64 = 2_000;
+const SEEDS: u64 = 200;
 
 /// The calls of a truthful run to its acceptance, over as many rows as the host lends.
 fn to_acceptance(seed: u64, states: usize, rows: usize) -> Option<(Tables, Vec<Call>, Tables)> {

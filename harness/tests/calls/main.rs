@@ -7,6 +7,8 @@ mod designed;
 mod elsewhere;
 mod emitted;
 mod fresh;
+mod generators;
 mod shortages;
 mod sizes;
+mod watch;
 mod worked;
