@@ -149,7 +149,7 @@ fn depths(states: u8) -> Target {
     Target::of(&[2, 0], &finals, &rules)
 }
 
-/// No record of fewer than 2^31 symbols tells these apart, and the least sizes of others have no 64 bits.
+/// No record of fewer than 2^31 symbols tells these apart, and some sizes do not fit in 64 bits.
 #[test]
 fn differences_too_large() {
     let (one, other) = (depths(31), depths(32));

@@ -1,4 +1,4 @@
-//! A case that takes too long ends `differ` with its name, and the name is enough to run it again.
+//! A case that takes too long ends its program with its name, and the name is enough to run it again.
 
 use std::process::{Command, Output};
 
@@ -32,4 +32,21 @@ fn cases_by_number() {
 #[test]
 fn cases_by_the_minute() {
     named(differ("0", "5", "1"));
+}
+
+/// The same for the cases of a test.
+#[test]
+fn cases_of_a_test() {
+    let tests = std::env::current_exe().expect("the path of this program");
+    let name = "elsewhere::shared_records_in_hand";
+    let mut tests = Command::new(tests);
+    let ended = tests.args(["--exact", name]).env("CASE_SECONDS", "0");
+    let ended = ended.output().expect("the tests start");
+    let told = String::from_utf8(ended.stderr).unwrap();
+    assert_eq!(ended.status.code(), Some(1), "{told}");
+    assert!(
+        told.starts_with("longer than 0 s: seed 222 case "),
+        "{told}"
+    );
+    assert!(told.ends_with(&format!(" cargo test {name}\n")), "{told}");
 }

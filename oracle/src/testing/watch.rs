@@ -1,6 +1,7 @@
 //! A case may take a minute. One that takes longer ends the program, with its name on standard error.
 
 use super::random::Random;
+use std::io::{stderr, Write};
 use std::ops::Range;
 use std::process::exit;
 use std::sync::{Mutex, MutexGuard, Once, PoisonError};
@@ -74,7 +75,8 @@ fn look() {
         let cases = cases();
         let late = |case: &&Running| case.begin.elapsed() > Duration::from_secs(seconds);
         if let Some(case) = cases.running.iter().find(late) {
-            eprintln!("longer than {seconds} s: {}", case.name);
+            // Not `eprintln!`, whose lines a test keeps back.
+            _ = writeln!(stderr(), "longer than {seconds} s: {}", case.name);
             exit(1);
         }
     }
