@@ -3,7 +3,6 @@
 use harness::cases::compare::Met;
 use harness::cases::damage::{after_some_calls, damaged_run, every_field, in_hand, several_fields};
 use oracle::testing::big;
-use oracle::testing::random::Random;
 use oracle::testing::watch::each_case;
 
 /// Tables of each sort: proposing, accepted, asking, asking with a record in hand.
@@ -48,7 +47,7 @@ fn runs() {
 
 #[test]
 fn full_tables() {
-    let (mut met, mut random) = (Met::default(), Random::new(234));
+    let mut met = Met::default();
     let all = [
         big::full(7_700, 7_800),
         big::proposing(40),
@@ -57,10 +56,9 @@ fn full_tables() {
         big::doubling(9_000),
         big::beside(),
     ];
-    for tables in all {
-        for _ in 0..30 {
-            several_fields(tables.clone(), 1, &mut random, &mut met);
-        }
-    }
+    each_case(234, 0..180, |case, random| {
+        let tables = all[case as usize % all.len()].clone();
+        several_fields(tables, 1, random, &mut met);
+    });
     met.at_least(20, [0, 30]);
 }

@@ -81,7 +81,6 @@ fn every_field_at_its_largest() {
 
 #[test]
 fn large_tables_damaged() {
-    let mut random = Random::new(42);
     let tables = [
         big::full(800, 14_000),
         big::proposing(8),
@@ -89,16 +88,16 @@ fn large_tables_damaged() {
         big::doubling(60),
         big::deep_context(700),
     ];
-    for mut tables in tables {
+    let tables = tables.map(|mut tables| {
+        let rows = tables.lists.used as usize + 40;
+        tables.words.truncate(rows * ROW_WORDS);
         tables
-            .words
-            .truncate((tables.lists.used as usize + 40) * ROW_WORDS);
-        for _ in 0..400 {
-            let mut damaged = tables.clone();
-            damage(&mut damaged, &mut random);
-            survive(&damaged);
-        }
-    }
+    });
+    each_case(42, 0..2_000, |case, random| {
+        let mut damaged = tables[case as usize % tables.len()].clone();
+        damage(&mut damaged, random);
+        survive(&damaged);
+    });
 }
 
 /// Rows that differ in few bits and share widely, as a weak hash would confuse.
