@@ -1,7 +1,7 @@
 //! Tables whose rows fall into few buckets under the pass's multipliers (`crates/bank/src/index.rt`,
 //! `bucket`, and `crates/bank_t1/src/lib.rt`, `mix_of`).
 
-use crate::lent::Lent;
+use crate::lent::{Lent, ROWS_MAX};
 use crate::random::Random;
 use std::collections::HashSet;
 
@@ -22,11 +22,18 @@ pub const MIXES: [[u64; 5]; 8] = [
 const PARENT: u32 = 60;
 const LEAVES: u32 = 60;
 
+const BUCKETS: usize = 16_384;
+
+/// How many rows are tried for so many rows of one bucket: ten times as many as it takes on average.
+pub fn tries(rows: usize) -> usize {
+    10 * BUCKETS * rows
+}
+
 /// The bucket among 16,384, as a call has them on a table of more than 2,048 rows.
 pub fn bucket(mix: &[u64; 5], symbol: u32, places: [u32; 4]) -> u64 {
     let products = places.iter().zip(&mix[1..]);
     let sum: u64 = products.map(|(&place, factor)| place as u64 * factor).sum();
-    ((symbol as u64 * mix[0] + sum) % (1 << 31) * 16_384) >> 31
+    ((symbol as u64 * mix[0] + sum) % (1 << 31) * BUCKETS as u64) >> 31
 }
 
 /// A table under construction: leaves, then rows that stand on the rows below `base`.
@@ -38,7 +45,7 @@ pub struct Crowd {
 }
 
 impl Crowd {
-    /// Leaves, and so many rows over them that children can be chosen among.
+    /// Leaves, and rows over them, so that children can be chosen among so many rows.
     pub fn over(seed: u64, base: usize) -> Crowd {
         let mut counts = vec![0; LEAVES as usize];
         counts.push(4);
@@ -51,17 +58,22 @@ impl Crowd {
         for leaf in 0..LEAVES {
             crowd.lent.push(leaf, 0, [0; 4]);
         }
-        while (crowd.lent.used as usize) < base {
-            crowd.push_if(|_| true);
+        for _ in 0..10 * base {
+            if (crowd.lent.used as usize) < base {
+                crowd.push_if(|_| true);
+            }
         }
-        crowd.base = base;
+        crowd.base = crowd.lent.used as usize;
         crowd
     }
 
-    /// Adds so many rows of bucket 0 under the multipliers of one try.
+    /// Adds so many rows of bucket 0 under the multipliers of one try; fewer if the table is full or the tries end first.
     pub fn crowd(&mut self, mix: usize, rows: usize) {
-        let end = self.lent.used as usize + rows;
-        while (self.lent.used as usize) < end {
+        let end = ROWS_MAX.min(self.lent.used as usize + rows);
+        for _ in 0..tries(rows) {
+            if self.lent.used as usize == end {
+                return;
+            }
             self.push_if(|places| bucket(&MIXES[mix], PARENT, places) == 0);
         }
     }

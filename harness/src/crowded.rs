@@ -1,10 +1,13 @@
 //! Full sound tables with rows that share a bucket under bank's multipliers, and the same without.
 
-use crate::colliding::{bucket, MIXES};
+use crate::colliding::{bucket, tries, MIXES};
 use crate::strange::Strange;
 use oracle::limits::ROWS_MAX;
 use oracle::testing::compare::Tables;
 use oracle::testing::random::Random;
+
+/// How many draws are made for a record that is wanted.
+const DRAWS: usize = 20;
 
 /// Sound tables that get records over a new symbol of four children.
 pub struct Crowded {
@@ -15,7 +18,7 @@ pub struct Crowded {
 }
 
 impl Crowded {
-    /// Children are drawn among the records that are there, and 400 more.
+    /// Children are drawn among the records that are there, and up to 400 more.
     pub fn over(mut tables: Tables) -> Crowded {
         let symbol = tables.lists.letters as usize;
         tables.lists.counts[symbol] = 4;
@@ -40,8 +43,11 @@ impl Crowded {
         self.strange.tables.lists.used as usize
     }
 
-    fn draw(&mut self) -> [u16; 4] {
-        [(); 4].map(|_| self.strange.records[self.random.below(self.base)])
+    /// Children, if there are records to draw them from.
+    fn draw(&mut self) -> Option<[u16; 4]> {
+        let base = self.base;
+        let mut record = |_| self.strange.records[self.random.below(base)];
+        (base > 0).then(|| [(); 4].map(&mut record))
     }
 
     fn add(&mut self, children: [u16; 4]) {
@@ -49,21 +55,30 @@ impl Crowded {
         self.strange.record(self.symbol, &children, answer);
     }
 
-    /// Adds so many records without a choice.
+    /// Adds so many records without a choice; fewer if the rows or the draws for them end first. Few children have few
+    /// parents: one child has one.
     pub fn scatter(&mut self, rows: usize) {
+        let rows = rows.min(self.room());
         let end = self.used() + rows;
-        while self.used() < end {
-            let children = self.draw();
+        for _ in 0..DRAWS * rows {
+            if self.used() == end {
+                return;
+            }
+            let Some(children) = self.draw() else { return };
             self.add(children);
         }
     }
 
-    /// Adds so many records of the first buckets under the multipliers of a try, so many in each.
+    /// Adds so many records of the first buckets under the multipliers of a try, so many in each; fewer if the rows or
+    /// the draws end first. With each draw all last children are tried.
     pub fn collide(&mut self, mix: usize, rows: usize, each: usize) {
+        let rows = rows.min(self.room());
         let end = self.used() + rows;
         let mut left = vec![each; rows.div_ceil(each)];
-        loop {
-            let mut children = self.draw();
+        for _ in 0..tries(rows).div_ceil(self.base.max(1)) {
+            let Some(mut children) = self.draw() else {
+                return;
+            };
             for last in 0..self.base {
                 if self.used() == end {
                     return;

@@ -20,15 +20,22 @@ struct Search<'a> {
     other: &'a Target,
     reached: HashMap<Pair, Reached>,
     order: Vec<Pair>,
+    /// The tuples that may still be looked at.
+    left: usize,
 }
 
-/// A smallest record on which two automata over the same alphabet differ.
+/// How many tuples of pairs one search looks at.
+const TUPLES: usize = 2_000_000;
+
+/// A smallest record on which two automata over the same alphabet differ, or the smallest that the search finds before it
+/// ends; none of 2^20 symbols and more. Sizes only get smaller, so that there are not more rounds than pairs.
 pub fn difference(one: &Target, other: &Target) -> Option<Vec<u8>> {
     let mut search = Search {
         one,
         other,
         reached: HashMap::new(),
         order: Vec::new(),
+        left: TUPLES,
     };
     while search.improve() {}
     let differs = |pair: &&Pair| one.is_final(pair.0) != other.is_final(pair.1);
@@ -57,6 +64,8 @@ impl Search<'_> {
             };
             let choices: Vec<Vec<Pair>> = rule.children.iter().map(alike).collect();
             let tuples: usize = choices.iter().map(Vec::len).product();
+            let tuples = tuples.min(self.left);
+            self.left -= tuples;
             for mut tuple in 0..tuples {
                 let mut children = Vec::with_capacity(choices.len());
                 for pairs in &choices {

@@ -26,12 +26,15 @@ fn path() -> PathBuf {
     path
 }
 
+/// A stack of 4 MB, and a minute of computing, after which the program is killed.
+const LIMITED: &str = "ulimit -s 4096 && ulimit -t 60 && exec \"$0\"";
+
 /// Runs the program on an input that arrives in pieces. It reads no further than it needs, so that
 /// the last pieces may find nobody.
 pub fn run_in_pieces(pieces: &[&[u8]]) -> Ran {
     let begin = Instant::now();
     let mut program = Command::new("sh")
-        .args(["-c", "ulimit -s 4096 && exec \"$0\""])
+        .args(["-c", LIMITED])
         .arg(path())
         .stdin(Stdio::piped())
         .stdout(Stdio::piped())

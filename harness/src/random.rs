@@ -1,5 +1,15 @@
 //! A small seeded generator (xorshift), so that every case can be run again.
 
+use oracle::testing::watch;
+use std::ops::Range;
+
+/// Runs the cases of a test with this generator, each watched.
+pub fn each_case(seed: u64, cases: Range<u64>, mut run: impl FnMut(u64, &mut Random)) {
+    watch::each_case(seed, cases, |case, random| {
+        run(case, &mut Random::new(random.bits()));
+    });
+}
+
 pub struct Random(u64);
 
 impl Random {

@@ -107,7 +107,7 @@ impl Strange {
     }
 }
 
-/// The same tables with the used rows in a random order that keeps children first.
+/// The same tables with the used rows in a random order that keeps children first. Each row is ready once.
 pub fn shuffled(tables: &Tables, random: &mut Random) -> Tables {
     let used = tables.lists.used as usize;
     let row = |row: usize| &tables.words[row * ROW_WORDS..][..ROW_WORDS];

@@ -1,6 +1,6 @@
 //! Runs of the oracle under a teacher that is always right, often wrong, or answers at random.
 
-use oracle::limits::ROW_WORDS;
+use oracle::limits::{ROWS_MAX, ROW_WORDS};
 use oracle::testing::compare::Tables;
 use oracle::testing::random::Random;
 use oracle::testing::target::{smallest_difference, Target};
@@ -68,14 +68,18 @@ impl Taught {
         oracle::answer(words, lists, mark).number == 0
     }
 
-    /// Goes on to a proposal; none if the run is refused before.
+    /// Goes on to a proposal; none if the run is refused before. No row is asked twice.
     pub fn proposing(mut self, random: &mut Random, calls: usize) -> Option<Tables> {
         for _ in 0..calls {
             if !self.step(random) {
                 break;
             }
         }
-        while self.tables.lists.asked != 0 && self.answer(random) {}
+        for _ in 0..ROWS_MAX {
+            if self.tables.lists.asked == 0 || !self.answer(random) {
+                break;
+            }
+        }
         self.tables.lists.accepted = 0;
         (self.tables.lists.asked == 0).then_some(self.tables)
     }

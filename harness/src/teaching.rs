@@ -33,7 +33,7 @@ pub fn truth(target: &Target, tables: &Tables, row: u16) -> bool {
     target.is_final(states[row as usize])
 }
 
-/// The symbols of a row without a hole, children before parent, if they are few enough to be offered.
+/// The symbols of a row without a hole, children before parent, if they are few enough to be offered: a turn writes one.
 pub fn written(tables: &Tables, row: u16) -> Option<Vec<u8>> {
     let (mut symbols, mut open) = (Vec::new(), vec![row as usize]);
     while let Some(row) = open.pop() {

@@ -51,10 +51,11 @@ pub struct Run {
 }
 
 impl Run {
-    /// Starts a run with room for `rows` rows (1 to `MOST_ROWS`), over symbols with these child counts.
+    /// Starts a run with room for `rows` rows (1 to `MOST_ROWS`), over symbols with these child counts. No more than one
+    /// row beyond `MOST_ROWS` is allocated; the call refuses that with 18.
     pub fn start(rows: usize, counts: &[u8]) -> Result<(Run, Told), Refusal> {
         let mut run = Run {
-            words: vec![0; rows * WORDS_PER_ROW],
+            words: vec![0; rows.min(MOST_ROWS + 1) * WORDS_PER_ROW],
             lists: Lists::zeroed(),
         };
         let seen = unsafe {

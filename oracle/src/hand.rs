@@ -30,7 +30,8 @@ pub enum Search {
 }
 
 impl Run {
-    /// Exchanges until a question opens or the record is put down.
+    /// Exchanges until a question opens or the record is put down. Each exchange leaves one
+    /// occurrence fewer outside S, so no row is in hand twice.
     pub fn search(&mut self) -> Result<Search, Refusal> {
         let exchanges = self.exchanges();
         let answer = self.records.answer(self.lists.hand);

@@ -71,7 +71,7 @@ impl Index {
         (folded.wrapping_mul(0x9E37_79B9_7F4A_7C15) >> self.shift) as usize
     }
 
-    /// The row with this key, or the free slot where it would go.
+    /// The row with this key, or the free slot where it would go. Half of the slots are free.
     #[inline]
     fn seek(&self, key: Key, keys: &[Key]) -> Result<Row, usize> {
         let mask = self.slots.len() - 1;

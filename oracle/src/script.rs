@@ -159,7 +159,7 @@ impl Session {
 }
 
 /// Reads a record as symbols, children before parent; none unless the whole of it is
-/// written with known letters and as many children as each letter has.
+/// written with known letters and as many children as each letter has. Every turn reads a byte.
 fn read_record(text: &[u8], letters: &[u8], counts: &[u8]) -> Option<Vec<u8>> {
     let mut symbols = Vec::new();
     // Symbols whose brackets are open, with the children still to come.

@@ -162,6 +162,7 @@ fn crowded(last: usize) -> Lent {
     }
     let left = ROWS_MAX - crowd.lent.used as usize;
     crowd.crowd(last, left);
+    assert_eq!(crowd.lent.used as usize, ROWS_MAX);
     crowd.lent
 }
 

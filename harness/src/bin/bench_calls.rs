@@ -78,7 +78,9 @@ fn run_line(states: usize, rows: usize) {
 /// Runs that learn so many states, together, and the largest ratio of one.
 fn runs_line(states: usize, rows: usize) {
     let (mut library, mut oracle, mut most) = (Duration::ZERO, Duration::ZERO, 0f64);
-    for (begin, made, _) in runs(states, rows).take(AUTOMATA) {
+    let found: Vec<_> = runs(states, rows).take(AUTOMATA).collect();
+    assert_eq!(found.len(), AUTOMATA, "too few runs learn {states} states");
+    for (begin, made, _) in found {
         let least = least(repeats(states), &begin, &made);
         most = most.max(least.0.as_secs_f64() / least.1.as_secs_f64());
         library += least.0;

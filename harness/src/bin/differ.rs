@@ -1,8 +1,9 @@
-//! Library against oracle, for hours: `differ SEED MINUTES`. A difference or a crash names its case, which
-//! `differ SEED CASE..END` runs again.
+//! Library against oracle, for hours: `differ SEED MINUTES`. A difference, a crash or a case that takes longer than a
+//! minute ends it with the case's name, and `differ SEED CASE..END` runs cases again.
 
 use harness::cases::compare::Met;
 use harness::cases::{kind, on_a_small_stack, run};
+use oracle::testing::watch::watch;
 use std::ops::Range;
 use std::process::{Command, ExitCode, Stdio};
 use std::time::{Duration, Instant};
@@ -11,16 +12,17 @@ use std::time::{Duration, Instant};
 const BATCH: u64 = 32;
 const BETWEEN_LINES: Duration = Duration::from_secs(30);
 
-/// Names a case that failed, and how to run it again.
-fn name(seed: u64, case: u64, what: &str) {
+/// The name of a case, and how to run it again.
+fn name(seed: u64, case: u64) -> String {
     let (kind, next) = (kind(case), case + 1);
-    println!("{what}: seed {seed} case {case} ({kind}); again: differ {seed} {case}..{next}");
+    format!("seed {seed} case {case} ({kind}); again: differ {seed} {case}..{next}")
 }
 
 /// Runs the cases in this process, each on a stack of 4 MB, up to the first difference; the calls made.
 fn run_all(seed: u64, cases: Range<u64>) -> Option<usize> {
     let mut calls = 0;
     for case in cases {
+        let _watched = watch(name(seed, case));
         let one = move || {
             let mut met = Met::default();
             run(seed, case, &mut met);
@@ -29,7 +31,7 @@ fn run_all(seed: u64, cases: Range<u64>) -> Option<usize> {
         match on_a_small_stack(one) {
             Ok(more) => calls += more,
             Err(_) => {
-                name(seed, case, "difference");
+                println!("difference: {}", name(seed, case));
                 return None;
             }
         }
@@ -53,7 +55,7 @@ fn run_apart(seed: u64, cases: Range<u64>) -> Option<usize> {
             None
         }
         None if end - first == 1 => {
-            name(seed, first, "crash");
+            println!("crash: {}", name(seed, first));
             None
         }
         None => cases.map(|case| run_apart(seed, case..case + 1)).sum(),
@@ -62,7 +64,10 @@ fn run_apart(seed: u64, cases: Range<u64>) -> Option<usize> {
 
 /// Runs cases from 0 on, so many minutes long; the cases and the calls made.
 fn run_for(seed: u64, minutes: u64) -> Option<(u64, usize)> {
-    let (begin, time) = (Instant::now(), Duration::from_secs(60 * minutes));
+    let (begin, time) = (
+        Instant::now(),
+        Duration::from_secs(minutes.saturating_mul(60)),
+    );
     let (mut cases, mut calls, mut last) = (0, 0, begin);
     while begin.elapsed() < time {
         calls += run_apart(seed, cases..cases + BATCH)?;

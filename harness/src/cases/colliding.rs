@@ -54,7 +54,8 @@ fn record(nodes: &[[u8; 4]]) -> Vec<u8> {
     symbols
 }
 
-/// Offers of up to 150 nodes of one bucket each, under the multipliers of a try, answered at random; the tables left.
+/// Offers of up to 150 nodes of one bucket each, under the multipliers of a try, answered at random; the tables left. No
+/// row is asked twice, so there are fewer than 12,000 answers.
 pub fn added(mix: usize, random: &mut Random, met: &mut Met) -> Tables {
     let mut tables = leaves();
     for part in colliding(mix, 600).chunks(150) {

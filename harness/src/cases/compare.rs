@@ -5,6 +5,7 @@ use crate::calls::{guarded, oracle_call};
 use crate::kuldveth;
 use oracle::testing::compare::{Call, Tables};
 use oracle::{Emitted, Seen, ACCEPTED, ASKING};
+use std::time::{Duration, Instant};
 
 /// What the oracle makes of a call on copies of the tables.
 fn expected(tables: &Tables, call: &Call) -> (Seen, Tables) {
@@ -37,12 +38,16 @@ pub fn both(tables: &mut Tables, call: &Call) -> Seen {
     seen
 }
 
+/// How long a smaller input is looked for. A call on a full table takes milliseconds, and there are thousands of rows to
+/// take away.
+const SHRINKING: Duration = Duration::from_secs(10);
+
 /// Panics with the smallest input found on which both differ.
 fn report(mut tables: Tables, mut call: Call) -> ! {
-    while let Some(found) = smaller(&tables, &call)
-        .into_iter()
-        .find(|(tables, call)| differ(tables, call))
-    {
+    let begin = Instant::now();
+    let differs =
+        |(tables, call): &(Tables, Call)| begin.elapsed() < SHRINKING && differ(tables, call);
+    while let Some(found) = smaller(&tables, &call).into_iter().find(differs) {
         (tables, call) = found;
     }
     let found = guarded(&tables, &call);

@@ -8,17 +8,20 @@ use oracle::testing::compare::{Call, Tables};
 use oracle::testing::random::Random;
 use oracle::testing::target::Target;
 
-/// The calls of a run over many rows, and the tables that it leaves.
+/// How many calls of a run are tried, taken or not.
+const CALLS: usize = 400;
+
+/// The first calls of a run over many rows that are taken, at most 200, and the tables that they leave.
 fn calls(target: &Target, mut teacher: impl FnMut(&Tables) -> Call) -> (Vec<Call>, Tables) {
     let mut tables = started(target.counts(), 3_000);
     let (mut made, mut met) = (Vec::new(), Met::default());
-    while tables.lists.accepted == 0 && made.len() < 200 {
+    for _ in 0..CALLS {
+        if tables.lists.accepted == 1 || made.len() == 200 {
+            break;
+        }
         let call = teacher(&tables);
         if met.call(&mut tables, &call).number == 0 {
             made.push(call);
-        }
-        if met.numbers[33] > 200 {
-            break;
         }
     }
     (made, tables)
@@ -51,11 +54,12 @@ fn every_count(target: &Target, made: &[Call], whole: &Tables, met: &mut Met) {
     }
 }
 
-/// The run with one row lent more whenever they run out.
+/// The run with one row lent more whenever they run out, up to the rows that it used.
 fn row_by_row(target: &Target, made: &[Call], whole: &Tables, met: &mut Met) {
     let mut tables = started(target.counts(), 1);
     for call in made {
         while met.call(&mut tables, call).number == 34 {
+            assert!(tables.words.len() < whole.words.len(), "rows run out again");
             others(&tables, met);
             tables.words.extend([9; ROW_WORDS]);
         }

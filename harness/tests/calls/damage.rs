@@ -3,33 +3,35 @@
 use harness::cases::compare::Met;
 use harness::cases::damage::{after_some_calls, damaged_run, every_field, in_hand, several_fields};
 use oracle::testing::big;
-use oracle::testing::random::Random;
+use oracle::testing::watch::each_case;
 
 /// Tables of each sort: proposing, accepted, asking, asking with a record in hand.
 #[test]
 fn fresh_tables() {
     let mut met = Met::default();
     let mut left = [24, 4, 24, 24];
-    let mut cases = (0..).map(|case| after_some_calls(&mut Random::case(231, case)));
-    while left != [0; 4] {
-        let (sort, tables) = cases.next().unwrap();
+    each_case(231, 0..4_000, |_, random| {
+        let (sort, tables) = after_some_calls(random);
         if left[sort] > 0 && tables.lists.rules > 1 && tables.lists.used < 60 {
             left[sort] -= 1;
             every_field(tables, &mut met);
         }
-    }
+    });
+    assert_eq!(left, [0; 4]);
     met.at_least(2_000, [0, 30, 31]);
     met.at_least(200, [32, 33, 34]);
 }
 
 #[test]
 fn tables_with_a_record_in_hand() {
-    let mut met = Met::default();
-    let cases = (0..).filter_map(|case| in_hand(&mut Random::case(232, case)));
-    let cases = cases.filter(|tables| tables.lists.used < 40);
-    for tables in cases.take(60) {
-        every_field(tables, &mut met);
-    }
+    let (mut met, mut left) = (Met::default(), 60);
+    each_case(232, 0..4_000, |_, random| {
+        let found = in_hand(random).filter(|tables| left > 0 && tables.lists.used < 40);
+        if let Some(tables) = found {
+            left -= 1;
+            every_field(tables, &mut met);
+        }
+    });
     assert!(met.moved > 2_000, "{met}");
 }
 
@@ -37,15 +39,15 @@ fn tables_with_a_record_in_hand() {
 #[test]
 fn runs() {
     let mut met = Met::default();
-    for case in 0..12_000 {
-        damaged_run(&mut Random::case(233, case), &mut met);
-    }
+    each_case(233, 0..12_000, |_, random| {
+        damaged_run(random, &mut met);
+    });
     met.at_least(300, [0, 18, 30, 31]);
 }
 
 #[test]
 fn full_tables() {
-    let (mut met, mut random) = (Met::default(), Random::new(234));
+    let mut met = Met::default();
     let all = [
         big::full(7_700, 7_800),
         big::proposing(40),
@@ -54,10 +56,9 @@ fn full_tables() {
         big::doubling(9_000),
         big::beside(),
     ];
-    for tables in all {
-        for _ in 0..30 {
-            several_fields(tables.clone(), 1, &mut random, &mut met);
-        }
-    }
+    each_case(234, 0..180, |case, random| {
+        let tables = all[case as usize % all.len()].clone();
+        several_fields(tables, 1, random, &mut met);
+    });
     met.at_least(20, [0, 30]);
 }

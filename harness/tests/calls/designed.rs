@@ -2,6 +2,7 @@
 
 use harness::cases::compare::Met;
 use harness::difference::difference;
+use harness::learning::CALLS;
 use harness::targets::{one_chain, parity};
 use harness::teaching::{proposal, started, truthful};
 use oracle::limits::{ROWS_MAX, ROW_WORDS};
@@ -11,13 +12,14 @@ use oracle::testing::target::Target;
 /// Learns to acceptance or to the first refusal; the tables, the number and the call that got it.
 fn learn(target: &Target, met: &mut Met) -> (Tables, u8, Call) {
     let mut tables = started(target.counts(), ROWS_MAX);
-    loop {
+    for _ in 0..CALLS {
         let call = truthful(target, &tables);
         let seen = met.call(&mut tables, &call);
         if seen.number != 0 || tables.lists.accepted == 1 {
             return (tables, seen.number, call);
         }
     }
+    panic!("no end after {CALLS} calls");
 }
 
 /// The refused call with every count of rows around those used, and the other mark.
@@ -57,17 +59,15 @@ fn states_run_out_with_one_record() {
     chain.resize(33, 0);
     let offer = Call::Offer(chain, 1);
     let mut tables = started(&[1, 0], ROWS_MAX);
-    let number = loop {
+    let mut numbers = (0..CALLS).map(|_| {
         let call = match tables.lists.asked {
             0 => offer.clone(),
             _ => truthful(&target, &tables),
         };
-        let number = met.call(&mut tables, &call).number;
-        if number != 0 {
-            break number;
-        }
-    };
-    assert_eq!((number, tables.lists.states), (35, 32));
+        met.call(&mut tables, &call).number
+    });
+    let refusal = numbers.find(|&number| number != 0);
+    assert_eq!((refusal, tables.lists.states), (Some(35), 32));
 }
 
 fn wide() -> Vec<u8> {

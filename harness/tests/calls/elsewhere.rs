@@ -2,14 +2,14 @@
 
 use harness::cases::compare::Met;
 use harness::cases::elsewhere;
-use oracle::testing::random::Random;
+use oracle::testing::watch::each_case;
 
 #[test]
 fn changed_trees() {
     let mut met = Met::default();
-    for case in 0..24_000 {
-        elsewhere::changed_trees(&mut Random::case(221, case), &mut met);
-    }
+    each_case(221, 0..24_000, |_, random| {
+        elsewhere::changed_trees(random, &mut met);
+    });
     met.at_least(300, [30, 31, 32, 33, 34]);
     assert!(met.moved > 2_000 && met.overfull > 100, "{met}");
 }
@@ -17,8 +17,8 @@ fn changed_trees() {
 #[test]
 fn shared_records_in_hand() {
     let mut met = Met::default();
-    for case in 0..4_000 {
-        elsewhere::shared_records_in_hand(&mut Random::case(222, case), &mut met);
-    }
+    each_case(222, 0..4_000, |_, random| {
+        elsewhere::shared_records_in_hand(random, &mut met);
+    });
     assert!(met.moved > 2_000, "{met}");
 }

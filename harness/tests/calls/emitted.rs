@@ -3,15 +3,15 @@
 use harness::cases::compare::{Met, LIST_MAX};
 use harness::cases::emitted;
 use oracle::testing::compare::Tables;
-use oracle::testing::random::Random;
+use oracle::testing::watch::each_case;
 use oracle::Lists;
 
 #[test]
 fn every_proposal_of_random_runs() {
     let mut met = Met::default();
-    for case in 0..120 {
-        emitted::random_run(&mut Random::case(401, case), &mut met);
-    }
+    each_case(401, 0..120, |_, random| {
+        emitted::random_run(random, &mut met);
+    });
     met.listed_at_least(1_000, [0, 20, 31]);
 }
 

@@ -2,14 +2,14 @@
 
 use harness::cases::compare::Met;
 use harness::cases::fresh;
-use oracle::testing::random::Random;
+use oracle::testing::watch::each_case;
 
 #[test]
 fn truthful_teachers() {
     let mut met = Met::default();
-    for case in 0..1_200 {
-        fresh::truthful_teacher(&mut Random::case(201, case), &mut met);
-    }
+    each_case(201, 0..1_200, |_, random| {
+        fresh::truthful_teacher(random, &mut met);
+    });
     assert!(met.accepted > 1_000 && met.in_hand > 100, "{met}");
     met.at_least(20, (11..=18).chain(30..=33));
 }
@@ -18,18 +18,17 @@ fn truthful_teachers() {
 #[test]
 fn large_automata() {
     let mut met = Met::default();
-    for case in 0..32 {
-        let random = &mut Random::case(202, case);
+    each_case(202, 0..32, |case, random| {
         fresh::large_automaton(random, case as usize + 1, &mut met);
-    }
+    });
 }
 
 #[test]
 fn contradictory_teachers() {
     let mut met = Met::default();
-    for case in 0..1_200 {
-        fresh::contradictory_teacher(&mut Random::case(203, case), &mut met);
-    }
+    each_case(203, 0..1_200, |_, random| {
+        fresh::contradictory_teacher(random, &mut met);
+    });
     met.at_least(50, (11..=18).chain(30..=34));
     assert!(met.in_hand > 1_000 && met.moved > 500, "{met}");
 }
@@ -37,8 +36,8 @@ fn contradictory_teachers() {
 #[test]
 fn random_teachers() {
     let mut met = Met::default();
-    for case in 0..1_200 {
-        fresh::random_teacher(&mut Random::case(204, case), &mut met);
-    }
+    each_case(204, 0..1_200, |_, random| {
+        fresh::random_teacher(random, &mut met);
+    });
     met.at_least(50, [0, 11, 13, 14, 15, 16, 31, 32, 33]);
 }

@@ -5,7 +5,7 @@ use harness::cases::shortages::{others, random_run, shortages};
 use harness::targets::{one_chain, parity};
 use harness::teaching::{started, truthful};
 use oracle::testing::compare::{Call, Tables};
-use oracle::testing::random::Random;
+use oracle::testing::watch::each_case;
 
 #[test]
 fn designed_runs() {
@@ -19,9 +19,9 @@ fn designed_runs() {
 #[test]
 fn random_runs() {
     let mut met = Met::default();
-    for case in 0..120 {
-        random_run(&mut Random::case(211, case), &mut met);
-    }
+    each_case(211, 0..120, |_, random| {
+        random_run(random, &mut met);
+    });
     met.at_least(5_000, [34]);
 }
 

@@ -5,7 +5,7 @@ use harness::cases::damage::{after_some_calls, in_hand};
 use oracle::limits::ROW_WORDS;
 use oracle::testing::big;
 use oracle::testing::compare::Tables;
-use oracle::testing::random::Random;
+use oracle::testing::watch::each_case;
 
 /// Looks with one field set to each of some values, and puts it back.
 fn each<T: Copy + PartialEq>(
@@ -108,25 +108,27 @@ fn every_field(mut tables: Tables, met: &mut Met) {
 fn fresh_tables() {
     let mut met = Met::default();
     let mut left = [20; 4];
-    let mut cases = (0..).map(|case| after_some_calls(&mut Random::case(71, case)));
-    while left != [0; 4] {
-        let (sort, tables) = cases.next().unwrap();
+    each_case(71, 0..4_000, |_, random| {
+        let (sort, tables) = after_some_calls(random);
         if left[sort] > 0 && tables.lists.rules > 0 && tables.lists.used < 90 {
             left[sort] -= 1;
             every_field(tables, &mut met);
         }
-    }
+    });
+    assert_eq!(left, [0; 4]);
     met.at_least(1_000, 10_000);
 }
 
 #[test]
 fn tables_with_a_record_in_hand() {
-    let mut met = Met::default();
-    let cases = (0..).filter_map(|case| in_hand(&mut Random::case(72, case)));
-    cases
-        .filter(|tables| tables.lists.used < 60)
-        .take(40)
-        .for_each(|tables| every_field(tables, &mut met));
+    let (mut met, mut left) = (Met::default(), 40);
+    each_case(72, 0..4_000, |_, random| {
+        let found = in_hand(random).filter(|tables| left > 0 && tables.lists.used < 60);
+        if let Some(tables) = found {
+            left -= 1;
+            every_field(tables, &mut met);
+        }
+    });
     assert!(met.in_hand > 4_000 && met.unsound > 5_000, "{met:?}");
 }
 

@@ -6,19 +6,18 @@ use harness::strange::{renumbered, shuffled};
 use harness::teacher::Taught;
 use oracle::limits::ROWS_MAX;
 use oracle::testing::big;
-use oracle::testing::random::Random;
 use oracle::testing::target::Target;
+use oracle::testing::watch::each_case;
 
 #[test]
 fn changed_trees() {
     let mut met = Met::default();
-    for case in 0..24_000 {
-        let random = &mut Random::case(81, case);
+    each_case(81, 0..24_000, |_, random| {
         let target = Target::random(random);
         if let Some(loose) = loose(target, random) {
             met.look(&loose.tables(random));
         }
-    }
+    });
     met.at_least(50, 1_000);
 }
 
@@ -26,26 +25,24 @@ fn changed_trees() {
 #[test]
 fn shared_records_in_hand() {
     let mut met = Met::default();
-    for case in 0..6_000 {
-        let random = &mut Random::case(82, case);
+    each_case(82, 0..6_000, |_, random| {
         if let Some(tables) = heaped(random, 420) {
             met.look(&tables);
             met.look(&shuffled(&tables, random));
         }
-    }
+    });
     assert!(met.in_hand > 500 && met.unsound > 200, "{met:?}");
 }
 
 #[test]
 fn full_heaps() {
     let mut met = Met::default();
-    for case in 0..120 {
-        let random = &mut Random::case(83, case);
+    each_case(83, 0..120, |_, random| {
         if let Some(tables) = heaped(random, ROWS_MAX) {
             met.look(&tables);
             met.look(&shuffled(&tables, random));
         }
-    }
+    });
     assert!(met.in_hand > 10, "{met:?}");
 }
 
@@ -71,11 +68,10 @@ fn doubling_records() {
 #[test]
 fn rows_in_a_wrong_order() {
     let mut met = Met::default();
-    for case in 0..8_000 {
-        let random = &mut Random::case(84, case);
+    each_case(84, 0..8_000, |_, random| {
         let calls = random.below(12);
         let Some(tables) = Taught::random(random).proposing(random, calls) else {
-            continue;
+            return;
         };
         let used = tables.lists.used as usize;
         let mut order: Vec<usize> = (0..used).collect();
@@ -84,6 +80,6 @@ fn rows_in_a_wrong_order() {
         if order[0] == 0 {
             met.look(&renumbered(&tables, &order));
         }
-    }
+    });
     assert!(met.proposing > 100 && met.unsound > 100, "{met:?}");
 }

@@ -8,6 +8,7 @@ use oracle::testing::big;
 use oracle::testing::compare::Tables;
 use oracle::testing::damage::damage;
 use oracle::testing::random::Random;
+use oracle::testing::watch::each_case;
 
 fn all() -> [Tables; 12] {
     [
@@ -70,32 +71,30 @@ fn in_another_order() {
 /// One field or several, most of them words of the table.
 #[test]
 fn damaged() {
-    let mut random = Random::new(122);
-    for tables in all() {
-        for _ in 0..40 {
-            let mut damaged = tables.clone();
-            for _ in 0..random.within(1, 2) {
-                damage(&mut damaged, &mut random);
-            }
-            look(&damaged);
+    let all = all();
+    each_case(122, 0..480, |case, random| {
+        let mut damaged = all[case as usize % all.len()].clone();
+        for _ in 0..random.within(1, 2) {
+            damage(&mut damaged, random);
         }
-    }
+        look(&damaged);
+    });
 }
 
 /// Any answer of a full table forgotten or turned round.
 #[test]
 fn answers_changed() {
-    let mut random = Random::new(123);
-    for mut tables in all() {
+    let mut all = all();
+    each_case(123, 0..480, |case, random| {
+        let place = case as usize % all.len();
+        let tables = &mut all[place];
         let used = tables.lists.used as usize;
-        for _ in 0..40 {
-            let word = random.within(1, used - 1) * ROW_WORDS + 1;
-            let old = tables.words[word];
-            tables.words[word] = random.below(3) as u32;
-            look(&tables);
-            tables.words[word] = old;
-        }
-    }
+        let word = random.within(1, used - 1) * ROW_WORDS + 1;
+        let old = tables.words[word];
+        tables.words[word] = random.below(3) as u32;
+        look(tables);
+        tables.words[word] = old;
+    });
 }
 
 /// The last row made a twin of the one before is refused.

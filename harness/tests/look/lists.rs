@@ -2,7 +2,7 @@
 
 use harness::cases::compare::{load, Met};
 use harness::cases::lists::{block, every_byte, no_list, proposed, some_bytes};
-use oracle::testing::random::Random;
+use oracle::testing::watch::each_case;
 use oracle::{Emitted, Lists};
 
 /// The list of the worked run (docs/SPECIFICATION.md, 9).
@@ -29,11 +29,16 @@ fn the_worked_run() {
 
 #[test]
 fn every_byte_damaged() {
-    let mut met = Met::default();
+    let (mut met, mut left) = (Met::default(), 6);
     every_byte(&worked(), &mut met);
-    let lists = (0..).filter_map(|case| proposed(&mut Random::case(111, case)));
-    let lists = lists.filter(|bytes| (60..400).contains(&bytes.len()));
-    lists.take(6).for_each(|bytes| every_byte(&bytes, &mut met));
+    each_case(111, 0..400, |_, random| {
+        let fits = |bytes: &Vec<u8>| left > 0 && (60..400).contains(&bytes.len());
+        if let Some(bytes) = proposed(random).filter(fits) {
+            left -= 1;
+            every_byte(&bytes, &mut met);
+        }
+    });
+    assert_eq!(left, 0);
     met.listed_at_least(1_000, [0, 21]);
 }
 
@@ -59,12 +64,12 @@ fn limits_of_the_form() {
 
 #[test]
 fn random_bytes() {
-    let (mut met, mut random) = (Met::default(), Random::new(112));
+    let mut met = Met::default();
     let good = worked();
-    for _ in 0..200_000 {
-        no_list(&mut random, &mut met);
-        some_bytes(&good, &mut random, &mut met);
-    }
+    each_case(112, 0..200_000, |_, random| {
+        no_list(random, &mut met);
+        some_bytes(&good, random, &mut met);
+    });
     load(&[]);
     load(&vec![0; 1 << 20]);
     load(&[&[255; 4], &good[4..]].concat());

@@ -7,6 +7,7 @@ use oracle::testing::big;
 use oracle::testing::compare::Tables;
 use oracle::testing::random::Random;
 use oracle::testing::target::Target;
+use oracle::testing::watch::each_case;
 
 /// Runs until nothing is left to call or so many calls are made.
 fn follow(mut run: Taught, random: &mut Random, calls: usize, met: &mut Met) {
@@ -22,10 +23,9 @@ fn follow(mut run: Taught, random: &mut Random, calls: usize, met: &mut Met) {
 #[test]
 fn random_targets() {
     let mut met = Met::default();
-    for case in 0..4_000 {
-        let random = &mut Random::case(61, case);
+    each_case(61, 0..4_000, |_, random| {
         follow(Taught::random(random), random, 120, &mut met);
-    }
+    });
     met.at_least(100, 0);
 }
 
@@ -33,11 +33,10 @@ fn random_targets() {
 #[test]
 fn larger_targets() {
     let mut met = Met::default();
-    for case in 0..24 {
-        let random = &mut Random::case(62, case);
+    each_case(62, 0..24, |_, random| {
         let target = Target::sized(random, 12);
         follow(Taught::start(target, 100, 16_384), random, 300, &mut met);
-    }
+    });
 }
 
 /// Whether every row with a hole is a member of C or below one.
@@ -67,14 +66,13 @@ fn none_beside(tables: &Tables) -> bool {
 /// No run leaves the tables that docs/BENCHMARKS.md calls slow for contexts beside C.
 #[test]
 fn no_contexts_beside_c() {
-    for case in 0..1_000 {
-        let random = &mut Random::case(64, case);
+    each_case(64, 0..1_000, |_, random| {
         let mut run = Taught::random(random);
         for _ in 0..60 {
             run.step(random);
             assert!(none_beside(&run.tables), "{:?}", run.tables);
         }
-    }
+    });
     assert!(!none_beside(&big::beside()));
 }
 

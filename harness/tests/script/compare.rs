@@ -2,6 +2,7 @@
 
 use harness::program;
 use std::collections::BTreeMap;
+use std::time::{Duration, Instant};
 
 /// Runs a script by both; what both wrote. Panics with the smallest script found on which they differ.
 pub fn both(input: &[u8]) -> String {
@@ -16,11 +17,14 @@ fn differ(input: &[u8]) -> bool {
     program::run(input).output != oracle::script::run(input)
 }
 
+/// How long a smaller script is looked for.
+const SHRINKING: Duration = Duration::from_secs(10);
+
 /// Takes lines away while the programs differ, then shows the first reply that is not the same.
 fn report(input: &[u8]) -> ! {
     let mut lines: Vec<&[u8]> = input.split_inclusive(|&byte| byte == b'\n').collect();
-    let mut place = 1;
-    while place < lines.len() {
+    let (mut place, begin) = (1, Instant::now());
+    while place < lines.len() && begin.elapsed() < SHRINKING {
         let mut fewer = lines.clone();
         fewer.remove(place);
         match differ(&fewer.concat()) {

@@ -2,12 +2,14 @@
 
 use crate::compare::Met;
 use harness::scripts;
-use oracle::testing::random::Random;
+use oracle::testing::watch::each_case;
 
 #[test]
 fn any_lines() {
     let mut met = Met::default();
-    (0..3_000).for_each(|case| met.script(&scripts::any_lines(&mut Random::case(301, case))));
+    each_case(301, 0..3_000, |_, random| {
+        met.script(&scripts::any_lines(random));
+    });
     met.show("lines of every sort");
     met.at_least(5, &["propose", "ask", "ask row", "accepted", "unread"]);
     met.at_least(
@@ -20,7 +22,7 @@ fn any_lines() {
 #[test]
 fn led_runs() {
     let mut met = Met::default();
-    (0..1_000).for_each(|case| met.script(&scripts::led(&mut Random::case(302, case))));
+    each_case(302, 0..1_000, |_, random| met.script(&scripts::led(random)));
     met.show("runs that a teacher leads");
     met.at_least(100, &["propose", "ask", "accepted", "unread"]);
     met.at_least(100, &["refused 31"]);
@@ -29,7 +31,9 @@ fn led_runs() {
 #[test]
 fn loose_bytes() {
     let mut met = Met::default();
-    (0..2_000).for_each(|case| met.script(&scripts::loose(&mut Random::case(303, case))));
+    each_case(303, 0..2_000, |_, random| {
+        met.script(&scripts::loose(random))
+    });
     met.show("loose bytes");
     met.at_least(50, &["propose", "accepted", "unread", "refused 31"]);
 }

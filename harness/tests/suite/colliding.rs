@@ -3,7 +3,7 @@
 use crate::compare;
 use harness::colliding::{Crowd, MIXES};
 use harness::lent::{Lent, ROW_WORDS};
-use harness::random::Random;
+use harness::random::{each_case, Random};
 
 /// The tables are made for the multipliers of the pass and the buckets of bank.
 #[test]
@@ -69,12 +69,11 @@ fn rows_added_to_a_crowd() {
     crowd.crowd(0, 100);
     let used = crowd.lent.used as usize;
     let lent = crowd.lent.with_rows(used + 20, 1);
-    let mut random = Random::new(45);
-    for _ in 0..100 {
+    each_case(45, 0..100, |_, random| {
         let mut symbols: Vec<u8> = (0..16).map(|_| random.below(60) as u8).collect();
         symbols.insert(16, 60);
         symbols.extend([60, 60, 60, 60]);
         compare::store(&lent, &symbols);
         compare::known(&lent, &symbols);
-    }
+    });
 }

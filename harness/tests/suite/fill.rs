@@ -3,38 +3,36 @@
 use crate::compare;
 use harness::lent::ROWS_MAX;
 use harness::probe::{FULL, REFUSED};
-use harness::random::Random;
+use harness::random::{each_case, Random};
 use harness::sound;
 
 /// Every pair of numbers up to past the used rows, with 0 to 4 rows of room.
 #[test]
 fn every_pair() {
-    let mut random = Random::new(21);
     let mut codes = [0; 3];
-    for _ in 0..400 {
-        let lent = sound::table(&mut random, 14, 4);
+    each_case(21, 0..400, |_, random| {
+        let lent = sound::table(random, 14, 4);
         for context in 0..lent.used + 2 {
             for with in 0..lent.used + 2 {
                 codes[compare::fill(&lent, context, with).code as usize] += 1;
             }
         }
-    }
+    });
     assert!(codes.iter().all(|&count| 500 < count), "{codes:?}");
 }
 
 /// Larger tables, a few pairs each, with more and less room than is needed.
 #[test]
 fn larger_tables() {
-    let mut random = Random::new(22);
-    for _ in 0..600 {
-        let lent = sound::table(&mut random, 300, 40);
+    each_case(22, 0..600, |_, random| {
+        let lent = sound::table(random, 300, 40);
         let last = lent.used as usize;
         for _ in 0..4 {
             let context = random.below(last) as u16;
             let with = random.below(last) as u16;
             compare::fill(&lent, context, with);
         }
-    }
+    });
 }
 
 #[test]
@@ -53,12 +51,11 @@ fn rows_run_out_at_every_place() {
 
 #[test]
 fn tables_that_fail_are_left() {
-    let mut random = Random::new(23);
-    for _ in 0..500 {
-        let mut lent = sound::table(&mut random, 14, 4);
+    each_case(23, 0..500, |_, random| {
+        let mut lent = sound::table(random, 14, 4);
         lent.words[0] = 254;
         assert_eq!(compare::fill(&lent, 0, 0), REFUSED);
-    }
+    });
 }
 
 #[test]

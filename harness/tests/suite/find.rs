@@ -2,14 +2,13 @@
 
 use crate::compare;
 use harness::lent::ROWS_MAX;
-use harness::random::Random;
+use harness::random::{each_case, Random};
 use harness::sound;
 
 #[test]
 fn every_row_and_its_neighbours() {
-    let mut random = Random::new(11);
-    for _ in 0..300 {
-        let lent = sound::table(&mut random, 30, 2);
+    each_case(11, 0..300, |_, random| {
+        let lent = sound::table(random, 30, 2);
         for row in 1..lent.used as usize {
             let (symbol, places) = (lent.symbol(row), lent.places(row));
             assert_eq!(compare::find(&lent, symbol, places) as usize, row);
@@ -30,32 +29,30 @@ fn every_row_and_its_neighbours() {
             compare::find(&lent, symbol ^ 1, places);
             compare::find(&lent, symbol + 256, places);
         }
-    }
+    });
 }
 
 /// Row 0 is no answer, and the largest numbers are looked for as any others.
 #[test]
 fn extreme_numbers() {
-    let mut random = Random::new(12);
-    for _ in 0..300 {
-        let lent = sound::table(&mut random, 20, 2);
+    each_case(12, 0..300, |_, random| {
+        let lent = sound::table(random, 20, 2);
         assert_eq!(compare::find(&lent, 255, [0; 4]), 0);
         assert_eq!(compare::find(&lent, u32::MAX, [u32::MAX; 4]), 0);
-    }
+    });
 }
 
 #[test]
 fn nothing_in_a_table_that_fails() {
-    let mut random = Random::new(13);
-    for _ in 0..300 {
-        let mut lent = sound::table(&mut random, 20, 2);
+    each_case(13, 0..300, |_, random| {
+        let mut lent = sound::table(random, 20, 2);
         lent.words[1] = 1;
         let last = lent.used as usize - 1;
         assert_eq!(
             compare::find(&lent, lent.symbol(last), lent.places(last)),
             0
         );
-    }
+    });
 }
 
 #[test]

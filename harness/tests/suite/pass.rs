@@ -3,28 +3,26 @@
 use crate::compare;
 use harness::lent::{Lent, HOLE_WORDS, ROWS_MAX, ROW_WORDS};
 use harness::probe;
-use harness::random::Random;
+use harness::random::{each_case, Random};
 use harness::sound;
 
 #[test]
 fn sound_tables() {
-    let mut random = Random::new(1);
-    for _ in 0..4_000 {
-        let lent = sound::table(&mut random, 60, 4);
+    each_case(1, 0..4_000, |_, random| {
+        let lent = sound::table(random, 60, 4);
         assert!(compare::pass(&lent), "{lent:?}");
-    }
+    });
 }
 
 #[test]
 fn marks_without_room() {
-    let mut random = Random::new(2);
-    for _ in 0..500 {
-        let lent = sound::table(&mut random, 30, 4);
+    each_case(2, 0..500, |_, random| {
+        let lent = sound::table(random, 30, 4);
         let room = random.below(lent.used as usize + 1);
         let mut marks = vec![7; room];
         let passed = probe::pass_into(&lent.words, &lent.counts, lent.used, &mut marks);
         assert!(passed, "{lent:?}");
-    }
+    });
 }
 
 /// Values near what a field holds, near the limits, and such as differ only above 16 bits.
@@ -48,10 +46,9 @@ fn replacements(lent: &Lent, word: u32, row: u32) -> Vec<u32> {
 
 #[test]
 fn every_field_damaged() {
-    let mut random = Random::new(3);
     let mut still_sound = 0;
-    for _ in 0..150 {
-        let sound = sound::table(&mut random, 14, 2);
+    each_case(3, 0..150, |_, random| {
+        let sound = sound::table(random, 14, 2);
         for at in 0..ROW_WORDS * sound.used as usize {
             let row = (at / ROW_WORDS) as u32;
             for value in replacements(&sound, sound.words[at], row) {
@@ -60,15 +57,14 @@ fn every_field_damaged() {
                 still_sound += usize::from(compare::pass(&damaged));
             }
         }
-    }
+    });
     assert!(10_000 < still_sound, "{still_sound}");
 }
 
 #[test]
 fn alphabet_damaged() {
-    let mut random = Random::new(4);
-    for _ in 0..400 {
-        let sound = sound::table(&mut random, 14, 2);
+    each_case(4, 0..400, |_, random| {
+        let sound = sound::table(random, 14, 2);
         for symbol in 0..sound.counts.len() {
             for count in [0, 1, 2, 3, 4, 5, 6, 127, 128, 255] {
                 let mut damaged = sound.clone();
@@ -81,42 +77,40 @@ fn alphabet_damaged() {
             damaged.counts.resize(letters, 1);
             compare::pass(&damaged);
         }
-    }
+    });
 }
 
 #[test]
 fn used_damaged() {
-    let mut random = Random::new(5);
-    for _ in 0..400 {
-        let sound = sound::table(&mut random, 14, 3);
+    each_case(5, 0..400, |_, random| {
+        let sound = sound::table(random, 14, 3);
         for used in (0..20).chain([255, 256, 16_383, 16_384, 16_385, 32_768, 65_535]) {
             let mut damaged = sound.clone();
             damaged.used = used;
             compare::pass(&damaged);
         }
-    }
+    });
 }
 
 /// Words that are mostly small, in whole rows and behind a right row 0 most of the time.
 #[test]
 fn garbage() {
-    let mut random = Random::new(6);
     let mut passed = 0;
-    for _ in 0..60_000 {
+    each_case(6, 0..60_000, |_, random| {
         let rows = random.below(7);
         let size = rows * ROW_WORDS + random.pick(&[0, 0, 0, 1, 5]);
-        let mut words: Vec<u32> = (0..size).map(|_| small(&mut random)).collect();
+        let mut words: Vec<u32> = (0..size).map(|_| small(random)).collect();
         if random.percent(75) {
             words.splice(..size.min(ROW_WORDS), HOLE_WORDS);
         }
-        let counts = sound::alphabet(&mut random);
+        let counts = sound::alphabet(random);
         let used = random.below(8) as u16;
         passed += usize::from(compare::pass(&Lent {
             words,
             counts,
             used,
         }));
-    }
+    });
     assert!(3_000 < passed, "{passed}");
 }
 
@@ -165,9 +159,8 @@ fn extreme_sizes() {
 
 #[test]
 fn full_size() {
-    let mut random = Random::new(7);
-    for _ in 0..4 {
-        let full = sound::large(&mut random, ROWS_MAX);
+    each_case(7, 0..4, |_, random| {
+        let full = sound::large(random, ROWS_MAX);
         assert!(compare::pass(&full));
         for used in [16_383, 16_385, 0] {
             let mut damaged = full.clone();
@@ -182,7 +175,7 @@ fn full_size() {
             damaged.words[at] = random.pick(&values);
             compare::pass(&damaged);
         }
-    }
+    });
 }
 
 /// A twin of any earlier row, at the end of a full table.

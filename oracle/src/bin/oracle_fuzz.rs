@@ -1,9 +1,10 @@
-//! Random cases from a seed: `oracle-fuzz SEED CASES`. A failure names its case, which
-//! `oracle-fuzz SEED CASE..` runs again by itself.
+//! Random cases from a seed: `oracle-fuzz SEED CASES`. A failure, or a case that takes longer
+//! than a minute, ends it with the case's name, and `oracle-fuzz SEED CASE..` runs that again.
 
 use oracle::testing::cases::{self, Met};
 use oracle::testing::checked;
 use oracle::testing::random::Random;
+use oracle::testing::watch::watch;
 
 fn run(seed: u64, case: u64, met: &mut Met) {
     let random = &mut Random::case(seed, case);
@@ -22,7 +23,7 @@ fn main() {
     let number = |text: &str| text.parse::<u64>().ok();
     let (seed, cases) = match &arguments[..] {
         [seed, cases] => match (number(seed), cases.strip_suffix("..").map(number)) {
-            (Some(seed), Some(Some(case))) => (seed, case..case + 1),
+            (Some(seed), Some(Some(case))) => (seed, case..case.saturating_add(1)),
             (Some(seed), None) => (seed, 0..number(cases).unwrap_or(0)),
             _ => (0, 0..0),
         },
@@ -35,6 +36,8 @@ fn main() {
     let mut met = Met::default();
     let count = cases.end - cases.start;
     for case in cases {
+        let name = format!("seed {seed} case {case}; again: oracle-fuzz {seed} {case}..");
+        let _watched = watch(name.clone());
         let outcome = std::panic::catch_unwind(|| {
             let mut met = Met::default();
             run(seed, case, &mut met);
@@ -43,7 +46,7 @@ fn main() {
         match outcome {
             Ok(more) => met.add(&more),
             Err(_) => {
-                eprintln!("failed: seed {seed} case {case}");
+                eprintln!("failed: {name}");
                 std::process::exit(1);
             }
         }

@@ -203,7 +203,8 @@ impl<'a> Checked<'a> {
         Target::new(automaton(&out).expect("an emitted list reads again"))
     }
 
-    /// Answers by the target until the run proposes or is refused.
+    /// Answers by the target until the run proposes or is refused. No row is asked twice, as
+    /// `check` sees.
     pub fn answer_all(&mut self, target: &Target, mut seen: Seen) -> Seen {
         while seen.number == 0 && seen.phase == ASKING {
             seen = self.answer(self.truth(target, seen.row));
@@ -236,7 +237,8 @@ impl Drop for Checked<'_> {
     }
 }
 
-/// Learns a target with smallest counterexamples until it is accepted or refused.
+/// Learns a target with smallest counterexamples until it is accepted or refused. Each record
+/// taken adds to S and T, as `check` sees, so they are not more than 288.
 pub fn learn(target: &Target, rows: usize) -> (Checked<'_>, Seen) {
     let mut run = Checked::start(target.counts(), rows, Some(target));
     let mut seen = look(&run.words, &run.lists);
@@ -265,7 +267,7 @@ pub fn learn_random(random: &mut Random, most_states: usize) -> bool {
     again
 }
 
-/// Learns a target; false if rows run out.
+/// Learns a target, with as many turns at most; false if rows run out.
 fn learn_within(target: &Target, large: bool, rows: usize, random: &mut Random) -> bool {
     let mut run = Checked::start(target.counts(), rows, Some(target));
     loop {
@@ -297,8 +299,9 @@ fn learn_within(target: &Target, large: bool, rows: usize, random: &mut Random) 
     true
 }
 
-/// Offers and answers at random: no automaton need agree with them. Returns how often a
-/// question was answered after an answer to it had been refused for want of room.
+/// Offers and answers at random: no automaton need agree with them. Each turn takes a record,
+/// answers a question or is refused, and all three are counted or bounded by S and T. Returns
+/// how often a question was answered after an answer to it had been refused for want of room.
 pub fn contradict(random: &mut Random) -> usize {
     let counts = Target::random(random).counts().to_vec();
     let rows = *random.pick(&[20, 60, 200, 1000]);

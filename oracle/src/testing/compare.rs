@@ -5,6 +5,7 @@ use crate::calls;
 use crate::lent::{Emitted, Lists, Seen};
 use crate::limits::ROW_WORDS;
 use std::fmt;
+use std::time::{Duration, Instant};
 
 /// Lent tables.
 #[derive(Clone, PartialEq, Eq)]
@@ -164,18 +165,18 @@ pub fn agree(tables: &mut Tables, call: &Call) -> Seen {
     outcome.seen
 }
 
-/// Takes parts away as long as the learners still differ.
+/// How long a smaller input is looked for.
+const SHRINKING: Duration = Duration::from_secs(10);
+
+/// Takes parts away as long as the learners still differ and there is time.
 fn smallest(mut tables: Tables, mut call: Call) -> (Tables, Call) {
-    loop {
-        let smaller = smaller_inputs(&tables, &call);
-        match smaller
-            .into_iter()
-            .find(|(tables, call)| differ(tables, call))
-        {
-            Some(found) => (tables, call) = found,
-            None => return (tables, call),
-        }
+    let begin = Instant::now();
+    let differs =
+        |(tables, call): &(Tables, Call)| begin.elapsed() < SHRINKING && differ(tables, call);
+    while let Some(found) = smaller_inputs(&tables, &call).into_iter().find(differs) {
+        (tables, call) = found;
     }
+    (tables, call)
 }
 
 /// Inputs with one part less.

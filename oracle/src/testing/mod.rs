@@ -12,3 +12,4 @@ pub mod random;
 pub mod refusals;
 pub mod target;
 pub mod terms;
+pub mod watch;

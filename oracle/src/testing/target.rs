@@ -156,9 +156,18 @@ struct Product<'a> {
     other: &'a Target,
     width: usize,
     reached: Vec<Option<Reached>>,
+    /// The tuples that may still be looked at.
+    left: usize,
 }
 
-/// A smallest record on which two automata over the same alphabet differ.
+/// How many tuples of pairs one search looks at.
+const TUPLES: usize = 2_000_000;
+/// Larger records are not written out.
+const LARGEST: u64 = 1 << 20;
+
+/// A smallest record on which two automata over the same alphabet differ, or the smallest that
+/// the search finds before it ends. Sizes only get smaller, so that there are not more rounds
+/// than pairs.
 pub fn smallest_difference(one: &Target, other: &Target) -> Option<Vec<u8>> {
     let width = other.automaton.finals.len() + 1;
     let pairs = (one.automaton.finals.len() + 1) * width;
@@ -167,10 +176,12 @@ pub fn smallest_difference(one: &Target, other: &Target) -> Option<Vec<u8>> {
         other,
         width,
         reached: vec![None; pairs],
+        left: TUPLES,
     };
     while product.improve() {}
     let sized = |&pair: &usize| product.reached[pair].as_ref().map(|found| found.size);
-    let differing = (1..pairs).filter(|&pair| product.differs(pair) && sized(&pair).is_some());
+    let small = |&pair: &usize| sized(&pair).is_some_and(|size| size < LARGEST);
+    let differing = (1..pairs).filter(|pair| product.differs(*pair) && small(pair));
     let mut symbols = Vec::new();
     product.write(differing.min_by_key(sized)?, &mut symbols);
     Some(symbols)
@@ -195,7 +206,9 @@ impl Product<'_> {
             .collect();
         let mut improved = false;
         for (symbol, &count) in self.one.counts().iter().enumerate() {
-            for tuple in 0..known.len().pow(count as u32) {
+            let tuples = known.len().pow(count as u32).min(self.left);
+            self.left -= tuples;
+            for tuple in 0..tuples {
                 let child = |place| known[tuple / known.len().pow(place) % known.len()];
                 let children = (0..count as u32).map(child).collect();
                 improved |= self.reach(symbol as u8, children);
@@ -213,7 +226,7 @@ impl Product<'_> {
         let sizes = children
             .iter()
             .filter_map(|&child| self.reached[child].as_ref());
-        let size = 1 + sizes.map(|found| found.size).sum::<u64>();
+        let size = sizes.fold(1, |sum: u64, found| sum.saturating_add(found.size));
         let better = pair != 0 && !matches!(&self.reached[pair], Some(old) if old.size <= size);
         if better {
             self.reached[pair] = Some(Reached {

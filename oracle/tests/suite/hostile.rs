@@ -5,6 +5,7 @@ use oracle::testing::big;
 use oracle::testing::compare::{fast, Call, Tables};
 use oracle::testing::damage::damage;
 use oracle::testing::random::Random;
+use oracle::testing::watch::each_case;
 use oracle::Lists;
 
 fn calls() -> [Call; 7] {
@@ -50,13 +51,12 @@ fn random_lists(random: &mut Random) -> Lists {
 
 #[test]
 fn wholly_random_tables() {
-    let mut random = Random::new(41);
-    for _ in 0..5_000 {
+    each_case(41, 0..5_000, |_, random| {
         let size = random.below(60);
         let words = (0..size).map(|_| random.bits() as u32).collect();
-        let lists = random_lists(&mut random);
+        let lists = random_lists(random);
         survive(&Tables { words, lists });
-    }
+    });
 }
 
 #[test]
@@ -81,7 +81,6 @@ fn every_field_at_its_largest() {
 
 #[test]
 fn large_tables_damaged() {
-    let mut random = Random::new(42);
     let tables = [
         big::full(800, 14_000),
         big::proposing(8),
@@ -89,16 +88,16 @@ fn large_tables_damaged() {
         big::doubling(60),
         big::deep_context(700),
     ];
-    for mut tables in tables {
+    let tables = tables.map(|mut tables| {
+        let rows = tables.lists.used as usize + 40;
+        tables.words.truncate(rows * ROW_WORDS);
         tables
-            .words
-            .truncate((tables.lists.used as usize + 40) * ROW_WORDS);
-        for _ in 0..400 {
-            let mut damaged = tables.clone();
-            damage(&mut damaged, &mut random);
-            survive(&damaged);
-        }
-    }
+    });
+    each_case(42, 0..2_000, |case, random| {
+        let mut damaged = tables[case as usize % tables.len()].clone();
+        damage(&mut damaged, random);
+        survive(&damaged);
+    });
 }
 
 /// Rows that differ in few bits and share widely, as a weak hash would confuse.

@@ -3,8 +3,8 @@
 
 use oracle::testing::checked::{learn, Checked};
 use oracle::testing::compare::{agree, Call, Tables};
-use oracle::testing::random::Random;
 use oracle::testing::target::{smallest_difference, Target};
+use oracle::testing::watch::each_case;
 use oracle::{Automaton, Rule, Seen};
 
 /// The language of the one chain with so many links, which has one state more.
@@ -133,7 +133,7 @@ fn rows_run_out_at_every_place() {
     shortages(&one_chain(5));
     shortages(&parity(&[0, 0, 1, 2], 1));
     shortages(&parity(&[0, 1, 0, 3], 2));
-    for case in 0..60 {
-        shortages(&Target::random(&mut Random::case(51, case)));
-    }
+    each_case(51, 0..60, |_, random| {
+        shortages(&Target::random(random));
+    });
 }

@@ -1,6 +1,6 @@
 //! Reading lists: damaged at every byte, cut, extended, too long, random.
 
-use oracle::testing::random::Random;
+use oracle::testing::watch::each_case;
 use oracle::{automaton, load};
 
 fn block(kind: u16, body: &[u8]) -> Vec<u8> {
@@ -145,19 +145,16 @@ fn limits_of_the_form() {
 
 #[test]
 fn random_bytes() {
-    let mut random = Random::new(31);
-    for _ in 0..100_000 {
+    let good = example();
+    each_case(31, 0..100_000, |_, random| {
         let size = random.below(40);
         let bytes: Vec<u8> = (0..size).map(|_| random.below(5) as u8).collect();
         check(&bytes);
-    }
-    let good = example();
-    for _ in 0..100_000 {
         let mut bytes = good.clone();
         for _ in 0..random.within(1, 3) {
             let place = random.below(bytes.len());
             bytes[place] = random.below(6) as u8;
         }
         check(&bytes);
-    }
+    });
 }

@@ -2,10 +2,11 @@
 
 use oracle::testing::cases::{damaged_case, elsewhere_case, fresh_case, rubbish_case, Met};
 use oracle::testing::random::Random;
+use oracle::testing::watch::each_case;
 
 fn cases(seed: u64, count: u64, case: fn(&mut Random, &mut Met)) -> Met {
     let mut met = Met::default();
-    (0..count).for_each(|number| case(&mut Random::case(seed, number), &mut met));
+    each_case(seed, 0..count, |_, random| case(random, &mut met));
     println!("{met:?}");
     met
 }

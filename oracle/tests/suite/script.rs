@@ -1,7 +1,7 @@
 //! The script program, line by line and at its corners.
 
 use oracle::script::run;
-use oracle::testing::random::Random;
+use oracle::testing::watch::each_case;
 
 fn output(input: &str) -> String {
     run(input.as_bytes())
@@ -105,8 +105,7 @@ fn random_lines() {
         "y", "n", "ok", "+ ", "- ", "o[", "p", "]", ",", "b[", "q", "\n", "\n", "\n", " ", "[",
         "\u{e9}",
     ];
-    let mut random = Random::new(61);
-    for _ in 0..20_000 {
+    each_case(61, 0..20_000, |_, random| {
         let mut input = "o 1 p 0 b 2\n".to_string();
         (0..random.below(30)).for_each(|_| input += *random.pick::<&str>(&words));
         let told = output(&input);
@@ -119,7 +118,7 @@ fn random_lines() {
         for number in [11, 13, 14, 15, 16, 18, 30] {
             assert!(!told.contains(&format!("refused {number}")), "{input:?}");
         }
-    }
+    });
 }
 
 fn chain(links: usize) -> String {

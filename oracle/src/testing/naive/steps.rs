@@ -29,7 +29,7 @@ impl Naive {
         Ok(())
     }
 
-    /// The steps after an offer or an answer.
+    /// The steps after an offer or an answer. Each exchange leaves one occurrence fewer outside S.
     pub fn step(&mut self) -> Result<(), u8> {
         while let Some(hand) = self.hand.clone() {
             let mut occurrences = hand.occurrences().into_iter();
