@@ -68,14 +68,14 @@ closed zero bs i w f h p =
 closed (suc n) bs i w f h p =
     by-test (eqb (getD bs i 0) newline)
     (λ t.
-      let b = eqb-true (getD bs i 0) newline t in
-      let e = whole-here bs i w (omega arith) b in
-      let k : i ≡ i + 1 - 1 = omega arith in
-      ap (λ (v : ℕ). getD bs (v - 1) 0) e ∙
-      closed n bs (i + 1) (i + 1) (omega arith) (λ q. ap (λ (v : ℕ). getD bs v 0) (sym k) ∙ b) (omega (arith, e, p)))
+    let b = eqb-true (getD bs i 0) newline t in
+    let e = whole-here bs i w (omega arith) b in
+    let k : i ≡ i + 1 - 1 = omega arith in
+    ap (λ (v : ℕ). getD bs (v - 1) 0) e ∙
+    closed n bs (i + 1) (i + 1) (omega arith) (λ q. ap (λ (v : ℕ). getD bs v 0) (sym k) ∙ b) (omega (arith, e, p)))
     (λ t.
-      let e = whole-later bs i w (omega arith) (eqb-false (getD bs i 0) newline t) in
-      ap (λ (v : ℕ). getD bs (v - 1) 0) e ∙ closed n bs (i + 1) w (omega arith) h (omega (arith, e, p)))
+    let e = whole-later bs i w (omega arith) (eqb-false (getD bs i 0) newline t) in
+    ap (λ (v : ℕ). getD bs (v - 1) 0) e ∙ closed n bs (i + 1) w (omega arith) h (omega (arith, e, p)))
 
 -- a newline ends each line that begins before it
 length-newline : (bs : List ℕ) (k : ℕ) → k < length bs → getD bs k 0 ≡ newline → lineLength bs ≤ k
@@ -107,10 +107,10 @@ stop-whole bs end {at = at} e r l =
     let h = whole-within 0 0 bs (omega arith) in
     let n = length-take-le end bs (omega (arith, e, h .1)) in
     let q : 0 < end → getD bs (end - 1) 0 ≡ newline =
-        λ (p : 0 < end). ap (λ (v : ℕ). getD bs (v - 1) 0) e ∙ closed (length bs) bs 0 0 (omega arith) (λ (o : 0 < 0). absurd (omega arith)) (omega (arith, e)) in
+    λ (p : 0 < end). ap (λ (v : ℕ). getD bs (v - 1) 0) e ∙ closed (length bs) bs 0 0 (omega arith) (λ (o : 0 < 0). absurd (omega arith)) (omega (arith, e)) in
     let b : 0 < length (take end bs) → getD (take end bs) (length (take end bs) - 1) 0 ≡ newline =
-        λ (p : 0 < length (take end bs)).
-          ap (λ (k : ℕ). getD (take end bs) (k - 1) 0) n ∙ getD-take end bs (end - 1) 0 (omega (arith, n)) ∙ q (omega (arith, n)) in
+    λ (p : 0 < length (take end bs)).
+    ap (λ (k : ℕ). getD (take end bs) (k - 1) 0) n ∙ getD-take end bs (end - 1) 0 (omega (arith, n)) ∙ q (omega (arith, n)) in
     stop (take end bs) b (r .turns) l ∙ n
 
 -- MORE BYTES: the whole lines, from those known before
@@ -128,7 +128,7 @@ pub reached-more : (bs cs : List ℕ) (at end : ℕ) {ws : List ℕ} {z : Script
 reached-more bs cs at end {ws} {z} l k e r =
     let n = length-take-le at bs k in
     let p : take at bs ++ drop at (take end cs) ≡ take end cs =
-        ap (λ (xs : List ℕ). xs ++ drop at (take end cs)) (sym e ∙ sym (take-take at end cs l)) ∙ take-append-drop at (take end cs) in
+    ap (λ (xs : List ℕ). xs ++ drop at (take end cs)) (sym e ∙ sym (take-take at end cs l)) ∙ take-append-drop at (take end cs) in
     let t = turns-kept (take at bs) (drop at (take end cs)) (r .said) ws z at (omega arith) (r .turns) in
     record { said = r .said; turns = subst (λ (xs : List ℕ). Turns xs (r .said) ws z at) p t }
 
@@ -177,12 +177,12 @@ module _ {input input' : List ℕ} {read got at end : ℕ} (r : Round input inpu
       by-test (eqb got 0)
       (λ t. let e = eqb-true got 0 t in (omega (arith, round-all e, at-within), omega (arith, round-all e)))
       (λ t.
-        let e = eqb-false got 0 t in
-        let bs : List ℕ = take (read + got) input' in
-        let m = whole-more bs read at (omega (arith, size-is)) known-now in
-        let w = whole-within read at (drop read bs) at-within in
-        let v = whole-within 0 0 bs (omega arith) in
-        (omega (arith, round-lines e, m, w .0), omega (arith, round-lines e, v .1, size-is)))
+      let e = eqb-false got 0 t in
+      let bs : List ℕ = take (read + got) input' in
+      let m = whole-more bs read at (omega (arith, size-is)) known-now in
+      let w = whole-within read at (drop read bs) at-within in
+      let v = whole-within 0 0 bs (omega arith) in
+      (omega (arith, round-lines e, m, w .0), omega (arith, round-lines e, v .1, size-is)))
 
   -- the turns lead to the same place
   pub round-reached : {ws : List ℕ} {z : Script} → Reached (take at input) ws z at → Reached (take end input') ws z at

@@ -57,9 +57,9 @@ go-on zero bs said ws z at m f t = (ws, all-said m t (omega arith))
 go-on (suc n) bs said ws z at m f t =
     by-test (ltb at (length bs))
     (λ e.
-      let l = ltb-true at (length bs) e in
-      let p = replyAt bs ws z at in
-      go-on n bs (said ++ p .text) (p .words) (p .script) (lineEnd bs at + 1) m (omega arith) (next t l))
+    let l = ltb-true at (length bs) e in
+    let p = replyAt bs ws z at in
+    go-on n bs (said ++ p .text) (p .words) (p .script) (lineEnd bs at + 1) m (omega arith) (next t l))
     (λ e. (ws, all-said m t (ltb-false at (length bs) e)))
 
 pub turns-answer : TurnsAnswer

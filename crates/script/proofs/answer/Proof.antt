@@ -1,3 +1,5 @@
+-- `script::answer` meets its contract: turns lead from the place where it begins to the place where it stops.
+-- The invariant: turns have led to the words, the script and the place; each turn leads on. The measure is what is left of the input.
 use mathlib.Core.Path.{_≡_, refl, sym}
 use mathlib.Core.Bool.{true≢false}
 use Prim.Native.Nat.{_-_, _≤_, _<_}
@@ -17,33 +19,26 @@ Inv-loop words₀ input at out₀ script₀ at₀ words out script at' = Reached
 abbrev μ-loop : tie.MeasureT-loop
 μ-loop words₀ input at out₀ script₀ at₀ words out script at' = length input - at'
 
--- src/main.rt:77:5
 loop-holds : tie.Need-loop-holds Inv-loop μ-loop
 loop-holds c = (c .before .before .before .pre .0, refl, refl)
 
--- src/main.rt:78:13
 turn-requires : tie.Need-turn-requires Inv-loop μ-loop
 turn-requires c κs = search needs
 
--- src/main.rt:82:42
 slice-reshare-prefix-write-all : tie.Need-slice-reshare-prefix-write-all Inv-loop μ-loop
 slice-reshare-prefix-write-all c = turn-within (c .before .before .before .before .before .turn .ensures)
 
--- src/main.rt:82:42
 slice-aggregate-write-all : tie.Need-slice-aggregate-write-all Inv-loop μ-loop
 slice-aggregate-write-all c =
     let r = c .before .before .before .before .before .before .turn in
     sym (length-take-le (r .result .size) (r .last .1 .1 .1 .1 .0) (turn-within (r .ensures)))
 
--- src/main.rt:82:13
 write-all-requires : tie.Need-write-all-requires Inv-loop μ-loop
 write-all-requires c κs = search needs
 
--- src/main.rt:83:13
 same-length : tie.Need-same-length Inv-loop μ-loop
 same-length c = search needs
 
--- src/main.rt:83:13
 same-length-2 : tie.Need-same-length-2 Inv-loop μ-loop
 same-length-2 c = search needs
 
@@ -54,27 +49,21 @@ start c = c .before .before .before .before .before .before .before .before
 on : (c : tie.After-turn Inv-loop μ-loop) → Reached (start c .args .input .now) (c .turn .last .0) (c .turn .result .script) (c .turn .result .next)
 on c = turn-reached (c .before .before .before .before .loop .inv .0) (c .before .before .before .loop-test .taken) (c .turn .ensures)
 
--- src/main.rt:83:13
 returns : tie.Need-returns Inv-loop μ-loop
 returns c = record { reached = on (c .before .before .before .before .before .before .before .before); passed = λ e. absurd (true≢false (sym e)) }
 
--- src/main.rt:77:5
 loop-less : tie.Need-loop-less Inv-loop μ-loop
 loop-less c = let t = c .before .before .before .before .before .before .before .before in omega (arith, t .turn .ensures .next, t .before .before .before .loop-test .taken)
 
--- src/main.rt:77:5
 loop-again : tie.Need-loop-again Inv-loop μ-loop
 loop-again c = (on (c .before .before .before .before .before .before .before .before), search needs, search needs)
 
--- src/main.rt:71:1
 same-length-3 : tie.Need-same-length-3 Inv-loop μ-loop
 same-length-3 c = search needs
 
--- src/main.rt:71:1
 same-length-4 : tie.Need-same-length-4 Inv-loop μ-loop
 same-length-4 c = search needs
 
--- src/main.rt:71:1
 returns-2 : tie.Need-returns-2 Inv-loop μ-loop
 returns-2 c = record { reached = c .before .loop .inv .0; passed = λ e. omega arith }
 

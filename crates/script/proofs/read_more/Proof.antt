@@ -1,54 +1,44 @@
+-- `script::read_more` meets its contract: the bytes read before stay, because only the part behind them is lent.
 use mathlib.Core.Path.{_≡_}
 use Prim.Native.Nat.{_-_}
 use native.Mathlib.Omega.{arith}
-use lib.ListN.{length}
-use borrow.Rule.Slice.PartMut.{putMid, take-put}
 use borrow.Author.Needs.{needs}
+use borrow.Rule.Slice.PartMut.{putMid, take-put}
+use lib.ListN.{length}
 use Rattle.script.proofs.Laws.{part-within}
 use Rattle.script.proofs.read_more.Statement.{statement}
 use Rattle.script.proofs.read_more.Tie as tie
 
--- src/main.rt:103:9
 returns : tie.Need-returns
 returns c = search needs
 
--- src/main.rt:105:40
 sub-read : tie.Need-sub-read
 sub-read c = search needs
 
--- src/main.rt:105:40
 part-read-start : tie.Need-part-read-start
 part-read-start c = search needs
 
--- src/main.rt:105:40
 part-read-end : tie.Need-part-read-end
 part-read-end c = search needs
 
--- src/main.rt:105:9
 read-requires : tie.Need-read-requires
 read-requires c κs = search needs
 
--- src/main.rt:106:20
 sub-count : tie.Need-sub-count
 sub-count c = search needs
 
--- src/main.rt:106:20
 part-count-start : tie.Need-part-count-start
 part-count-start c = search needs
 
--- src/main.rt:106:20
 part-count-end : tie.Need-part-count-end
 part-count-end c = search needs
 
--- src/main.rt:106:5
 count-requires : tie.Need-count-requires
 count-requires c κs = search needs
 
--- src/main.rt:98:1
 same-length : tie.Need-same-length
 same-length c = search needs
 
--- src/main.rt:98:1
 returns-2 : tie.Need-returns-2
 returns-2 c =
     let s = c .before .before .before .before .before .before .before .before .before in

@@ -1,20 +1,19 @@
-use native.Mathlib.Omega.{arith}
-use lib.ListN.{length}
+-- `script::turn` meets its contract: the line ends where the reply's bytes end, and a reply has room.
+-- By the contracts of `line_end` and `reply`, where the room makes `replyTo` the reply to the line.
 use Prim.Native.Nat.{_≤_}
-use Rattle.script.proofs.Laws.{end-within, turn-as}
+use native.Mathlib.Omega.{arith}
 use borrow.Author.Needs.{needs}
+use lib.ListN.{length}
+use Rattle.script.proofs.Laws.{end-within, turn-as}
 use Rattle.script.proofs.turn.Statement.{statement}
 use Rattle.script.proofs.turn.Tie as tie
 
--- src/main.rt:60:9
 line-end-requires : tie.Need-line-end-requires
 line-end-requires c κs = search needs
 
--- src/main.rt:61:52
 sub-reply : tie.Need-sub-reply
 sub-reply c = search needs
 
--- src/main.rt:61:52
 part-reply-start : tie.Need-part-reply-start
 part-reply-start c = search needs
 
@@ -22,27 +21,21 @@ part-reply-start c = search needs
 ended : (c : tie.After-line-end) → c .line-end .result ≤ length (c .before .before .before .before .args .input .now)
 ended c = let s = c .before .before .before .before in omega (arith, end-within (s .args .input .now) (s .args .at) (omega arith), c .line-end .ensures)
 
--- src/main.rt:61:52
 part-reply-end : tie.Need-part-reply-end
 part-reply-end c = ended (c .before)
 
--- src/main.rt:61:9
 reply-requires : tie.Need-reply-requires
 reply-requires c κs = search needs
 
--- src/main.rt:66:15
 add-t12 : tie.Need-add-t12
 add-t12 c = let l = ended (c .before .before .before .before .before .before .before .before .before) in let g = c .before .before .before .before .before .before .before .before .before .before .before .before .before .good in omega arith
 
--- src/main.rt:53:1
 same-length : tie.Need-same-length
 same-length c = search needs
 
--- src/main.rt:53:1
 same-length-2 : tie.Need-same-length-2
 same-length-2 c = search needs
 
--- src/main.rt:53:1
 returns : tie.Need-returns
 returns c =
     let e = c .before .before .before .before .before .before .before .before .before in

@@ -1,3 +1,5 @@
+-- `script::whole` meets its contract: a newline moves the place on, byte after byte.
+-- The invariant: what is left of the input decides, from the place known so far. The measure is what is left of the input.
 use mathlib.Core.Path.{_≡_, refl, sym, ap, _∙_}
 use mathlib.Core.Logic.{⊎-elim}
 use Prim.Native.Nat.{ℕ, _+_, _-_, _≤_, _<_}
@@ -15,31 +17,24 @@ Inv-loop input at from end₀ i₀ end i = (i ≤ length input) × (wholeFrom i 
 abbrev μ-loop : tie.MeasureT-loop
 μ-loop input at from end₀ i₀ end i = length input - i
 
--- src/main.rt:117:9
 returns : tie.Need-returns Inv-loop μ-loop
 returns c = ready-all (c .before .args .input .now) (c .before .args .at) (c .before .args .from) (c .if1 .taken)
 
--- src/main.rt:121:5
 loop-holds : tie.Need-loop-holds Inv-loop μ-loop
 loop-holds c = (c .before .pre, refl)
 
--- src/main.rt:122:12
 shared-slice-read-if2 : tie.Need-shared-slice-read-if2 Inv-loop μ-loop
 shared-slice-read-if2 c = search needs
 
--- src/main.rt:123:19
 add-end : tie.Need-add-end Inv-loop μ-loop
 add-end c = search needs
 
--- src/main.rt:125:9
 add-i : tie.Need-add-i Inv-loop μ-loop
 add-i c = search needs
 
--- src/main.rt:121:5
 loop-less : tie.Need-loop-less Inv-loop μ-loop
 loop-less c = search needs
 
--- src/main.rt:121:5
 loop-again : tie.Need-loop-again Inv-loop μ-loop
 loop-again c =
     let s = c .before .before .before .before .before in
@@ -52,7 +47,6 @@ loop-again c =
           (c .if2 .came),
     )
 
--- src/main.rt:110:1
 returns-2 : tie.Need-returns-2 Inv-loop μ-loop
 returns-2 c =
     let s = c .before .before .before in
