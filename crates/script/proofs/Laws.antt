@@ -1,19 +1,27 @@
 -- Where a line ends, byte by byte: a newline ends it, another byte is passed, and so it ends within the input. A reply ends within its room.
 -- By the clauses of `lineLength` at what is left of the input, and by the length of what a reply leaves.
-use mathlib.Core.Path.{_≡_, ap, _∙_}
+use mathlib.Core.Path.{_≡_, refl, ap, subst, _∙_}
 use mathlib.Core.Bool.{Bool, true, false, cond}
 use mathlib.Core.List.{List, [], _∷_}
-use Prim.Native.Nat.{ℕ, suc, _+_, _≤_, _<_}
+use Prim.Native.Nat.{ℕ, suc, _+_, _-_, _≤_, _<_}
 use native.Mathlib.Omega.{arith}
 use lib.Dec.{eqb}
-use borrow.Author.Tests.{eq-eqb, ne-eqb}
-use lib.ListN.{length, getD, drop, drop-of-length-le, length-append, length-drop}
+use borrow.Author.Tests.{eq-eqb, ne-eqb, le-ltb}
+use lib.ListN.{length, getD, take, drop, drop-of-length-le, length-append, length-take, length-drop}
 use Rattle.model.proofs.Laws.Scans.{drop-next}
-use Rattle.text.specs.Bytes.{newline}
-use Rattle.text.specs.Script.{Reply}
+use Rattle.text.specs.Bytes.{newline, replyRoom}
+use Rattle.text.specs.Script.{Reply, reply, repliedTo, replyTo}
+use Rattle.text.specs.declared.Script.{Script}
 use Rattle.text_reply.specs.declared.Replied.{Replied}
 use Rattle.text_reply.specs.Replies.{ReplyAs}
-use Rattle.script.specs.LineEnd.{lineLength, lineEnd}
+use Rattle.script.specs.declared.Turned.{Turned}
+use Rattle.script.specs.LineEnd.{lineLength, lineEnd, lineAt}
+use Rattle.script.specs.Turns.{TurnAs}
+
+-- a test, decided
+pub by-test : {A : Type 0} (t : Bool) → (t ≡ true → A) → (t ≡ false → A) → A
+by-test true f g = f refl
+by-test false f g = g refl
 
 pub end-none : (bs : List ℕ) (i : ℕ) → length bs ≤ i → lineEnd bs i ≡ i
 unfolding lineLength
@@ -40,6 +48,20 @@ length-within (b ∷ bs) = go (eqb b newline) (length-within bs)
 pub end-within : (bs : List ℕ) (i : ℕ) → i ≤ length bs → lineEnd bs i ≤ length bs
 end-within bs i l = let h = length-within (drop i bs) in let d = length-drop i bs in omega arith
 
--- a reply has room in what it is written over
-pub reply-within : {p : Reply} {r : Replied} {ws out out' : List ℕ} → ReplyAs p r ws out out' → r .size ≤ length out'
-reply-within {p} {out = out} a = let l = length-append (p .text) (drop (length (p .text)) out) in omega (arith, a .size, ap length (a .bytes))
+-- A TURN, from the reply to the bytes up to the line's end
+pub turn-as : {ws' out out' : List ℕ} {r : Replied} (ws : List ℕ) (z : Script) (bs : List ℕ) (at end : ℕ) → end ≡ lineEnd bs at → replyRoom ≤ length out →
+    ReplyAs (replyTo ws z (take (end - at) (drop at bs)) (length out)) r ws' out out' →
+    TurnAs (repliedTo ws z (lineAt bs at)) (lineEnd bs at) record { size = r .size; script = r .script; next = end + 1 } ws' out out'
+turn-as {ws'} {out} {out'} {r} ws z bs at end e l a =
+    let line : List ℕ = take (end - at) (drop at bs) in
+    let b = subst (λ (t : Bool). ReplyAs (cond t (reply [] ws z) (repliedTo ws z line)) r ws' out out') (le-ltb (length out) replyRoom l) a in
+    let d = subst (λ (n : ℕ). ReplyAs (repliedTo ws z (take (n - at) (drop at bs))) r ws' out out') e b in
+    record { size = d .size; script = d .script; next = ap (λ (n : ℕ). n + 1) e; words = d .words; bytes = d .bytes }
+
+-- its reply has room in what it is written over
+pub turn-within : {p : Reply} {end : ℕ} {r : Turned} {ws out out' : List ℕ} → TurnAs p end r ws out out' → r .size ≤ length out'
+turn-within {p} {out = out} a = let l = length-append (p .text) (drop (length (p .text)) out) in omega (arith, a .size, ap length (a .bytes))
+
+-- so many bytes of a part are within the whole
+pub part-within : (n a k : ℕ) (bs : List ℕ) → a ≤ length bs → n ≤ length (take k (drop a bs)) → a + n ≤ length bs
+part-within n a k bs l h = let t = length-take k (drop a bs) in let d = length-drop a bs in omega arith

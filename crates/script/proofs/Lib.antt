@@ -1,2 +1,5 @@
 pub mod Laws
 pub mod LineEnd
+pub mod Turns
+pub mod Lines
+pub mod Promises

@@ -16,7 +16,7 @@ use Rattle.script.specs.LineEnd.{lineLength, LinesCut}
 abbrev cut : (passed bytes : List ℕ) → List (List ℕ)
 cut ps bs = (ps ++ take (lineLength bs) bs) ∷ linesFrom [] (drop (suc (lineLength bs)) bs)
 
-append-nil : (ps : List ℕ) → ps ≡ ps ++ []
+pub append-nil : (ps : List ℕ) → ps ≡ ps ++ []
 append-nil [] = refl
 append-nil (p ∷ ps) = ap (λ (qs : List ℕ). p ∷ qs) (append-nil ps)
 

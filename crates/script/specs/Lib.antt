@@ -1,1 +1,4 @@
 pub mod LineEnd
+pub mod Turns
+pub mod Read
+pub mod Promised

@@ -16,8 +16,15 @@ lineLength (b ∷ bs) = cond (eqb b newline) 0 (suc (lineLength bs))
 abbrev pub lineEnd : (input : List ℕ) → (from : ℕ) → ℕ
 lineEnd bs from = from + lineLength (drop from bs)
 
+-- the line that begins at a place
+abbrev pub lineAt : (input : List ℕ) → (at : ℕ) → List ℕ
+lineAt bs at = take (lineEnd bs at - at) (drop at bs)
+
+-- the place behind the last newline: of bytes from a place on, where that of the bytes before them is known
+unfoldable pub wholeFrom : (from known : ℕ) → (bytes : List ℕ) → ℕ
+wholeFrom i w [] = w
+wholeFrom i w (b ∷ bs) = wholeFrom (suc i) (cond (eqb b newline) (suc i) w) bs
+
 -- THE LINES of what is left of an input: up to the end of the first, then those behind it
 abbrev pub LinesCut : Type 0
-LinesCut =
-    (input : List ℕ) (at : ℕ) → at < length input →
-    linesFrom [] (drop at input) ≡ take (lineEnd input at - at) (drop at input) ∷ linesFrom [] (drop (lineEnd input at + 1) input)
+LinesCut = (input : List ℕ) (at : ℕ) → at < length input → linesFrom [] (drop at input) ≡ lineAt input at ∷ linesFrom [] (drop (lineEnd input at + 1) input)
