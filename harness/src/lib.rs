@@ -19,6 +19,7 @@ pub mod random;
 pub mod scripts;
 pub mod sound;
 pub mod strange;
+pub mod talk;
 pub mod targets;
 pub mod teacher;
 pub mod teaching;

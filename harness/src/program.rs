@@ -3,7 +3,7 @@
 use std::env;
 use std::io::Write;
 use std::path::PathBuf;
-use std::process::{Command, Stdio};
+use std::process::{Child, Command, Stdio};
 use std::thread;
 use std::time::{Duration, Instant};
 
@@ -29,17 +29,22 @@ fn path() -> PathBuf {
 /// A stack of 4 MB, and a minute of computing, after which the program is killed.
 const LIMITED: &str = "ulimit -s 4096 && ulimit -t 60 && exec \"$0\"";
 
-/// Runs the program on an input that arrives in pieces. It reads no further than it needs, so that
-/// the last pieces may find nobody.
-pub fn run_in_pieces(pieces: &[&[u8]]) -> Ran {
-    let begin = Instant::now();
-    let mut program = Command::new("sh")
+/// Starts the program between two pipes.
+pub fn started() -> Child {
+    Command::new("sh")
         .args(["-c", LIMITED])
         .arg(path())
         .stdin(Stdio::piped())
         .stdout(Stdio::piped())
         .spawn()
-        .expect("a shell starts");
+        .expect("a shell starts")
+}
+
+/// Runs the program on an input that arrives in pieces. It reads no further than it needs, so that
+/// the last pieces may find nobody.
+pub fn run_in_pieces(pieces: &[&[u8]]) -> Ran {
+    let begin = Instant::now();
+    let mut program = started();
     let mut stdin = program.stdin.take().expect("standard input is a pipe");
     let ended = thread::scope(|scope| {
         scope.spawn(move || pieces.iter().all(|piece| stdin.write_all(piece).is_ok()));

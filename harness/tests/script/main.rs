@@ -6,3 +6,4 @@ mod first;
 mod pieces;
 mod random;
 mod survey;
+mod talk;
