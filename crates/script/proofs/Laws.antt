@@ -1,5 +1,5 @@
--- Where a line ends, byte by byte: a newline ends it, another byte is passed, and so it ends within the input. A reply ends within its room.
--- By the clauses of `lineLength` at what is left of the input, and by the length of what a reply leaves.
+-- Where a line ends, byte by byte: a newline ends it, another byte is passed, and so it ends within the input. The reply of a turn, and its room.
+-- By the clauses of `lineLength` at what is left of the input, by the room that `replyTo` asks for, and by the length of what a reply leaves.
 use mathlib.Core.Path.{_≡_, refl, ap, subst, _∙_}
 use mathlib.Core.Bool.{Bool, true, false, cond}
 use mathlib.Core.List.{List, [], _∷_}
@@ -48,17 +48,16 @@ length-within (b ∷ bs) = go (eqb b newline) (length-within bs)
 pub end-within : (bs : List ℕ) (i : ℕ) → i ≤ length bs → lineEnd bs i ≤ length bs
 end-within bs i l = let h = length-within (drop i bs) in let d = length-drop i bs in omega arith
 
--- A TURN, from the reply to the bytes up to the line's end
-pub turn-as : {ws' out out' : List ℕ} {r : Replied} (ws : List ℕ) (z : Script) (bs : List ℕ) (at end : ℕ) → end ≡ lineEnd bs at → replyRoom ≤ length out →
-    ReplyAs (replyTo ws z (take (end - at) (drop at bs)) (length out)) r ws' out out' →
-    TurnAs (repliedTo ws z (lineAt bs at)) (lineEnd bs at) record { size = r .size; script = r .script; next = end + 1 } ws' out out'
-turn-as {ws'} {out} {out'} {r} ws z bs at end e l a =
+-- THE REPLY OF A TURN: to the line, where the bytes go up to its end and the room is enough
+pub reply-at : {ws' out out' : List ℕ} {r : Replied} (ws : List ℕ) (z : Script) (bs : List ℕ) (at end : ℕ) → end ≡ lineEnd bs at →
+    replyRoom ≤ length out → ReplyAs (replyTo ws z (take (end - at) (drop at bs)) (length out)) r ws' out out' →
+    ReplyAs (repliedTo ws z (lineAt bs at)) r ws' out out'
+reply-at {ws'} {out} {out'} {r} ws z bs at end e l a =
     let line : List ℕ = take (end - at) (drop at bs) in
     let b = subst (λ (t : Bool). ReplyAs (cond t (reply [] ws z) (repliedTo ws z line)) r ws' out out') (le-ltb (length out) replyRoom l) a in
-    let d = subst (λ (n : ℕ). ReplyAs (repliedTo ws z (take (n - at) (drop at bs))) r ws' out out') e b in
-    record { size = d .size; script = d .script; next = ap (λ (n : ℕ). n + 1) e; words = d .words; bytes = d .bytes }
+    subst (λ (n : ℕ). ReplyAs (repliedTo ws z (take (n - at) (drop at bs))) r ws' out out') e b
 
--- its reply has room in what it is written over
+-- its bytes are within what they are written over
 pub turn-within : {p : Reply} {end : ℕ} {r : Turned} {ws out out' : List ℕ} → TurnAs p end r ws out out' → r .size ≤ length out'
 turn-within {p} {out = out} a = let l = length-append (p .text) (drop (length (p .text)) out) in omega (arith, a .size, ap length (a .bytes))
 

@@ -1,9 +1,9 @@
-// products: the script program: it answers each line of standard input as soon as it is there, with the reply function (§8).
+// products: the script program: it hands each line of standard input to the reply function and writes the reply (§8).
 ghost use mathlib.Core.Path.{_≡_};
 ghost use mathlib.Core.Bool.{true, cond};
-ghost use Prim.Native.Nat.{_+_, _*_, _≤_};
+ghost use Prim.Native.Nat.{_*_, _≤_};
 ghost use lib.Dec.{eqb};
-ghost use lib.ListN.{length, take, drop, replicate};
+ghost use lib.ListN.{length, drop, replicate};
 ghost use Rattle.model.specs.Limits.{rowWidth};
 ghost use Rattle.text.specs.Bytes.{mostInput, replyRoom};
 ghost use Rattle.text.specs.Script.{scriptRows, repliedTo};

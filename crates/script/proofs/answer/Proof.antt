@@ -53,7 +53,9 @@ returns : tie.Need-returns Inv-loop μ-loop
 returns c = record { reached = on (c .before .before .before .before .before .before .before .before); passed = λ e. absurd (true≢false (sym e)) }
 
 loop-less : tie.Need-loop-less Inv-loop μ-loop
-loop-less c = let t = c .before .before .before .before .before .before .before .before in omega (arith, t .turn .ensures .next, t .before .before .before .loop-test .taken)
+loop-less c =
+    let t = c .before .before .before .before .before .before .before .before in
+    omega (arith, t .turn .ensures .next, t .before .before .before .loop-test .taken)
 
 loop-again : tie.Need-loop-again Inv-loop μ-loop
 loop-again c = (on (c .before .before .before .before .before .before .before .before), search needs, search needs)

@@ -1,10 +1,10 @@
--- `script::turn` meets its contract: the line ends where the reply's bytes end, and a reply has room.
--- By the contracts of `line_end` and `reply`, where the room makes `replyTo` the reply to the line.
+-- `script::turn` meets its contract: the bytes handed over end where the line ends, and the room is enough for any reply.
+-- By the contracts of `line_end` and `reply`.
 use Prim.Native.Nat.{_≤_}
 use native.Mathlib.Omega.{arith}
 use borrow.Author.Needs.{needs}
 use lib.ListN.{length}
-use Rattle.script.proofs.Laws.{end-within, turn-as}
+use Rattle.script.proofs.Laws.{end-within, reply-at}
 use Rattle.script.proofs.turn.Statement.{statement}
 use Rattle.script.proofs.turn.Tie as tie
 
@@ -27,8 +27,12 @@ part-reply-end c = ended (c .before)
 reply-requires : tie.Need-reply-requires
 reply-requires c κs = search needs
 
+-- from the end back to where the line's end was found
+abbrev found : tie.After-after → tie.After-line-end
+found c = c .before .before .before .before .before .before .before .before .before
+
 add-t12 : tie.Need-add-t12
-add-t12 c = let l = ended (c .before .before .before .before .before .before .before .before .before) in let g = c .before .before .before .before .before .before .before .before .before .before .before .before .before .good in omega arith
+add-t12 c = let l = ended (found c) in let g = found c .before .before .before .before .good in omega arith
 
 same-length : tie.Need-same-length
 same-length c = search needs
@@ -38,9 +42,11 @@ same-length-2 c = search needs
 
 returns : tie.Need-returns
 returns c =
-    let e = c .before .before .before .before .before .before .before .before .before in
-    let s = e .before .before .before .before in
-    turn-as (s .args .words .now) (s .args .script) (s .args .input .now) (s .args .at) (e .line-end .result) (e .line-end .ensures) (omega arith) (c .before .before .before .before .before .reply .ensures)
+    let e = found c .line-end in
+    let s = found c .before .before .before .before in
+    let r = c .before .before .before .before .before .reply in
+    let a = reply-at (s .args .words .now) (s .args .script) (s .args .input .now) (s .args .at) (e .result) (e .ensures) (omega arith) (r .ensures) in
+    record { size = a .size; script = a .script; next = omega (arith, e .ensures); words = a .words; bytes = a .bytes }
 
 pub turn-spec : {M : Type 1} → statement M
 turn-spec =
