@@ -8,14 +8,13 @@ use Prim.Native.Nat.{ℕ, zero, suc, _+_, _-_, _≤_, _<_}
 use native.Mathlib.Omega.{arith}
 use lib.Dec.{eqb}
 use borrow.Author.Tests.{eqb-true, eqb-false, eq-eqb, ne-eqb}
-use lib.ListN.{length, getD, take, drop, drop-of-length-le, length-drop, length-take, take-append-drop}
+use lib.ListN.{length, getD, take, drop, drop-of-length-le, length-drop, take-append-drop}
 use lib.Seq.{length-take-le, take-take, getD-drop, getD-take}
 use Rattle.model.proofs.Laws.Scans.{drop-next}
 use Rattle.text.specs.Bytes.{newline}
 use Rattle.text.specs.declared.Script.{Script}
 use Rattle.script.specs.LineEnd.{lineLength, lineEnd, wholeFrom}
 use Rattle.script.specs.Turns.{Turns, begun, next, Reached}
-use Rattle.script.specs.Read.{ReadAs}
 use Rattle.script.proofs.Laws.{by-test}
 use Rattle.script.proofs.Turns.{turns-kept}
 
@@ -133,7 +132,7 @@ reached-more bs cs at end {ws} {z} l k e r =
     record { said = r .said; turns = subst (λ (xs : List ℕ). Turns xs (r .said) ws z at) p t }
 
 -- HOW FAR IT CAN BE ANSWERED: all of it if no more came
-abbrev far : (bs : List ℕ) (at from : ℕ) → Bool → ℕ
+abbrev pub far : (bs : List ℕ) (at from : ℕ) → Bool → ℕ
 far bs at from t = cond t from (wholeFrom from at (drop from bs))
 
 pub ready-all : (bs : List ℕ) (at from : ℕ) → from ≡ length bs → from ≡ far bs at from (eqb from (length bs))
@@ -141,58 +140,3 @@ ready-all bs at from e = sym (ap (far bs at from) (eq-eqb from (length bs) e))
 
 pub ready-lines : (bs : List ℕ) (at from : ℕ) → (from ≡ length bs → ⊥) → wholeFrom from at (drop from bs) ≡ far bs at from (eqb from (length bs))
 ready-lines bs at from e = sym (ap (far bs at from) (ne-eqb from (length bs) e))
-
--- A ROUND: a read, and how far can be answered after it
-pub record Round (input input' : List ℕ) (read got at end : ℕ) : Type 0 where
-  pub came : ReadAs input read got input'
-  pub read-within : read ≤ length input
-  pub known : at ≡ wholeFrom 0 0 (take read input)
-  pub ready : let bs = take (read + got) input' in end ≡ far bs at read (eqb read (length bs))
-
-module _ {input input' : List ℕ} {read got at end : ℕ} (r : Round input input' read got at end) where
-  size-is : length (take (read + got) input') ≡ read + got
-  size-is = length-take-le (read + got) input' (omega (arith, r .came .within, r .came .room))
-
-  known-now : at ≡ wholeFrom 0 0 (take read (take (read + got) input'))
-  known-now = r .known ∙ ap (wholeFrom 0 0) (sym (r .came .before) ∙ sym (take-take read (read + got) input' (omega arith)))
-
-  -- no more came: all of it
-  pub round-all : got ≡ 0 → end ≡ read + got
-  round-all e = r .ready ∙ sym (ready-all (take (read + got) input') at read (omega (arith, e, size-is))) ∙ omega (arith, e)
-
-  -- more came: its whole lines
-  pub round-lines : (got ≡ 0 → ⊥) → end ≡ wholeFrom 0 0 (take (read + got) input')
-  round-lines e =
-      r .ready ∙ sym (ready-lines (take (read + got) input') at read (λ f. e (omega (arith, f, size-is)))) ∙
-      whole-more (take (read + got) input') read at (omega (arith, size-is)) known-now
-
-  at-within : at ≤ read
-  at-within =
-      let w = whole-within 0 0 (take read input) (omega arith) in
-      let n = length-take-le read input (r .read-within) in
-      omega (arith, w .1, n, r .known)
-
-  pub round-far : (at ≤ end) × (end ≤ read + got)
-  round-far =
-      by-test (eqb got 0)
-      (λ t. let e = eqb-true got 0 t in (omega (arith, round-all e, at-within), omega (arith, round-all e)))
-      (λ t.
-      let e = eqb-false got 0 t in
-      let bs : List ℕ = take (read + got) input' in
-      let m = whole-more bs read at (omega (arith, size-is)) known-now in
-      let w = whole-within read at (drop read bs) at-within in
-      let v = whole-within 0 0 bs (omega arith) in
-      (omega (arith, round-lines e, m, w .0), omega (arith, round-lines e, v .1, size-is)))
-
-  -- the turns lead to the same place
-  pub round-reached : {ws : List ℕ} {z : Script} → Reached (take at input) ws z at → Reached (take end input') ws z at
-  round-reached h =
-      reached-more input input' at end (round-far .0) (omega (arith, at-within, r .read-within))
-      (sym (take-take at read input' at-within) ∙ ap (take at) (r .came .before) ∙ take-take at read input at-within) h
-
-  -- and over whole lines they stop at the end
-  pub round-stop : {ws : List ℕ} {z : Script} {at' : ℕ} → (got ≡ 0 → ⊥) → Reached (take end input') ws z at' → length (take end input') ≤ at' → at' ≡ end
-  round-stop {ws} {z} {at'} e h l =
-      let bs : List ℕ = take (read + got) input' in
-      let c : take end input' ≡ take end bs = sym (take-take end (read + got) input' (round-far .1)) in
-      stop-whole bs end (round-lines e) (subst (λ (cs : List ℕ). Reached cs ws z at') c h) (subst (λ (cs : List ℕ). length cs ≤ at') c l)

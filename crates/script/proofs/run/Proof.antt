@@ -5,7 +5,7 @@ use mathlib.Core.Path.{_≡_, refl, sym, subst, _∙_}
 use mathlib.Core.Logic.{⊎-elim}
 use mathlib.Core.Bool.{true≢false}
 use mathlib.Core.List.{List, []}
-use Prim.Native.Nat.{ℕ, _+_, _-_, _≤_, _<_}
+use Prim.Native.Nat.{ℕ, _+_, _-_, _≤_}
 use native.Mathlib.Omega.{arith}
 use borrow.Author.Needs.{needs}
 use borrow.Author.Tests.{not-true, not-false}
@@ -13,8 +13,9 @@ use lib.ListN.{length, take, length-take}
 use lib.Seq.{length-take-le}
 use Rattle.script.specs.LineEnd.{wholeFrom}
 use Rattle.script.specs.Turns.{Reached, AllSaid}
-use Rattle.script.proofs.Lines.{whole-empty, Round, round-all, round-lines, round-far, round-reached, round-stop}
 use Rattle.script.proofs.Turns.{all-said, reached-none}
+use Rattle.script.proofs.Lines.{whole-empty}
+use Rattle.script.proofs.Rounds.{Round, round-all, round-lines, round-far, round-reached, round-stop}
 use Rattle.script.proofs.run.Statement.{statement}
 use Rattle.script.proofs.run.Tie as tie
 
