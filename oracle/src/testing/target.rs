@@ -34,6 +34,18 @@ impl Target {
         })
     }
 
+    /// The full binary trees whose depth leaves 30, divided by so many states.
+    pub fn depths(states: u8) -> Target {
+        let level = |state: u8| (0, vec![state; 2], (state + 1) % states);
+        let rules: Vec<_> = (0..states).map(level).chain([(1, vec![], 0)]).collect();
+        let rules: Vec<(u8, &[u8], u8)> = rules
+            .iter()
+            .map(|rule| (rule.0, &rule.1[..], rule.2))
+            .collect();
+        let finals: Vec<u8> = (0..states).map(|state| (state == 30) as u8).collect();
+        Target::of(&[2, 0], &finals, &rules)
+    }
+
     pub fn counts(&self) -> &[u8] {
         &self.automaton.counts
     }
