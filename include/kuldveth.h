@@ -144,8 +144,8 @@ struct kuldveth_emitted kuldveth_load(const uint8_t *bytes, size_t bytes_length)
 
 /* What a list says (§6.3): five calls over the host's bytes, of which none is copied or written. Any bytes and any numbers
  * may be given; bytes that are no list get 21. Each call tests the whole list again, as loading does: some 50 ns for the list
- * of §9, and 13 microseconds for the longest, whose 256 rules are compared with each other. A host that asks much about a
- * large list keeps what it was told. */
+ * of §9, and 10 to 20 microseconds for the longest, whose 256 rules are compared with each other. A host that asks much about
+ * a large list keeps what it was told. */
 
 /* How many symbols, states and rules there are. */
 struct kuldveth_sizes kuldveth_list_sizes(const uint8_t *bytes, size_t bytes_length);
