@@ -1,4 +1,4 @@
-// products: the script program: it hands each line of standard input to the reply function and writes the reply (§8).
+// products: the script program: it answers each line of standard input as soon as it is there, with the reply function (§8).
 ghost use mathlib.Core.Path.{_≡_};
 ghost use mathlib.Core.Bool.{true, cond};
 ghost use Prim.Native.Nat.{_*_, _≤_};
