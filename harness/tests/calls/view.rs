@@ -5,6 +5,7 @@ use harness::cases::lists::{longest_list, proposed};
 use harness::cases::view::{changed, every_part, random_limits, random_lists, some_parts};
 use harness::kuldveth;
 use oracle::testing::random::Random;
+use oracle::testing::watch::each_case;
 use oracle::{Found, ListRule, ListSizes};
 
 fn found(value: u8) -> Found {
@@ -62,30 +63,31 @@ fn the_worked_run() {
 #[test]
 fn lists_of_random_runs() {
     let mut met = Met::default();
-    for case in 0..150 {
-        let random = &mut Random::case(411, case);
+    each_case(411, 0..150, |_, random| {
         if let Some(good) = proposed(random) {
             every_part(&good, random, &mut met);
         }
-    }
+    });
     met.listed_at_least(100_000, [0]);
 }
 
 /// One byte changed at every place, and the list cut there.
 #[test]
 fn every_byte_changed() {
-    let (mut met, mut random) = (Met::default(), Random::new(412));
-    let lists = (0..).filter_map(|case| proposed(&mut Random::case(412, case)));
-    for good in lists.filter(|bytes| bytes.len() > 60).take(8) {
+    let mut met = Met::default();
+    each_case(412, 0..40, |_, random| {
+        let Some(good) = proposed(random).filter(|bytes| bytes.len() > 60) else {
+            return;
+        };
         for place in 0..good.len() {
             let mut bytes = good.clone();
             for value in [0, 1, 2, 3, 4, 5, 31, 32, 255] {
                 bytes[place] = value;
-                some_parts(&bytes, &mut random, &mut met);
+                some_parts(&bytes, random, &mut met);
             }
-            some_parts(&good[..place], &mut random, &mut met);
+            some_parts(&good[..place], random, &mut met);
         }
-    }
+    });
     met.listed_at_least(5_000, [0, 21]);
 }
 
@@ -104,10 +106,10 @@ fn the_longest_list() {
 
 #[test]
 fn lists_near_the_limits() {
-    let (mut met, mut random) = (Met::default(), Random::new(414));
-    for _ in 0..30 {
-        every_part(&random_limits(&mut random), &mut random, &mut met);
-    }
+    let mut met = Met::default();
+    each_case(414, 0..30, |_, random| {
+        every_part(&random_limits(random), random, &mut met);
+    });
     met.listed_at_least(10_000, [0]);
 }
 
@@ -118,8 +120,6 @@ fn random_bytes() {
         let bytes: Vec<u8> = (0..size).map(|_| random.bits() as u8).collect();
         every_part(&bytes, &mut random, &mut met);
     }
-    for case in 0..10 {
-        random_lists(&mut Random::case(416, case), &mut met);
-    }
+    each_case(416, 0..10, |_, random| random_lists(random, &mut met));
     met.listed_at_least(10_000, [0, 21]);
 }

@@ -4,6 +4,7 @@
 use harness::scripts;
 use harness::talk::Talk;
 use oracle::testing::random::Random;
+use oracle::testing::watch::each_case;
 
 /// The bytes that count.
 const MOST: usize = 65_536;
@@ -71,21 +72,20 @@ fn worked_run() {
 
 #[test]
 fn line_by_line() {
-    for case in 0..200 {
-        in_turns(&lines(&scripts::any_lines(&mut Random::case(311, case))));
-        in_turns(&lines(&scripts::led(&mut Random::case(312, case))));
-    }
+    each_case(311, 0..200, |_, random| {
+        in_turns(&lines(&scripts::any_lines(random)));
+        in_turns(&lines(&scripts::led(random)));
+    });
 }
 
 #[test]
 fn in_pieces() {
-    for case in 0..200 {
-        let random = &mut Random::case(313, case);
+    each_case(313, 0..200, |_, random| {
         let any = scripts::any_lines(random);
         in_turns(&cut(&any, random));
         let loose = scripts::loose(random);
         in_turns(&cut(&loose, random));
-    }
+    });
 }
 
 /// Two lines in one piece are both answered, and a newline alone is a line.
