@@ -6,6 +6,9 @@
 _Static_assert(sizeof(struct kuldveth_lists) == 1232, "lists without padding");
 _Static_assert(sizeof(struct kuldveth_seen) == 10, "what a call tells, without padding");
 _Static_assert(sizeof(struct kuldveth_emitted) == 8, "what emitting tells, without padding");
+_Static_assert(sizeof(struct kuldveth_sizes) == 8, "the sizes of a list, without padding");
+_Static_assert(sizeof(struct kuldveth_found) == 4, "a value of a list, without padding");
+_Static_assert(sizeof(struct kuldveth_rule) == 9, "a rule of a list, without padding");
 
 static uint32_t words[KULDVETH_WORDS_PER_ROW * 5];
 static struct kuldveth_lists lists;

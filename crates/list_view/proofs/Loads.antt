@@ -8,7 +8,7 @@ use native.Mathlib.Omega.{arith}
 use lib.ListN.{length, getD}
 use borrow.Author.Tests.{lt-ltb, le-ltb}
 use Rattle.model.specs.Limits.{mostSymbols, mostStates}
-use Rattle.model.specs.Automata.{Rule, Automaton, targetIn}
+use Rattle.model.specs.Automata.{Rule, targetIn}
 use Rattle.model.specs.Listing.{bodyAt, behind, Read, broken, loaded, readList}
 use Rattle.model.specs.Entry.{loadedBy, loadSeen}
 use Rattle.model.specs.View.{sizesBy, sizesSeen, childrenBy, childrenSeen, finalBy, finalSeen, targetFound, targetBy, targetSeen, fourPlaces, ruleFound, ruleAbsent, noRule, ruleBy, ruleSeen}

@@ -11,7 +11,7 @@ use Rattle.model.specs.Store.{Store, used, isRecord, isContext, built, f
 use Rattle.model.specs.Terms.{Tree, treeWith, holeTree, evalTree, treeAt}
 use Rattle.model.specs.Table.{Tables, answerAt, answerIn}
 use Rattle.model.specs.Sound.{isSound}
-use Rattle.model.specs.Steps.{Search, atUnknown, Sought, unknown, seek}
+use Rattle.model.specs.Steps.{atUnknown, unknown, seek}
 use Rattle.model.specs.Calls.{Call, leaves, call}
 use Rattle.model.specs.Entry.{startNumber}
 use Rattle.model.specs.Run.{meant, startedRun, after, said, saidIn}

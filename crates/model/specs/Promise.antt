@@ -1,24 +1,23 @@
 -- What is promised of the definitions (§7.3), in the order of the demands. Each promise is a type; a term of it in proofs/Promises is its proof.
 use mathlib.Core.Path.{_≡_}
 use mathlib.Core.Logic.{_≢_, _⊎_}
-use mathlib.Core.Bool.{Bool, true, false, _&&_, not, cond}
+use mathlib.Core.Bool.{Bool, true, false, _&&_, cond}
 use mathlib.Core.List.{List, [], _∷_, _++_, Sublistᴰ}
-use mathlib.Core.Option.{Option, none, some}
-use Prim.Native.Nat.{ℕ, zero, suc, _+_, _≤_, _<_}
-use lib.Dec.{eqb}
+use mathlib.Core.Option.{none, some}
+use Prim.Native.Nat.{ℕ, _+_, _≤_, _<_}
 use lib.ListN.{length, getD}
 use Rattle.model.specs.Limits.{mostSymbols, mostStates, mostRules, mostContexts, mostListed}
-use Rattle.model.specs.Base.{isIn, all, among, allAmong, In, Each, Below}
-use Rattle.model.specs.Store.{Store, used, countOf, kidsAt, isRecord, findRow, Frame, filledRow, Spot, spotOf, Extends}
+use Rattle.model.specs.Base.{among, allAmong, In, Each, Below}
+use Rattle.model.specs.Store.{Store, used, kidsAt, isRecord, Frame, filledRow, Spot, spotOf}
 use Rattle.model.specs.Terms.{Tree, Within, Over, treeAt, treeOf, symbolsOf, recordFault}
-use Rattle.model.specs.Automata.{Rule, Automaton, isDeterministic, stateOf, accepts, ruleAtRoot, acceptsRow, acceptsList}
+use Rattle.model.specs.Automata.{Automaton, isDeterministic, stateOf, accepts, ruleAtRoot, acceptsRow, acceptsList}
 use Rattle.model.specs.Table.{Tables, size, answerAt, answerIn, rowOf, ruleOf, automatonOf}
 use Rattle.model.specs.Sound.{alphabetFits, isSound, isNearlySound, contextsFew}
 use Rattle.model.specs.Phase.{Sounds}
-use Rattle.model.specs.Listing.{emitted, Read, loaded, readList, finalsFit}
-use Rattle.model.specs.Steps.{Search, lost, search, Sought, noneUnknown, unknown, seek, grow}
-use Rattle.model.specs.Calls.{Call, offers, answers, accept, looks, emits, Outcome, refuses, numberOf, isAsking, phaseOf, faultOf, call}
-use Rattle.model.specs.Entry.{sizeFits, listsFit, startNumber, startSeen, startLists, callNumber, callSeen}
+use Rattle.model.specs.Listing.{emitted, loaded, readList, finalsFit}
+use Rattle.model.specs.Steps.{lost, search, noneUnknown, unknown, seek, grow}
+use Rattle.model.specs.Calls.{Call, offers, answers, accept, looks, emits, refuses, numberOf, isAsking, phaseOf, faultOf, call}
+use Rattle.model.specs.Entry.{sizeFits, listsFit, startNumber, startSeen, callNumber, callSeen}
 use Rattle.model.specs.Due.{RowsShort, StatesShort, TransitionsShort}
 use Rattle.model.specs.Run.{Lent, meant, startedRun, afterCall, after, isTaken, takenOnly, taken, shown, grows, Said, said, saidIn, offeredBy, askedBy, heardIn, agreesWith}
 use Rattle.model.specs.declared.Lists.{Lists}

@@ -1,14 +1,13 @@
 -- Where a step stands on its way (§3.4, §3.5, §4): the tables with the mark stored, and the tables that it settles, by the definitions of the steps.
 use mathlib.Core.Path.{_≡_}
 use mathlib.Core.Logic.{_≢_}
-use mathlib.Core.Bool.{false}
 use mathlib.Core.List.{List, [], _∷_, _++_}
 use Prim.Native.Nat.{ℕ, _<_}
 use lib.ListN.{length}
 use Rattle.model.specs.Limits.{mostRules}
 use Rattle.model.specs.Store.{Store, built, fill, Spot}
 use Rattle.model.specs.Terms.{storeFrom}
-use Rattle.model.specs.Table.{Tables, tables}
+use Rattle.model.specs.Table.{Tables}
 use Rattle.model.specs.Steps.{Search, atNewTransition, atDifference, search, offeredTables, answeredTables, putTables}
 use Rattle.model.specs.Calls.{Call, offers, answers}
 

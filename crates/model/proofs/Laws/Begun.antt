@@ -1,10 +1,9 @@
 -- The tables with the mark stored, on sound tables where no line refuses: T1 to T7 with the record in hand, or T1 to T5 where none is.
--- So are the tables that the step settles: T1 to T5 hold of them.
+-- T1 to T5 hold of the tables that the step settles, too.
 use mathlib.Core.Path.{_≡_, refl}
-use mathlib.Core.Logic.{_≢_, _⊎_, inl, inr}
+use mathlib.Core.Logic.{_≢_, _⊎_, inl}
 use mathlib.Core.List.{List, []}
 use Prim.Native.Nat.{ℕ, _+_, _≤_}
-use native.Mathlib.Omega.{arith}
 use Rattle.model.specs.Store.{Store, built}
 use Rattle.model.specs.Terms.{storeFrom}
 use Rattle.model.specs.Table.{Tables}
@@ -17,7 +16,7 @@ use Rattle.model.proofs.Laws.Advance.{down-settles}
 use Rattle.model.proofs.Laws.Offer.{offer-whole, offer-tidy, offer-fits, told-tidy}
 use Rattle.model.proofs.Laws.Answer.{answered-core, answered-tidy, answered-whole, answered-fits}
 use Rattle.model.proofs.Laws.Step.{Offering, offering, answering, mark-some, mark-small}
-use Rattle.model.proofs.Laws.Took.{idle-facts}
+use Rattle.model.proofs.Laws.Took.{whole-few, idle-facts}
 
 pub data Begun (z : Tables) : Type 0 where
   in-hand : Whole z → Tidy z → Few z → HandFits (z .store) (z .answers) (z .s) (z .t) (z .c) (z .hand) → Begun z
@@ -37,15 +36,11 @@ offer-begun x s xs m o i y e =
 answer-begun : (x : Tables) → Sounds x → (m : ℕ) → (x .asked ≢ 0) × (m ≤ 1) → Begun (answeredTables x m)
 answer-begun x s m a = go (s .nearly .phase) (s .few)
   where
-    known : Whole x → Missing x ⊎ Few x → Few x
-    known w (inl e) = absurd (w .known (e .0) (e .1) (e .2) (e .3) (e .4))
-    known w (inr f) = f
-
     go : Phase x → Missing x ⊎ Few x → Begun (answeredTables x m)
     go (idle b h w) f = absurd (a .0 b)
     go (holding o r w h) f =
         in-hand (answered-whole x w (x .hand) h (x .asked) (o .0) (o .1) (m + 1) (mark-some m) (mark-small m (a .1)))
-        (told-tidy x w (x .asked) (o .0) (m + 1) (mark-some m) (mark-small m (a .1)) (inl (o .1)) (x .hand) (s .nearly .tidy)) (known w f)
+        (told-tidy x w (x .asked) (o .0) (m + 1) (mark-some m) (mark-small m (a .1)) (inl (o .1)) (x .hand) (s .nearly .tidy)) (whole-few x w f)
         (answered-fits x w (x .hand) h (x .asked) (o .0) (o .1) (m + 1) (mark-some m) (mark-small m (a .1)))
     go (filling o r h e) f =
         none-in-hand h (answered-core x (s .nearly .core) (x .asked) (o .0) (o .1) (m + 1) (mark-small m (a .1)))

@@ -3,7 +3,7 @@
 use mathlib.Core.Path.{_≡_, refl, sym, ap, subst, _∙_}
 use mathlib.Core.Logic.{_≢_, _⊎_, inl, inr}
 use mathlib.Core.Bool.{Bool, true, false, cond}
-use mathlib.Core.List.{List, [], _∷_}
+use mathlib.Core.List.{[], _∷_}
 use mathlib.Core.Option.{none}
 use Prim.Native.Nat.{ℕ, _≤_, _<_}
 use native.Mathlib.Omega.{arith}
@@ -18,7 +18,7 @@ use Rattle.model.specs.TableFacts.{Core, Known, SearchEnd, ends-new}
 use Rattle.model.specs.Sound.{isSound}
 use Rattle.model.specs.Phase.{Sounds}
 use Rattle.model.specs.Steps.{Ended, Search, lost, atNewTransition, grow}
-use Rattle.model.specs.Calls.{Call, offers, answers, accept, looks, emits, Outcome, refuses, leaves, numberOf, faultOf, endOf, doneBy, call}
+use Rattle.model.specs.Calls.{Call, offers, answers, accept, looks, emits, refuses, numberOf, faultOf, endOf, doneBy, call}
 use Rattle.model.specs.Room.{withRoom}
 use Rattle.model.specs.Reached.{Begins, Settles, searchOf}
 use Rattle.model.specs.Due.{StatesShort, TransitionsShort, UsesAll, in-left, at-states, at-transitions, RowsShort}

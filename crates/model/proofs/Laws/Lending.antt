@@ -19,7 +19,7 @@ use Rattle.model.specs.Table.{Tables, tables, answerAt, answersOf}
 use Rattle.model.specs.Sound.{isSound}
 use Rattle.model.specs.Listing.{emitted}
 use Rattle.model.specs.Steps.{Shortage, ofRows, ofStates, ofTransitions, ofTurns, Ended, short, asks, proposes, blanked, Search, lost, atNewTransition, atUnknown, atDifference, search, Sought, noneUnknown, unknown, seek, grow, opened, proposed, settledBy, settled, withContext, putBy, putDown, searched, advance, takenBy, offered, answered}
-use Rattle.model.specs.Calls.{Call, offers, answers, accept, looks, emits, refuses, leaves, numberOf, isAsking, isProposing, markFits, contradicts, faultOf, endOf, doneBy, call}
+use Rattle.model.specs.Calls.{Call, offers, answers, accept, looks, emits, refuses, numberOf, isAsking, isProposing, markFits, contradicts, faultOf, endOf, doneBy, call}
 use Rattle.model.specs.Room.{roomed, withRoom, leftWithRoom}
 use Rattle.model.proofs.Laws.Room.{frames-room, known-room, answers-room, search-room, seek-room, automaton-room, sound-room}
 

@@ -1,7 +1,7 @@
 -- Settling: the first unknown answer is asked for, and where none is unknown S grows and whatever was to be gained is gained.
 -- The question's rows change no answer; the proposal has the row of each transition, among them of one that was pending.
 use native.Mathlib.Decide.{ℕ-discrete}
-use mathlib.Core.Path.{subst, _≡_, refl, sym, ap, _∙_}
+use mathlib.Core.Path.{_≡_, refl, sym, ap, _∙_}
 use mathlib.Core.Logic.{_≢_, _⊎_, inl, inr}
 use mathlib.Core.Bool.{Bool, true, false, cond}
 use mathlib.Core.List.{List, [], _∷_, _++_}
@@ -19,7 +19,7 @@ use Rattle.model.specs.Facts.{IsContext, Filled, Fits, IsRecord}
 use Rattle.model.specs.TableFacts.{Missing, Tidy, Open, Whole, Known, Core, Held}
 use Rattle.model.proofs.Laws.Lists.{no-in, in-cons, first-in}
 use Rattle.model.proofs.Laws.Rows.{hole-ext}
-use Rattle.model.proofs.Laws.Fill.{fill-is, ext-refl, ext-trans}
+use Rattle.model.proofs.Laws.Fill.{fill-is, ext-refl}
 use Rattle.model.proofs.Laws.Filled.{leads-filled, answers-kept}
 use Rattle.model.proofs.Laws.Down.{context-fits}
 use Rattle.model.proofs.Laws.Held.{answer-ext, Blank, held-ext, differ-ext, fits-ext}

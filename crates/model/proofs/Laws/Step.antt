@@ -9,15 +9,14 @@ use Prim.Native.Nat.{ℕ, zero, suc, _+_, _-_, _≤_}
 use native.Mathlib.Omega.{arith}
 use lib.Dec.{eqb}
 use borrow.Author.Tests.{eqb-true, eqb-false, ne-eqb, eq-eqb, leb-true, not-true, not-false}
-use lib.ListN.{length, getD, set}
+use lib.ListN.{getD, set}
 use lib.Seq.{getD-set-same, getD-set-other}
-use Rattle.model.specs.Limits.{mostRules}
 use Rattle.model.specs.Base.{each-nil}
 use Rattle.model.specs.Store.{Store, used, Extends, Built, full, built}
 use Rattle.model.specs.Terms.{treeAt, treeOf, treeWith, holeTree, evalFrom, storeFrom, knownFrom, knownRow, recordFault, orElse, unless}
 use Rattle.model.specs.Automata.{leads, isFinal, acceptsList, runFrom, isYes, Verdict, gives, stuck}
 use Rattle.model.specs.Table.{Tables, tables, answerAt, rowOf, rulesOf, automatonOf}
-use Rattle.model.specs.Steps.{Shortage, ofRows, ofTransitions, Ended, short, asks, proposes, blanked, settled, searched, search, advance, takenBy, offered, answered}
+use Rattle.model.specs.Steps.{Shortage, ofRows, Ended, short, asks, proposes, blanked, settled, searched, search, advance, takenBy, offered, answered}
 use Rattle.model.specs.Facts.{Good, IsRecord, Parses}
 use Rattle.model.specs.TableFacts.{Core, Tidy, Whole, Few, Open, HandFits, proposedVerdict}
 use Rattle.model.specs.Calls.{isAsking, isProposing, markFits, contradicts, verdictIs, offerFault, answerFault}

@@ -37,6 +37,11 @@ left-of : (z y : Tables) (e : Ended) → StepOk z e → EndsIn y e → Left z y
 left-of z y (asks v) s in-asks = step-left z y (inl s)
 left-of z y (proposes v) s in-proposes = step-left z y (inr s)
 
+-- with no answer missing the contexts are few
+pub whole-few : (x : Tables) → Whole x → Missing x ⊎ Few x → Few x
+whole-few x w (inl m) = absurd (w .known (m .0) (m .1) (m .2) (m .3) (m .4))
+whole-few x w (inr f) = f
+
 -- the phase tells what a sound table has where an offer or an answer is due
 pub idle-facts : (x : Tables) → Sounds x → x .asked ≡ 0 → Whole x × Few x
 idle-facts x s a = go (s .nearly .phase) (s .few)
@@ -44,12 +49,8 @@ idle-facts x s a = go (s .nearly .phase) (s .few)
     open-some : Open x → ⊥
     open-some o = let p = o .0 .some in omega arith
 
-    known : Whole x → Missing x ⊎ Few x → Few x
-    known w (inl m) = absurd (w .known (m .0) (m .1) (m .2) (m .3) (m .4))
-    known w (inr f) = f
-
     go : Phase x → Missing x ⊎ Few x → Whole x × Few x
-    go (idle b h w) f = (w, known w f)
+    go (idle b h w) f = (w, whole-few x w f)
     go (holding o r w h) f = absurd (open-some o)
     go (filling o r h m) f = absurd (open-some o)
 
@@ -62,13 +63,9 @@ answer-ok x s a m l = go (s .nearly .phase) (s .few)
     d : Tidy x
     d = s .nearly .tidy
 
-    known : Whole x → Missing x ⊎ Few x → Few x
-    known w (inl e) = absurd (w .known (e .0) (e .1) (e .2) (e .3) (e .4))
-    known w (inr f) = f
-
     go : Phase x → Missing x ⊎ Few x → Open x × AnswerOk x m (answered x m)
     go (idle b h w) f = absurd (a b)
-    go (holding o r w h) f = (o, answer-held x k d o m l w (known w f) h)
+    go (holding o r w h) f = (o, answer-held x k d o m l w (whole-few x w f) h)
     go (filling o r h e) f = (o, answer-filling x k d o m l h)
 
 module _ (x : Tables) (s : Sounds x) where

@@ -1,13 +1,13 @@
 -- What a taken call of a fresh run tells is what looking tells next: the tables left are sound, so looking tells them, and so did the call.
 use mathlib.Core.Path.{_≡_, refl, sym, ap, subst, _∙_}
-use mathlib.Core.Bool.{Bool, true, cond, _&&_}
+use mathlib.Core.Bool.{true, cond, _&&_}
 use mathlib.Core.List.{List, [], _∷_, _++_}
 use Prim.Native.Nat.{ℕ}
 use Rattle.model.specs.Table.{Tables}
 use Rattle.model.specs.Sound.{isSound}
 use Rattle.model.specs.Calls.{Call, looks, Outcome, refuses, leaves, look}
 use Rattle.model.specs.Entry.{sizeFits, listsFit, seenOf, seenBy, callSeen, startNumber, startSeen}
-use Rattle.model.specs.Run.{Lent, meant, startedRun, afterCall, after, isTaken}
+use Rattle.model.specs.Run.{Lent, meant, startedRun, afterCall, after}
 use Rattle.model.specs.Promise.{isLentSound, Tells, LooksNext}
 use Rattle.model.specs.declared.Lists.{Lists}
 use Rattle.model.specs.declared.Seen.{Seen}
