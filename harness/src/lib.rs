@@ -1,13 +1,16 @@
 //! The proved functions beside a second program: those over the record table beside what they do, written
 //! again by plain means from docs/SPECIFICATION.md, the calls of `crates/kuldveth` beside the oracle.
 
+pub mod aimed;
 pub mod bytes;
 pub mod calls;
 pub mod cases;
 pub mod colliding;
 pub mod crowded;
 pub mod difference;
+pub mod flat;
 pub mod hashed;
+pub mod index_model;
 pub mod kuldveth;
 pub mod learning;
 pub mod lent;

@@ -28,7 +28,7 @@ pub const REFUSED: Reply = Reply {
 #[rustfmt::skip]
 extern "C" {
     fn probe_fault(counts: *const u8, letters: usize, symbols: *const u8, length: usize) -> u8;
-    fn probe_pass(words: *const u32, size: usize, counts: *const u8, letters: usize, used: u16, marks: *mut u8, room: usize) -> bool;
+    fn probe_pass(words: *const u32, size: usize, counts: *const u8, letters: usize, used: u16, marks: *mut u16, room: usize) -> bool;
     fn probe_find(words: *const u32, size: usize, counts: *const u8, letters: usize, used: u16, symbol: u32, k0: u32, k1: u32, k2: u32, k3: u32) -> u16;
     fn probe_fill(words: *mut u32, size: usize, counts: *const u8, letters: usize, used: u16, context: u16, with: u16) -> Reply;
     fn probe_store(words: *mut u32, size: usize, counts: *const u8, letters: usize, used: u16, symbols: *const u8, length: usize) -> Reply;
@@ -47,7 +47,7 @@ pub fn fault(counts: &[u8], symbols: &[u8]) -> u8 {
 }
 
 /// T1; where it holds and `marks` has room for every used row, it gets the places of holes.
-pub fn pass_into(words: &[u32], counts: &[u8], used: u16, marks: &mut [u8]) -> bool {
+pub fn pass_into(words: &[u32], counts: &[u8], used: u16, marks: &mut [u16]) -> bool {
     unsafe {
         probe_pass(
             words.as_ptr(),
@@ -62,16 +62,16 @@ pub fn pass_into(words: &[u32], counts: &[u8], used: u16, marks: &mut [u8]) -> b
 }
 
 /// The places of holes of the used rows, unless T1 fails.
-pub fn pass(lent: &Lent) -> Option<Vec<u8>> {
+pub fn pass(lent: &Lent) -> Option<Vec<u16>> {
     let used = lent.used as usize;
-    let mut marks = vec![GUARD_BYTE; used + 2 * GUARDS];
+    let mut marks = vec![u16::from(GUARD_BYTE); used + 2 * GUARDS];
     let inner = &mut marks[GUARDS..GUARDS + used];
     let passed = pass_into(&lent.words, &lent.counts, lent.used, inner);
     let (first, last) = (&marks[..GUARDS], &marks[GUARDS + used..]);
     assert!([first, last]
         .concat()
         .iter()
-        .all(|&mark| mark == GUARD_BYTE));
+        .all(|&mark| mark == u16::from(GUARD_BYTE)));
     passed.then(|| marks[GUARDS..GUARDS + used].to_vec())
 }
 

@@ -9,7 +9,7 @@ use Rattle.model.specs.Limits.{rowWidth, mostRows}
 use Rattle.model.specs.Store.{Store, used, symbolAt, kidsAt, hasHole, Frame, frame}
 use Rattle.model.specs.Facts.{Good}
 use Rattle.model.specs.Entry.{storeOf, rowsLent, rowWords}
-use Rattle.bank.specs.Index.{Finding}
+use Rattle.bank.specs.Index.{holeOf, Finding}
 
 -- the place, plus one, of the first child with a property; 0 for none
 abbrev pub oneFurther : (code : ℕ) → ℕ
@@ -20,16 +20,15 @@ unfoldable pub placeCode : (ℕ → Bool) → (kids : List ℕ) → ℕ
 placeCode p [] = 0
 placeCode p (k ∷ ks) = cond (p k) 1 (oneFurther (placeCode p ks))
 
--- the first n entries hold the place of each row's child with the hole
-abbrev pub Holed : Store → (holes : List ℕ) → (n : ℕ) → Type 0
-Holed x hs n = (i : ℕ) → i < n → getD hs i 0 ≡ placeCode (hasHole x) (kidsAt x i)
+-- the index has the place of the child with the hole of each of the first n rows
+abbrev pub Holed : Store → (index : List ℕ) → (n : ℕ) → Type 0
+Holed x xs n = (i : ℕ) → i < n → getD xs (holeOf i) 0 ≡ placeCode (hasHole x) (kidsAt x i)
 
-pub record Ready (words counts : List ℕ) (n : ℕ) (holes head next mix : List ℕ) : Type 0 where
+pub record Ready (words counts : List ℕ) (n : ℕ) (index : List ℕ) : Type 0 where
   pub good : Good (storeOf words counts n)
   pub lent : rowsLent words ≤ mostRows
-  pub finding : Finding mix words n head next
-  pub holes-long : length words ≤ rowWidth * length holes
-  pub holed : Holed (storeOf words counts n) holes n
+  pub finding : Finding words n index
+  pub holed : Holed (storeOf words counts n) index n
 
 -- FRAMES along an array of places: down from a row as long as its entry names a place
 abbrev pub frameAt : Store → (row place : ℕ) → Frame

@@ -14,11 +14,6 @@ pub const SMALL_ROWS: usize = 1024;
 
 pub const MID_ROWS: usize = 2048;
 
-// Buckets, where they are not as many as the rows: the smallest room has few more, the one of the middle size twice as many.
-pub const TINY_BUCKETS: usize = 512;
-
-pub const MID_BUCKETS: usize = 4096;
-
 // Transitions: there are fewer than this.
 pub const TINY_RULES: usize = 40;
 

@@ -1,27 +1,27 @@
 -- How adding rows ends, and a row asked for by its places; then rows put behind the used ones, and frames filled, as the helpers have it:
--- no code reads the counts, so what they promise is of words, marks and chains alone, or of every alphabet.
+-- no code reads the counts, so what they promise is of words and index alone, or of every alphabet.
 use mathlib.Core.Path.{_≡_}
 use mathlib.Core.Bool.{cond}
 use mathlib.Core.List.{List}
 use Prim.Native.Nat.{ℕ, suc, _+_, _*_, _≤_, _<_}
-use lib.ListN.{length, getD, take, set}
+use lib.ListN.{length, getD, take}
 use Rattle.model.specs.Limits.{rowWidth, mostRows}
 use Rattle.model.specs.Store.{Store, padded, used, hasHole, Built, full, built}
 use Rattle.model.specs.Facts.{RowAsked, Fits}
 use Rattle.model.specs.Entry.{storeOf, rowsLent}
 use Rattle.bank.specs.Rows.{withRow, Within}
-use Rattle.bank.specs.Index.{Indexed, Finding, findIn}
+use Rattle.bank.specs.Index.{Finding, findIn, Seat, entered}
 use Rattle.bank.specs.Ready.{placeCode, Ready, pathOf, withRows, Kept}
 use Rattle.bank_t1.specs.Pass.{holeBy}
 use Rattle.bank_fill.specs.declared.add.Grown.{Grown}
 
--- WHAT ADDING ROWS CAME TO: rows ran out, with the first n rows as they were; or the store that was built, ready again
+-- HOW ADDING ROWS ENDS: rows ran out, with the first n rows as they were; or the store that was built, ready again
 abbrev pub grownRow : (row used : ℕ) → Grown
 grownRow j n = Grown.At (record { 0 = j }) n
 
-abbrev pub Came : (words counts : List ℕ) → (n : ℕ) → Built → Grown → (words' holes' head' next' mix : List ℕ) → Type 0
-Came ws ns n full r ws' hs' he' ne' m = (r ≡ Grown.Full) × Kept ws n ws'
-Came ws ns n (built j y) r ws' hs' he' ne' m = (r ≡ grownRow j (used y)) × (ws' ≡ withRows ws n y) × Ready ws' ns (used y) hs' he' ne' m
+abbrev pub Came : (words counts : List ℕ) → (n : ℕ) → Built → Grown → (words' index' : List ℕ) → Type 0
+Came ws ns n full r ws' xs' = (r ≡ Grown.Full) × Kept ws n ws'
+Came ws ns n (built j y) r ws' xs' = (r ≡ grownRow j (used y)) × (ws' ≡ withRows ws n y) × Ready ws' ns (used y) xs'
 
 -- the children among four places
 abbrev pub kidsOf : (counts : List ℕ) → (symbol : ℕ) → (places : List ℕ) → List ℕ
@@ -35,22 +35,20 @@ pub record PlacesAsked (x : Store) (symbol : ℕ) (places : List ℕ) (hole : �
   pub hole-place : hole ≡ placeCode (hasHole x) (kidsOf (x .counts) symbol places)
 
 -- what of Ready no alphabet enters
-pub record Lent (words : List ℕ) (n : ℕ) (holes head next mix : List ℕ) : Type 0 where
+pub record Lent (words : List ℕ) (n : ℕ) (index : List ℕ) : Type 0 where
   pub lent : rowsLent words ≤ mostRows
-  pub finding : Finding mix words n head next
-  pub holes-long : length words ≤ rowWidth * length holes
+  pub finding : Finding words n index
 
 -- the place, plus one, of a child with a hole; 0 for a child without
-abbrev pub holeAbove : (holes : List ℕ) → (kid place : ℕ) → ℕ
-holeAbove hs j k = cond (holeBy hs j) (suc k) 0
+abbrev pub holeAbove : (index : List ℕ) → (kid place : ℕ) → ℕ
+holeAbove xs j k = cond (holeBy xs j) (suc k) 0
 
--- WHAT PUTTING A ROW CAME TO: found; no room; or written behind the used rows, marked and entered
-pub data Put (words : List ℕ) (n : ℕ) (holes head next mix : List ℕ) (symbol : ℕ) (places : List ℕ) (hole : ℕ) : Grown → (words' holes' head' next' : List ℕ) → Type 0 where
-  found : {j : ℕ} → j ≡ findIn words n symbol places → (j ≡ 0 → ⊥) → Put words n holes head next mix symbol places hole (grownRow j n) words holes head next
-  no-room : findIn words n symbol places ≡ 0 → length words < rowWidth * n + rowWidth → Put words n holes head next mix symbol places hole Grown.Full words holes head next
-  written : {words' head' next' : List ℕ} → findIn words n symbol places ≡ 0 → Within words n → words' ≡ withRow words n symbol places →
-      Indexed mix words' (n + 1) head' next' → length head' ≡ length head → length next' ≡ length next →
-      Put words n holes head next mix symbol places hole (grownRow n (n + 1)) words' (set holes n hole) head' next'
+-- HOW PUTTING A ROW ENDS: found; no room; or written behind the used rows and entered with its mark
+pub data Put (words : List ℕ) (n : ℕ) (index : List ℕ) (symbol : ℕ) (places : List ℕ) (hole : ℕ) : Grown → (words' index' : List ℕ) → Type 0 where
+  found : {j : ℕ} → j ≡ findIn words n symbol places → (j ≡ 0 → ⊥) → Put words n index symbol places hole (grownRow j n) words index
+  no-room : findIn words n symbol places ≡ 0 → length words < rowWidth * n + rowWidth → Put words n index symbol places hole Grown.Full words index
+  written : {words' index' : List ℕ} {slot : ℕ} → findIn words n symbol places ≡ 0 → Within words n → Seat index symbol places slot → getD index slot 0 ≡ 0 →
+      words' ≡ withRow words n symbol places → index' ≡ entered index slot n hole → Put words n index symbol places hole (grownRow n (n + 1)) words' index'
 
 -- some counts under which a condition holds
 pub record Under (condition : (counts : List ℕ) → Type 0) : Type 0 where
@@ -58,8 +56,8 @@ pub record Under (condition : (counts : List ℕ) → Type 0) : Type 0 where
   pub holds : condition counts
 
 -- FRAMES ASKED to be filled with a row: at least one from a row down, each around a child
-pub record FramesAsked (words counts : List ℕ) (n : ℕ) (holes head next mix places : List ℕ) (row with : ℕ) : Type 0 where
-  pub ready : Ready words counts n holes head next mix
+pub record FramesAsked (words counts : List ℕ) (n : ℕ) (index places : List ℕ) (row with : ℕ) : Type 0 where
+  pub ready : Ready words counts n index
   pub places-long : n ≤ length places
   pub row-used : row < n
   pub with-used : with < n

@@ -74,14 +74,11 @@ pub fn store(
     words: &mut [u32],
     counts: &[u8],
     used: u16,
-    holes: &mut [u8],
-    head: &mut [u16],
-    next: &mut [u16],
-    mix: &[u32; 5],
+    index: &mut [u16],
     symbols: &[u8],
 ) -> Grown
-    requires { ⌜ Ready (now words) (now counts) used (now holes) (now head) (now next) (now mix) × Parses (now counts) 0 (now symbols) × (length (now symbols) ≤ mostListed) ⌝ }
-    ensures { λ r. ⌜ Came (now (words .entry)) (now (counts .entry)) used (storeFrom (storeOf (now (words .entry)) (now (counts .entry)) used) (now (symbols .entry)) []) r (now (words .exit)) (now (holes .exit)) (now (head .exit)) (now (next .exit)) (now (mix .entry)) ⌝ }
+    requires { ⌜ Ready (now words) (now counts) used (now index) × Parses (now counts) 0 (now symbols) × (length (now symbols) ≤ mostListed) ⌝ }
+    ensures { λ r. ⌜ Came (now (words .entry)) (now (counts .entry)) used (storeFrom (storeOf (now (words .entry)) (now (counts .entry)) used) (now (symbols .entry)) []) r (now (words .exit)) (now (index .exit)) ⌝ }
 {
     let mut stack = [0u16; MOST_LISTED];
     let mut height = 0;
@@ -91,7 +88,7 @@ pub fn store(
         let symbol = symbols[at] as u32;
         let count = counts[symbol as usize] as usize;
         let places = top_places(&stack, height, count);
-        let grown = add::row_for(words, counts, n, holes, head, next, mix, symbol, places, 0);
+        let grown = add::row_for(words, counts, n, index, symbol, places, 0);
         match grown {
             Grown::Full => {
                 return Grown::Full;
@@ -109,17 +106,8 @@ pub fn store(
 }
 
 // The row of a listed record where it stands already; row 0 for none.
-pub fn known_row(
-    words: &[u32],
-    counts: &[u8],
-    used: u16,
-    holes: &[u8],
-    head: &[u16],
-    next: &[u16],
-    mix: &[u32; 5],
-    symbols: &[u8],
-) -> Row
-    requires { ⌜ Ready (now words) (now counts) used (now holes) (now head) (now next) (now mix) × Parses (now counts) 0 (now symbols) × (length (now symbols) ≤ mostListed) ⌝ }
+pub fn known_row(words: &[u32], counts: &[u8], used: u16, index: &[u16], symbols: &[u8]) -> Row
+    requires { ⌜ Ready (now words) (now counts) used (now index) × Parses (now counts) 0 (now symbols) × (length (now symbols) ≤ mostListed) ⌝ }
     ensures { λ r. ⌜ r .0 ≡ knownRow (storeOf (now (words .entry)) (now (counts .entry)) used) (now (symbols .entry)) ⌝ }
 {
     let mut stack = [0u16; MOST_LISTED];
@@ -129,7 +117,7 @@ pub fn known_row(
         let symbol = symbols[at] as u32;
         let count = counts[symbol as usize] as usize;
         let places = top_places(&stack, height, count);
-        let row = index::find(words, used, head, next, mix, symbol, places);
+        let row = index::find(words, used, index, symbol, places);
         if row.0 == 0 {
             return Row(0);
         }

@@ -1,4 +1,5 @@
 -- T1 in one pass over the used rows (§2.3): what the helpers of the pass say of a row, what holds before it begins, how it ends.
+--
 use mathlib.Core.Path.{_≡_}
 use mathlib.Core.Bool.{Bool, true, false, _&&_, _||_, not, cond}
 use mathlib.Core.List.{List, [], _∷_}
@@ -10,30 +11,19 @@ use Rattle.model.specs.Base.{Below, all}
 use Rattle.model.specs.Store.{kidsAt, hasHole}
 use Rattle.model.specs.Entry.{storeOf, answersIn}
 use Rattle.model.specs.Sound.{alphabetFits, isHole, nodeFits, answerFits, rowsFit}
-use Rattle.model.specs.declared.Row.{Row}
 use Rattle.bank.specs.Rows.{answerIn, placesIn, nodeIn}
-use Rattle.bank.specs.Index.{mostBuckets, Finding}
+use Rattle.bank.specs.Index.{sizeIn, headOf, holeOf, Finding}
 use Rattle.bank.specs.Ready.{placeCode, Holed}
-use Rattle.bank.specs.declared.index.Sight.{Sight}
 use Rattle.bank_t1.specs.declared.Kids.{Kids}
-use Rattle.bank_t1.specs.declared.Passed.{Passed}
 
--- bucket heads of which all are empty
-pub record Cleared (head : List ℕ) : Type 0 where
-  pub some : 0 < length head
-  pub few : length head ≤ mostBuckets
-  pub empty : (h : ℕ) → h < length head → getD head h 0 ≡ 0
-
--- ROOM for the marks, heads and chains of all rows lent
-pub record Room (words holes head next : List ℕ) : Type 0 where
-  pub holes-long : length words ≤ rowWidth * length holes
-  pub some-heads : 0 < length head
-  pub few-heads : length head ≤ mostBuckets
-  pub next-long : length words ≤ rowWidth * length next
+-- an index with no row in it yet: all heads empty, and no hole among row 0's children
+pub record Cleared (index : List ℕ) : Type 0 where
+  pub empty : (h : ℕ) → h < 2 * sizeIn index → getD index (headOf (sizeIn index) h) 0 ≡ 0
+  pub unmarked : getD index (holeOf 0) 0 ≡ 0
 
 -- whether a row has a hole, by its entry among the places of holes
-abbrev pub holeBy : (holes : List ℕ) → (row : ℕ) → Bool
-holeBy hs i = eqb i 0 || not (eqb (getD hs i 0) 0)
+abbrev pub holeBy : (index : List ℕ) → (row : ℕ) → Bool
+holeBy xs i = eqb i 0 || not (eqb (getD xs (holeOf i) 0) 0)
 
 -- the child places that a count leaves are 0
 abbrev pub unusedZero : (words : List ℕ) → (row count : ℕ) → Bool
@@ -46,8 +36,8 @@ kidsSay p i k h (j ∷ js) =
     cond (ltb j i) (cond (p j) (cond (eqb h 0) (kidsSay p i (suc k) (suc k) js) Kids.Broken) (kidsSay p i (suc k) h js)) Kids.Broken
 
 -- the children of a row of the words, of which its symbol has `count`
-abbrev pub kidsIn : (words holes : List ℕ) → (row count : ℕ) → Kids
-kidsIn ws hs i n = cond (unusedZero ws i n) (kidsSay (holeBy hs) i 0 0 (take n (placesIn ws i))) Kids.Broken
+abbrev pub kidsIn : (words index : List ℕ) → (row count : ℕ) → Kids
+kidsIn ws xs i n = cond (unusedZero ws i n) (kidsSay (holeBy xs) i 0 0 (take n (placesIn ws i))) Kids.Broken
 
 -- a row but for its twins: as T1 has it, and then the place of its hole
 abbrev pub rowSays : (words counts : List ℕ) → (n row : ℕ) → Kids
@@ -57,19 +47,14 @@ rowSays ws ns n i =
     Kids.Broken
 
 -- BEFORE ROW i of n: the rows are lent, counts are small, the earlier rows have earlier children and their holes are known
-pub record Reached (words counts : List ℕ) (n : ℕ) (holes : List ℕ) (i : ℕ) : Type 0 where
+pub record Reached (words counts : List ℕ) (n : ℕ) (index : List ℕ) (i : ℕ) : Type 0 where
   pub some : 0 < i
   pub few : n ≤ mostRows
   pub room : rowWidth * n ≤ length words
   pub wide : (symbol : ℕ) → getD counts symbol 0 ≤ mostChildren
   pub earlier : (j : ℕ) → j < i → Below j (kidsAt (storeOf words counts n) j)
-  pub holes-long : n ≤ length holes
-  pub holed : Holed (storeOf words counts n) holes i
-
--- a search for a twin: the row that is found, or, under a bound on the chain, nothing
-pub data TwinOf (found most : ℕ) : Sight → Type 0 where
-  seen : {row : Row} → row .0 ≡ found → TwinOf found most (Sight.At row)
-  gave-up : 0 < most → TwinOf found most Sight.Crowded
+  pub long : n ≤ sizeIn index
+  pub holed : Holed (storeOf words counts n) index i
 
 -- BEFORE THE PASS: all of T1 but the rows beyond row 0
 pub record Begun (words counts : List ℕ) (n : ℕ) : Type 0 where
@@ -84,12 +69,6 @@ abbrev pub rowsPass : (words counts : List ℕ) → (n : ℕ) → Bool
 rowsPass ws ns n = rowsFit (storeOf ws ns n) (answersIn n ws) 1 (n - 1)
 
 -- the index and the holes of all rows
-pub record Marked (words counts : List ℕ) (n : ℕ) (holes head next mix : List ℕ) : Type 0 where
-  pub finding : Finding mix words n head next
-  pub holed : Holed (storeOf words counts n) holes n
-
--- WHAT A PASS CAME TO: a row that breaks T1; a chain past the bound; or T1 of all rows, with index and holes
-pub data PassedAs (words counts : List ℕ) (n most : ℕ) (holes head next mix : List ℕ) : Passed → Type 0 where
-  broke : rowsPass words counts n ≡ false → PassedAs words counts n most holes head next mix Passed.Broken
-  crowded : 0 < most → PassedAs words counts n most holes head next mix Passed.Crowded
-  passed : rowsPass words counts n ≡ true → Marked words counts n holes head next mix → PassedAs words counts n most holes head next mix Passed.Sound
+pub record Marked (words counts : List ℕ) (n : ℕ) (index : List ℕ) : Type 0 where
+  pub finding : Finding words n index
+  pub holed : Holed (storeOf words counts n) index n

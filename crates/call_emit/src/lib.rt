@@ -14,6 +14,7 @@ ghost use Rattle.table_verdict.specs.Rules.{ruleBy, Ruled};
 ghost use Rattle.list.specs.Flat.{flatRule, flatAutomaton, Short, ruleWidth};
 ghost use Rattle.sound.specs.Working.{Working};
 ghost use Rattle.call_emit.specs.Proposal.{finalByte, Flat, SixAt, listedSeen, listedOut};
+use bank::index::INDEX_WIDTH;
 use bank::rows;
 use model::Emitted;
 use model::Lists;
@@ -58,10 +59,7 @@ fn rule_bytes(
     words: &[u32],
     counts: &[u8],
     used: u16,
-    holes: &[u8],
-    head: &[u16],
-    next: &[u16],
-    mix: &[u32; 5],
+    index: &[u16],
     s: &[u16; MOST_STATES],
     states: usize,
     t: &[u16; MOST_RULES],
@@ -69,7 +67,7 @@ fn rule_bytes(
     reps: &[u16],
     k: usize,
 ) -> [u8; list::RULE_WIDTH]
-    requires { ⌜ Ready (now words) (now counts) used (now holes) (now head) (now next) (now mix) × Ruled (storeOf (now words) (now counts) used) (take states (now s)) (take rules (now t)) (now reps) × (length (now s) ≡ mostStates) × (states ≤ mostStates) × (length (now t) ≡ mostRules) × (rules ≤ mostRules) × (k < rules) ⌝ }
+    requires { ⌜ Ready (now words) (now counts) used (now index) × Ruled (storeOf (now words) (now counts) used) (take states (now s)) (take rules (now t)) (now reps) × (length (now s) ≡ mostStates) × (states ≤ mostStates) × (length (now t) ≡ mostRules) × (rules ≤ mostRules) × (k < rules) ⌝ }
     ensures { λ r. ⌜ (length r ≡ ruleWidth) × (flatRule (now (counts .entry)) r ≡ ruleBy (storeOf (now (words .entry)) (now (counts .entry)) used) (take states (now (s .entry))) (now (reps .entry)) (getD (now (t .entry)) k 0)) ⌝ }
 {
     let row = Row(t[k]);
@@ -107,10 +105,7 @@ fn write_rules(
     words: &[u32],
     counts: &[u8],
     used: u16,
-    holes: &[u8],
-    head: &[u16],
-    next: &[u16],
-    mix: &[u32; 5],
+    index: &[u16],
     s: &[u16; MOST_STATES],
     states: usize,
     t: &[u16; MOST_RULES],
@@ -118,26 +113,12 @@ fn write_rules(
     reps: &[u16],
     flat: &mut [u8; list::RULE_WIDTH * MOST_RULES],
 )
-    requires { ⌜ Ready (now words) (now counts) used (now holes) (now head) (now next) (now mix) × Ruled (storeOf (now words) (now counts) used) (take states (now s)) (take rules (now t)) (now reps) × (length (now s) ≡ mostStates) × (states ≤ mostStates) × (length (now t) ≡ mostRules) × (rules ≤ mostRules) × (length (now flat) ≡ ruleWidth * mostRules) ⌝ }
+    requires { ⌜ Ready (now words) (now counts) used (now index) × Ruled (storeOf (now words) (now counts) used) (take states (now s)) (take rules (now t)) (now reps) × (length (now s) ≡ mostStates) × (states ≤ mostStates) × (length (now t) ≡ mostRules) × (rules ≤ mostRules) × (length (now flat) ≡ ruleWidth * mostRules) ⌝ }
     ensures { λ _. ⌜ Flat (storeOf (now (words .entry)) (now (counts .entry)) used) (take states (now (s .entry))) (now (t .entry)) (now (reps .entry)) rules (now (flat .exit)) ⌝ }
 {
     let mut k = 0;
     while k < rules {
-        let bytes = rule_bytes(
-            words,
-            counts,
-            used,
-            holes,
-            head,
-            next,
-            mix,
-            s,
-            states,
-            t,
-            rules,
-            reps,
-            k,
-        );
+        let bytes = rule_bytes(words, counts, used, index, s, states, t, rules, reps, k);
         put_six(flat, list::RULE_WIDTH * k, bytes);
         k += 1;
     }
@@ -174,16 +155,13 @@ fn write_listed(counts: &[u8], finals: &[u8], rules: &[u8], out: &mut [u8]) -> E
 fn emit_proposed(
     words: &[u32],
     lists: Lists,
-    holes: &[u8],
-    head: &[u16],
-    next: &[u16],
-    mix: &[u32; 5],
+    index: &[u16],
     table: &[u8],
     places: &[u16; MOST_STATES],
     reps: &[u16],
     out: &mut [u8],
 ) -> Emitted
-    requires { ⌜ (sizeFits (now words) ≡ true) × (listsFit lists ≡ true) × (isSound (tablesOf (now words) lists) ≡ true) × (lists .asked ≡ 0) × Working (now words) (take (lists .letters) (lists .counts)) (lists .used) (lists .s) (lists .states) (lists .t) (lists .rules) (lists .c) (lists .contexts) (now holes) (now head) (now next) (now mix) (now table) (now places) (now reps) ⌝ }
+    requires { ⌜ (sizeFits (now words) ≡ true) × (listsFit lists ≡ true) × (isSound (tablesOf (now words) lists) ≡ true) × (lists .asked ≡ 0) × Working (now words) (take (lists .letters) (lists .counts)) (lists .used) (lists .s) (lists .states) (lists .t) (lists .rules) (lists .c) (lists .contexts) (now index) (now table) (now places) (now reps) ⌝ }
     ensures { λ r. ⌜ r ≡ emitSeen (now (words .entry)) lists (now (out .entry)) ⌝ }
     ensures bytes { λ r. ⌜ now (out .exit) ≡ emitOut (now (words .entry)) lists (now (out .entry)) ⌝ }
 {
@@ -200,10 +178,7 @@ fn emit_proposed(
         words,
         &counts[..letters],
         lists.used,
-        holes,
-        head,
-        next,
-        mix,
+        index,
         &s,
         states,
         &t,
@@ -225,41 +200,17 @@ fn emit_within(words: &[u32], lists: Lists, out: &mut [u8]) -> Emitted
     ensures { λ r. ⌜ r ≡ emitSeen (now (words .entry)) lists (now (out .entry)) ⌝ }
     ensures bytes { λ r. ⌜ now (out .exit) ≡ emitOut (now (words .entry)) lists (now (out .entry)) ⌝ }
 {
-    let mut holes = [0u8; MOST_ROWS];
-    let mut head = [0u16; MOST_ROWS];
-    let mut next = [0u16; MOST_ROWS];
-    let mut mix = [0u32; 5];
+    let mut index = [0u16; INDEX_WIDTH * MOST_ROWS];
     let mut table = [0u8; MOST_CONTEXTS * MOST_RULES];
     let mut places = [0u16; MOST_STATES];
     let mut reps = [0u16; MOST_ROWS];
-    if !sound::lists_sound(
-        words,
-        lists,
-        &mut holes,
-        &mut head,
-        &mut next,
-        &mut mix,
-        &mut table,
-        &mut places,
-        &mut reps,
-    ) {
+    if !sound::lists_sound(words, lists, &mut index, &mut table, &mut places, &mut reps) {
         return refuse(30);
     }
     if lists.asked != 0 {
         return refuse(31);
     }
-    emit_proposed(
-        words,
-        lists,
-        &holes,
-        &head,
-        &next,
-        &mix,
-        &table,
-        &places,
-        &reps,
-        out,
-    )
+    emit_proposed(words, lists, &index, &table, &places, &reps, out)
 }
 
 // Emitting: 18, 30, 31, 20, then the bytes and their count.

@@ -40,15 +40,12 @@ fn verdict_is(
     lists: Lists,
     symbols: &[u8],
     mark: u8,
-    holes: &[u8],
-    head: &[u16],
-    next: &[u16],
-    mix: &[u32; 5],
+    index: &[u16],
     table: &[u8],
     places: &[u16; MOST_STATES],
     reps: &[u16],
 ) -> bool
-    requires { ⌜ (listsFit lists ≡ true) × (isSound (tablesOf (now words) lists) ≡ true) × Working (now words) (countsIn lists) (lists .used) (lists .s) (lists .states) (lists .t) (lists .rules) (lists .c) (lists .contexts) (now holes) (now head) (now next) (now mix) (now table) (now places) (now reps) × Tested lists (now symbols) mark ⌝ }
+    requires { ⌜ (listsFit lists ≡ true) × (isSound (tablesOf (now words) lists) ≡ true) × Working (now words) (countsIn lists) (lists .used) (lists .s) (lists .states) (lists .t) (lists .rules) (lists .c) (lists .contexts) (now index) (now table) (now places) (now reps) × Tested lists (now symbols) mark ⌝ }
     ensures { λ r. ⌜ r ≡ verdictIs (tablesOf (now (words .entry)) lists) (now (symbols .entry)) mark ⌝ }
 {
     let letters = lists.letters as usize;
@@ -59,10 +56,7 @@ fn verdict_is(
         words,
         &counts[..letters],
         lists.used,
-        holes,
-        head,
-        next,
-        mix,
+        index,
         &s,
         lists.states as usize,
         &t,
@@ -79,48 +73,24 @@ pub fn fault_of(
     lists: Lists,
     symbols: &[u8],
     mark: u8,
-    holes: &[u8],
-    head: &[u16],
-    next: &[u16],
-    mix: &[u32; 5],
+    index: &[u16],
     table: &[u8],
     places: &[u16; MOST_STATES],
     reps: &[u16],
 ) -> u8
-    requires { ⌜ (sizeFits (now words) ≡ true) × (listsFit lists ≡ true) × (isSound (tablesOf (now words) lists) ≡ true) × Working (now words) (countsIn lists) (lists .used) (lists .s) (lists .states) (lists .t) (lists .rules) (lists .c) (lists .contexts) (now holes) (now head) (now next) (now mix) (now table) (now places) (now reps) ⌝ }
+    requires { ⌜ (sizeFits (now words) ≡ true) × (listsFit lists ≡ true) × (isSound (tablesOf (now words) lists) ≡ true) × Working (now words) (countsIn lists) (lists .used) (lists .s) (lists .states) (lists .t) (lists .rules) (lists .c) (lists .contexts) (now index) (now table) (now places) (now reps) ⌝ }
     ensures { λ r. ⌜ r ≡ offerFault (tablesOf (now (words .entry)) lists) (now (symbols .entry)) mark ⌝ }
 {
     let fault = input_fault(lists, symbols, mark);
     if fault != 0 {
         return fault;
     }
-    if verdict_is(
-        words,
-        lists,
-        symbols,
-        mark,
-        holes,
-        head,
-        next,
-        mix,
-        table,
-        places,
-        reps,
-    ) {
+    if verdict_is(words, lists, symbols, mark, index, table, places, reps) {
         return 32;
     }
     let letters = lists.letters as usize;
     let counts = lists.counts;
-    let row = bank_listed::known_row(
-        words,
-        &counts[..letters],
-        lists.used,
-        holes,
-        head,
-        next,
-        mix,
-        symbols,
-    );
+    let row = bank_listed::known_row(words, &counts[..letters], lists.used, index, symbols);
     let answer = rows::answer_of(words, row);
     if answer == 0 {
         return 0;

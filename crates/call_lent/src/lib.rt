@@ -25,18 +25,15 @@ fn answer_in(
     lists: Lists,
     mark: u8,
     saved: &mut [u32],
-    holes: &mut [u8],
-    head: &mut [u16],
-    next: &mut [u16],
-    mix: &mut [u32; 5],
+    index: &mut [u16],
     table: &mut [u8],
     places: &mut [u16; MOST_STATES],
     reps: &mut [u16],
 ) -> Done
-    requires { ⌜ (sizeFits (now words) ≡ true) × (listsFit lists ≡ true) × (length (now words) ≤ rowWidth * lists .used + length (now saved)) × Room (now words) (lists .rules) (now holes) (now head) (now next) (now mix) (now table) (now places) (now reps) × (mostContexts * (lists .rules + 1) ≤ length (now table)) ⌝ }
+    requires { ⌜ (sizeFits (now words) ≡ true) × (listsFit lists ≡ true) × (length (now words) ≤ rowWidth * lists .used + length (now saved)) × Room (now words) (lists .rules) (now index) (now table) (now places) (now reps) × (mostContexts * (lists .rules + 1) ≤ length (now table)) ⌝ }
     ensures { λ r. ⌜ CallAs (now (words .entry)) lists (answers mark) r (now (words .exit)) ⌝ }
 {
-    if !sound::lists_sound(words, lists, holes, head, next, mix, table, places, reps) {
+    if !sound::lists_sound(words, lists, index, table, places, reps) {
         return call::refuse(30, lists);
     }
     if lists.asked == 0 {
@@ -45,19 +42,7 @@ fn answer_in(
     if 1 < mark {
         return call::refuse(16, lists);
     }
-    call_take::take_answer(
-        words,
-        lists,
-        mark,
-        saved,
-        holes,
-        head,
-        next,
-        mix,
-        table,
-        places,
-        reps,
-    )
+    call_take::take_answer(words, lists, mark, saved, index, table, places, reps)
 }
 
 // An offer to tables of a size that fits, in lists that fit, with room to work in and to save the rows in.
@@ -67,33 +52,18 @@ fn offer_in(
     symbols: &[u8],
     mark: u8,
     saved: &mut [u32],
-    holes: &mut [u8],
-    head: &mut [u16],
-    next: &mut [u16],
-    mix: &mut [u32; 5],
+    index: &mut [u16],
     table: &mut [u8],
     places: &mut [u16; MOST_STATES],
     reps: &mut [u16],
 ) -> Done
-    requires { ⌜ (sizeFits (now words) ≡ true) × (listsFit lists ≡ true) × (length (now words) ≤ rowWidth * lists .used + length (now saved)) × Room (now words) (lists .rules) (now holes) (now head) (now next) (now mix) (now table) (now places) (now reps) × (mostContexts * (lists .rules + 1) ≤ length (now table)) ⌝ }
+    requires { ⌜ (sizeFits (now words) ≡ true) × (listsFit lists ≡ true) × (length (now words) ≤ rowWidth * lists .used + length (now saved)) × Room (now words) (lists .rules) (now index) (now table) (now places) (now reps) × (mostContexts * (lists .rules + 1) ≤ length (now table)) ⌝ }
     ensures { λ r. ⌜ CallAs (now (words .entry)) lists (offers (now (symbols .entry)) mark) r (now (words .exit)) ⌝ }
 {
-    if !sound::lists_sound(words, lists, holes, head, next, mix, table, places, reps) {
+    if !sound::lists_sound(words, lists, index, table, places, reps) {
         return call::refuse(30, lists);
     }
-    let fault = call_faults::fault_of(
-        words,
-        lists,
-        symbols,
-        mark,
-        holes,
-        head,
-        next,
-        mix,
-        table,
-        places,
-        reps,
-    );
+    let fault = call_faults::fault_of(words, lists, symbols, mark, index, table, places, reps);
     if fault != 0 {
         return call::refuse(fault, lists);
     }
@@ -103,10 +73,7 @@ fn offer_in(
         symbols,
         mark,
         saved,
-        holes,
-        head,
-        next,
-        mix,
+        index,
         table,
         places,
         reps,
@@ -120,41 +87,23 @@ pub fn call_in(
     symbols: &[u8],
     said: Said,
     saved: &mut [u32],
-    holes: &mut [u8],
-    head: &mut [u16],
-    next: &mut [u16],
-    mix: &mut [u32; 5],
+    index: &mut [u16],
     table: &mut [u8],
     places: &mut [u16; MOST_STATES],
     reps: &mut [u16],
 ) -> Done
-    requires { ⌜ (sizeFits (now words) ≡ true) × (listsFit lists ≡ true) × (length (now words) ≤ rowWidth * lists .used + length (now saved)) × Room (now words) (lists .rules) (now holes) (now head) (now next) (now mix) (now table) (now places) (now reps) × (mostContexts * (lists .rules + 1) ≤ length (now table)) ⌝ }
+    requires { ⌜ (sizeFits (now words) ≡ true) × (listsFit lists ≡ true) × (length (now words) ≤ rowWidth * lists .used + length (now saved)) × Room (now words) (lists .rules) (now index) (now table) (now places) (now reps) × (mostContexts * (lists .rules + 1) ≤ length (now table)) ⌝ }
     ensures { λ r. ⌜ CallAs (now (words .entry)) lists (callOf said (now (symbols .entry))) r (now (words .exit)) ⌝ }
 {
     match said {
-        Said::Answer(mark) => answer_in(
-            words,
-            lists,
-            mark,
-            saved,
-            holes,
-            head,
-            next,
-            mix,
-            table,
-            places,
-            reps,
-        ),
+        Said::Answer(mark) => answer_in(words, lists, mark, saved, index, table, places, reps),
         Said::Offer(mark) => offer_in(
             words,
             lists,
             symbols,
             mark,
             saved,
-            holes,
-            head,
-            next,
-            mix,
+            index,
             table,
             places,
             reps,

@@ -8,6 +8,7 @@ ghost use Rattle.bank.specs.Ladder.{smallRows, smallRules};
 ghost use Rattle.model.specs.Limits.{rowWidth};
 ghost use Rattle.model.specs.Calls.{looks, look as lookOf};
 ghost use Rattle.model.specs.Entry.{sizeFits, listsFit, tablesOf, seenOf, callSeen};
+use bank::index::INDEX_WIDTH;
 use bank::ladder;
 use bank::ladder::SMALL_ROWS;
 use bank::ladder::SMALL_RULES;
@@ -46,24 +47,11 @@ fn look_few(words: &[u32], lists: Lists) -> Seen
     requires { ⌜ (sizeFits (now words) ≡ true) × (listsFit lists ≡ true) × (length (now words) ≤ rowWidth * smallRows) × (lists .rules < smallRules) ⌝ }
     ensures { λ r. ⌜ r ≡ callSeen (now (words .entry)) lists looks ⌝ }
 {
-    let mut holes = [0u8; SMALL_ROWS];
-    let mut head = [0u16; SMALL_ROWS];
-    let mut next = [0u16; SMALL_ROWS];
-    let mut mix = [0u32; 5];
+    let mut index = [0u16; INDEX_WIDTH * SMALL_ROWS];
     let mut table = [0u8; MOST_CONTEXTS * SMALL_RULES];
     let mut places = [0u16; MOST_STATES];
     let mut reps = [0u16; SMALL_ROWS];
-    if !sound::lists_sound(
-        words,
-        lists,
-        &mut holes,
-        &mut head,
-        &mut next,
-        &mut mix,
-        &mut table,
-        &mut places,
-        &mut reps,
-    ) {
+    if !sound::lists_sound(words, lists, &mut index, &mut table, &mut places, &mut reps) {
         return sound_parts::refusal(30);
     }
     told(words, lists)
@@ -74,24 +62,11 @@ fn look_wide(words: &[u32], lists: Lists) -> Seen
     requires { ⌜ (sizeFits (now words) ≡ true) × (listsFit lists ≡ true) ⌝ }
     ensures { λ r. ⌜ r ≡ callSeen (now (words .entry)) lists looks ⌝ }
 {
-    let mut holes = [0u8; MOST_ROWS];
-    let mut head = [0u16; MOST_ROWS];
-    let mut next = [0u16; MOST_ROWS];
-    let mut mix = [0u32; 5];
+    let mut index = [0u16; INDEX_WIDTH * MOST_ROWS];
     let mut table = [0u8; MOST_CONTEXTS * MOST_RULES];
     let mut places = [0u16; MOST_STATES];
     let mut reps = [0u16; MOST_ROWS];
-    if !sound::lists_sound(
-        words,
-        lists,
-        &mut holes,
-        &mut head,
-        &mut next,
-        &mut mix,
-        &mut table,
-        &mut places,
-        &mut reps,
-    ) {
+    if !sound::lists_sound(words, lists, &mut index, &mut table, &mut places, &mut reps) {
         return sound_parts::refusal(30);
     }
     told(words, lists)

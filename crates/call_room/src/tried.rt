@@ -10,13 +10,12 @@ ghost use Rattle.model.specs.Entry.{sizeFits, listsFit};
 ghost use Rattle.call.specs.Calls.{CallAs};
 ghost use Rattle.call_lent.specs.Said.{callOf};
 ghost use Rattle.call_room.specs.Tried.{FirstAs, moreSpareRows, spareRows};
+use bank::index::INDEX_WIDTH;
 use bank::ladder;
-use bank::ladder::MID_BUCKETS;
 use bank::ladder::MID_ROWS;
 use bank::ladder::MID_RULES;
 use bank::ladder::SMALL_ROWS;
 use bank::ladder::SMALL_RULES;
-use bank::ladder::TINY_BUCKETS;
 use bank::ladder::TINY_ROWS;
 use bank::ladder::TINY_RULES;
 use call::Done;
@@ -45,10 +44,7 @@ fn in_tiny(words: &mut [u32], lists: Lists, symbols: &[u8], said: Said, saved: &
     requires { ⌜ (sizeFits (now words) ≡ true) × (listsFit lists ≡ true) × (length (now words) ≤ rowWidth * lists .used + length (now saved)) × (length (now words) ≤ rowWidth * tinyRows) × (lists .rules < tinyRules) ⌝ }
     ensures { λ r. ⌜ CallAs (now (words .entry)) lists (callOf said (now (symbols .entry))) r (now (words .exit)) ⌝ }
 {
-    let mut holes = [0u8; TINY_ROWS];
-    let mut head = [0u16; TINY_BUCKETS];
-    let mut next = [0u16; TINY_ROWS];
-    let mut mix = [0u32; 5];
+    let mut index = [0u16; INDEX_WIDTH * TINY_ROWS];
     let mut table = [0u8; MOST_CONTEXTS * TINY_RULES];
     let mut places = [0u16; MOST_STATES];
     let mut reps = [0u16; TINY_ROWS];
@@ -58,10 +54,7 @@ fn in_tiny(words: &mut [u32], lists: Lists, symbols: &[u8], said: Said, saved: &
         symbols,
         said,
         saved,
-        &mut holes,
-        &mut head,
-        &mut next,
-        &mut mix,
+        &mut index,
         &mut table,
         &mut places,
         &mut reps,
@@ -73,10 +66,7 @@ fn in_small(words: &mut [u32], lists: Lists, symbols: &[u8], said: Said, saved: 
     requires { ⌜ (sizeFits (now words) ≡ true) × (listsFit lists ≡ true) × (length (now words) ≤ rowWidth * lists .used + length (now saved)) × (length (now words) ≤ rowWidth * smallRows) × (lists .rules < smallRules) ⌝ }
     ensures { λ r. ⌜ CallAs (now (words .entry)) lists (callOf said (now (symbols .entry))) r (now (words .exit)) ⌝ }
 {
-    let mut holes = [0u8; SMALL_ROWS];
-    let mut head = [0u16; SMALL_ROWS];
-    let mut next = [0u16; SMALL_ROWS];
-    let mut mix = [0u32; 5];
+    let mut index = [0u16; INDEX_WIDTH * SMALL_ROWS];
     let mut table = [0u8; MOST_CONTEXTS * SMALL_RULES];
     let mut places = [0u16; MOST_STATES];
     let mut reps = [0u16; SMALL_ROWS];
@@ -86,10 +76,7 @@ fn in_small(words: &mut [u32], lists: Lists, symbols: &[u8], said: Said, saved: 
         symbols,
         said,
         saved,
-        &mut holes,
-        &mut head,
-        &mut next,
-        &mut mix,
+        &mut index,
         &mut table,
         &mut places,
         &mut reps,
@@ -101,10 +88,7 @@ fn in_mid(words: &mut [u32], lists: Lists, symbols: &[u8], said: Said, saved: &m
     requires { ⌜ (sizeFits (now words) ≡ true) × (listsFit lists ≡ true) × (length (now words) ≤ rowWidth * lists .used + length (now saved)) × (length (now words) ≤ rowWidth * midRows) × (lists .rules < midRules) ⌝ }
     ensures { λ r. ⌜ CallAs (now (words .entry)) lists (callOf said (now (symbols .entry))) r (now (words .exit)) ⌝ }
 {
-    let mut holes = [0u8; MID_ROWS];
-    let mut head = [0u16; MID_BUCKETS];
-    let mut next = [0u16; MID_ROWS];
-    let mut mix = [0u32; 5];
+    let mut index = [0u16; INDEX_WIDTH * MID_ROWS];
     let mut table = [0u8; MOST_CONTEXTS * MID_RULES];
     let mut places = [0u16; MOST_STATES];
     let mut reps = [0u16; MID_ROWS];
@@ -114,10 +98,7 @@ fn in_mid(words: &mut [u32], lists: Lists, symbols: &[u8], said: Said, saved: &m
         symbols,
         said,
         saved,
-        &mut holes,
-        &mut head,
-        &mut next,
-        &mut mix,
+        &mut index,
         &mut table,
         &mut places,
         &mut reps,
@@ -129,10 +110,7 @@ fn in_wide(words: &mut [u32], lists: Lists, symbols: &[u8], said: Said, saved: &
     requires { ⌜ (sizeFits (now words) ≡ true) × (listsFit lists ≡ true) × (length (now words) ≤ rowWidth * lists .used + length (now saved)) ⌝ }
     ensures { λ r. ⌜ CallAs (now (words .entry)) lists (callOf said (now (symbols .entry))) r (now (words .exit)) ⌝ }
 {
-    let mut holes = [0u8; MOST_ROWS];
-    let mut head = [0u16; MOST_ROWS];
-    let mut next = [0u16; MOST_ROWS];
-    let mut mix = [0u32; 5];
+    let mut index = [0u16; INDEX_WIDTH * MOST_ROWS];
     let mut table = [0u8; MOST_CONTEXTS * (MOST_RULES + 1)];
     let mut places = [0u16; MOST_STATES];
     let mut reps = [0u16; MOST_ROWS];
@@ -142,10 +120,7 @@ fn in_wide(words: &mut [u32], lists: Lists, symbols: &[u8], said: Said, saved: &
         symbols,
         said,
         saved,
-        &mut holes,
-        &mut head,
-        &mut next,
-        &mut mix,
+        &mut index,
         &mut table,
         &mut places,
         &mut reps,

@@ -33,22 +33,19 @@ pub fn take_answer(
     lists: Lists,
     mark: u8,
     saved: &mut [u32],
-    holes: &mut [u8],
-    head: &mut [u16],
-    next: &mut [u16],
-    mix: &[u32; 5],
+    index: &mut [u16],
     table: &mut [u8],
     places: &[u16; MOST_STATES],
     reps: &[u16],
 ) -> Done
-    requires { ⌜ (sizeFits (now words) ≡ true) × (listsFit lists ≡ true) × (isSound (tablesOf (now words) lists) ≡ true) × (lists .asked ≡ 0 → ⊥) × (mark ≤ 1) × Working (now words) (countsIn lists) (lists .used) (lists .s) (lists .states) (lists .t) (lists .rules) (lists .c) (lists .contexts) (now holes) (now head) (now next) (now mix) (now table) (now places) (now reps) × (length (now words) ≤ rowWidth * lists .used + length (now saved)) × (mostContexts * (lists .rules + 1) ≤ length (now table)) ⌝ }
+    requires { ⌜ (sizeFits (now words) ≡ true) × (listsFit lists ≡ true) × (isSound (tablesOf (now words) lists) ≡ true) × (lists .asked ≡ 0 → ⊥) × (mark ≤ 1) × Working (now words) (countsIn lists) (lists .used) (lists .s) (lists .states) (lists .t) (lists .rules) (lists .c) (lists .contexts) (now index) (now table) (now places) (now reps) × (length (now words) ≤ rowWidth * lists .used + length (now saved)) × (mostContexts * (lists .rules + 1) ≤ length (now table)) ⌝ }
     ensures { λ r. ⌜ CallAs (now (words .entry)) lists (answers mark) r (now (words .exit)) ⌝ }
 {
     bank_undo::save(words, lists.used, saved);
     let asked = Row(lists.asked);
     rows::set_answer(words, asked, mark as u32 + 1);
     let given = closed(lists);
-    let stepped = step::advance(words, given, holes, head, next, mix, table, reps);
+    let stepped = step::advance(words, given, index, table, reps);
     let number = stepped.number;
     if number != 0 {
         bank_undo::restore(words, lists.used, saved);
@@ -81,30 +78,18 @@ pub fn take_offer(
     symbols: &[u8],
     mark: u8,
     saved: &mut [u32],
-    holes: &mut [u8],
-    head: &mut [u16],
-    next: &mut [u16],
-    mix: &[u32; 5],
+    index: &mut [u16],
     table: &mut [u8],
     places: &[u16; MOST_STATES],
     reps: &[u16],
 ) -> Done
-    requires { ⌜ (sizeFits (now words) ≡ true) × (listsFit lists ≡ true) × (isSound (tablesOf (now words) lists) ≡ true) × (offerFault (tablesOf (now words) lists) (now symbols) mark ≡ 0) × Working (now words) (countsIn lists) (lists .used) (lists .s) (lists .states) (lists .t) (lists .rules) (lists .c) (lists .contexts) (now holes) (now head) (now next) (now mix) (now table) (now places) (now reps) × (length (now words) ≤ rowWidth * lists .used + length (now saved)) × (mostContexts * (lists .rules + 1) ≤ length (now table)) ⌝ }
+    requires { ⌜ (sizeFits (now words) ≡ true) × (listsFit lists ≡ true) × (isSound (tablesOf (now words) lists) ≡ true) × (offerFault (tablesOf (now words) lists) (now symbols) mark ≡ 0) × Working (now words) (countsIn lists) (lists .used) (lists .s) (lists .states) (lists .t) (lists .rules) (lists .c) (lists .contexts) (now index) (now table) (now places) (now reps) × (length (now words) ≤ rowWidth * lists .used + length (now saved)) × (mostContexts * (lists .rules + 1) ≤ length (now table)) ⌝ }
     ensures { λ r. ⌜ CallAs (now (words .entry)) lists (offers (now (symbols .entry)) mark) r (now (words .exit)) ⌝ }
 {
     let letters = lists.letters as usize;
     let counts = lists.counts;
     bank_undo::save(words, lists.used, saved);
-    match bank_listed::store(
-        words,
-        &counts[..letters],
-        lists.used,
-        holes,
-        head,
-        next,
-        mix,
-        symbols,
-    ) {
+    match bank_listed::store(words, &counts[..letters], lists.used, index, symbols) {
         Grown::Full => {
             bank_undo::restore(words, lists.used, saved);
             call::refuse(34, lists)
@@ -113,7 +98,7 @@ pub fn take_offer(
             let old = rows::answer_of(words, row);
             rows::set_answer(words, row, mark as u32 + 1);
             let given = taken_up(lists, row, n);
-            let stepped = step::in_hand(words, given, holes, head, next, mix, table, reps);
+            let stepped = step::in_hand(words, given, index, table, reps);
             let number = stepped.number;
             if number != 0 {
                 rows::set_answer(words, row, old);

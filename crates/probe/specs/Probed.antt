@@ -5,13 +5,13 @@ use mathlib.Core.List.{List, []}
 use Prim.Native.Nat.{ℕ, _≤_, _<_}
 use lib.Dec.{ltb, eqb}
 use lib.ListN.{length, getD}
-use Rattle.model.specs.Store.{Store, Built, full, built, used, isContext, fill, framesOf}
+use Rattle.model.specs.Store.{Store, Built, full, built, used, kidsAt, hasHole, isContext, fill, framesOf}
 use Rattle.model.specs.Table.{tables}
 use Rattle.model.specs.Sound.{isT1}
 use Rattle.model.specs.Terms.{recordFault, storeFrom, knownRow}
 use Rattle.model.specs.Entry.{storeOf, answersIn, sizeFits}
-use Rattle.bank.specs.Index.{findIn}
-use Rattle.bank.specs.Ready.{Holed, Kept, withRows}
+use Rattle.bank.specs.Index.{holeOf, findIn}
+use Rattle.bank.specs.Ready.{placeCode, Kept, withRows}
 use Rattle.bank_fill.specs.declared.add.Grown.{Grown}
 use Rattle.probe.specs.declared.Reply.{Reply}
 
@@ -19,13 +19,14 @@ use Rattle.probe.specs.declared.Reply.{Reply}
 abbrev pub isPassed : (words counts : List ℕ) → (used : ℕ) → Bool
 isPassed ws ns n = sizeFits ws && isT1 (tables (storeOf ws ns n) (answersIn n ws) [] [] [] 0 0 false)
 
--- the first n entries of a list are those of another
-pub record Shown (marks : List ℕ) (n : ℕ) (out : List ℕ) : Type 0 where
-  pub same : (i : ℕ) → i < n → getD out i 0 ≡ getD marks i 0
+-- the first n entries of a list are the places of holes in an index
+pub record Shown (index : List ℕ) (n : ℕ) (out : List ℕ) : Type 0 where
+  pub same : (i : ℕ) → i < n → getD out i 0 ≡ getD index (holeOf i) 0
 
 -- WHERE T1 HOLDS, the places of holes, if there is room for all
 abbrev pub Marks : (words counts : List ℕ) → (used : ℕ) → (passed : Bool) → (out : List ℕ) → Type 0
-Marks ws ns n b out = b ≡ true → n ≤ length out → Holed (storeOf ws ns n) out n
+Marks ws ns n b out =
+    b ≡ true → n ≤ length out → (i : ℕ) → i < n → getD out i 0 ≡ placeCode (hasHole (storeOf ws ns n)) (kidsAt (storeOf ws ns n) i)
 
 -- WHAT IS SAID of rows added: 0 rows ran out, 1 the row and the rows used afterwards, 2 refused
 abbrev pub said : (code row used : ℕ) → Reply

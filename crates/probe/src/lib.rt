@@ -6,14 +6,16 @@
 ghost use mathlib.Core.Path.{_≡_};
 ghost use mathlib.Core.Bool.{true};
 ghost use mathlib.Core.List.{[], _∷_};
-ghost use Prim.Native.Nat.{_≤_};
+ghost use Prim.Native.Nat.{_*_, _≤_};
 ghost use lib.ListN.{length};
 ghost use Rattle.model.specs.Limits.{mostRows};
 ghost use Rattle.model.specs.Terms.{recordFault};
 ghost use Rattle.model.specs.Entry.{sizeFits};
 ghost use Rattle.bank.specs.Ready.{Ready};
+ghost use Rattle.bank.specs.Index.{indexWidth, sizeIn};
 ghost use Rattle.probe.specs.Probed.{isPassed, Shown, Marks, said, saidOf, found, FilledReady, Filled, StoredReady, Stored, known};
 use bank::index;
+use bank::index::INDEX_WIDTH;
 use bank_fill::add::Grown;
 use bank_fill::context;
 use model::Row;
@@ -50,63 +52,44 @@ fn size_fits(words: &[u32]) -> bool
 }
 
 // T1 behind the test of the size; where it holds, the index and the holes are ready.
-fn passes(
-    words: &[u32],
-    counts: &[u8],
-    used: u16,
-    holes: &mut [u8],
-    head: &mut [u16],
-    next: &mut [u16],
-    mix: &mut [u32; 5],
-) -> bool
-    requires { ⌜ (length (now holes) ≡ mostRows) × (length (now head) ≡ mostRows) × (length (now next) ≡ mostRows) × (length (now mix) ≡ 5) ⌝ }
+fn passes(words: &[u32], counts: &[u8], used: u16, index: &mut [u16]) -> bool
+    requires { ⌜ length (now index) ≡ indexWidth * mostRows ⌝ }
     ensures { λ r. ⌜ r ≡ isPassed (now (words .entry)) (now (counts .entry)) used ⌝ }
-    ensures ready { λ r. ⌜ (r ≡ true → Ready (now (words .entry)) (now (counts .entry)) used (now (holes .exit)) (now (head .exit)) (now (next .exit)) (now (mix .exit))) ⌝ }
+    ensures ready { λ r. ⌜ (r ≡ true → Ready (now (words .entry)) (now (counts .entry)) used (now (index .exit))) ⌝ }
 {
     if !size_fits(words) {
         return false;
     }
-    bank_t1::t1(words, counts, used, holes, head, next, mix)
+    bank_t1::t1(words, counts, used, index)
 }
 
 // The first marks of holes, copied.
-fn show(holes: &[u8], used: u16, marks: &mut [u8])
-    requires { ⌜ (used ≤ length (now holes)) × (used ≤ length (now marks)) ⌝ }
-    ensures { λ _. ⌜ Shown (now (holes .entry)) used (now (marks .exit)) ⌝ }
+fn show(index: &[u16], used: u16, marks: &mut [u16])
+    requires { ⌜ (used ≤ sizeIn (now index)) × (used ≤ length (now marks)) ⌝ }
+    ensures { λ _. ⌜ Shown (now (index .entry)) used (now (marks .exit)) ⌝ }
 {
-    let n = used as usize;
-    let mut i = 0;
-    while i < n {
-        marks[i] = holes[i];
+    let mut i: u16 = 0;
+    while i < used {
+        let mark = index::hole_of(index, Row(i));
+        marks[i as usize] = mark;
         i += 1;
     }
 }
 
 // T1, and the places of holes where there is room for all.
 #[no_mangle]
-pub extern "C" fn probe_pass(words: &[u32], counts: &[u8], used: u16, marks: &mut [u8]) -> bool
+pub extern "C" fn probe_pass(words: &[u32], counts: &[u8], used: u16, marks: &mut [u16]) -> bool
     ensures { λ r. ⌜ r ≡ isPassed (now (words .entry)) (now (counts .entry)) used ⌝ }
     ensures marks { λ r. ⌜ Marks (now (words .entry)) (now (counts .entry)) used r (now (marks .exit)) ⌝ }
 {
-    let mut holes = [0u8; MOST_ROWS];
-    let mut head = [0u16; MOST_ROWS];
-    let mut next = [0u16; MOST_ROWS];
-    let mut mix = [0u32; 5];
-    if !passes(
-        words,
-        counts,
-        used,
-        &mut holes,
-        &mut head,
-        &mut next,
-        &mut mix,
-    ) {
+    let mut index = [0u16; INDEX_WIDTH * MOST_ROWS];
+    if !passes(words, counts, used, &mut index) {
         return false;
     }
     if marks.len() < used as usize {
         return true;
     }
-    show(&holes, used, marks);
+    show(&index, used, marks);
     true
 }
 
@@ -124,22 +107,11 @@ pub extern "C" fn probe_find(
 ) -> u16
     ensures { λ r. ⌜ r ≡ found (now (words .entry)) (now (counts .entry)) used symbol (k0 ∷ k1 ∷ k2 ∷ k3 ∷ []) ⌝ }
 {
-    let mut holes = [0u8; MOST_ROWS];
-    let mut head = [0u16; MOST_ROWS];
-    let mut next = [0u16; MOST_ROWS];
-    let mut mix = [0u32; 5];
-    if !passes(
-        words,
-        counts,
-        used,
-        &mut holes,
-        &mut head,
-        &mut next,
-        &mut mix,
-    ) {
+    let mut index = [0u16; INDEX_WIDTH * MOST_ROWS];
+    if !passes(words, counts, used, &mut index) {
         return 0;
     }
-    index::find(words, used, &head, &next, &mix, symbol, [k0, k1, k2, k3]).0
+    index::find(words, used, &index, symbol, [k0, k1, k2, k3]).0
 }
 
 // Refused.
@@ -176,36 +148,23 @@ fn filled(
     words: &mut [u32],
     counts: &[u8],
     used: u16,
-    holes: &mut [u8],
-    head: &mut [u16],
-    next: &mut [u16],
-    mix: &[u32; 5],
+    index: &mut [u16],
     context: u16,
     with: u16,
 ) -> Reply
-    requires { ⌜ Ready (now words) (now counts) used (now holes) (now head) (now next) (now mix) ⌝ }
+    requires { ⌜ Ready (now words) (now counts) used (now index) ⌝ }
     ensures { λ r. ⌜ FilledReady (now (words .entry)) (now (counts .entry)) used context with r (now (words .exit)) ⌝ }
 {
     if used <= context {
         return refused();
     }
-    if !bank_t1::has_hole(holes, Row(context)) {
+    if !bank_t1::has_hole(index, Row(context)) {
         return refused();
     }
     if used <= with {
         return refused();
     }
-    let grown = context::fill_context(
-        words,
-        counts,
-        used,
-        holes,
-        head,
-        next,
-        mix,
-        Row(context),
-        Row(with),
-    );
+    let grown = context::fill_context(words, counts, used, index, Row(context), Row(with));
     reply_of(grown)
 }
 
@@ -220,52 +179,22 @@ pub extern "C" fn probe_fill(
 ) -> Reply
     ensures { λ r. ⌜ Filled (now (words .entry)) (now (counts .entry)) used context with r (now (words .exit)) ⌝ }
 {
-    let mut holes = [0u8; MOST_ROWS];
-    let mut head = [0u16; MOST_ROWS];
-    let mut next = [0u16; MOST_ROWS];
-    let mut mix = [0u32; 5];
-    if !passes(
-        words,
-        counts,
-        used,
-        &mut holes,
-        &mut head,
-        &mut next,
-        &mut mix,
-    ) {
+    let mut index = [0u16; INDEX_WIDTH * MOST_ROWS];
+    if !passes(words, counts, used, &mut index) {
         return refused();
     }
-    filled(
-        words,
-        counts,
-        used,
-        &mut holes,
-        &mut head,
-        &mut next,
-        &mix,
-        context,
-        with,
-    )
+    filled(words, counts, used, &mut index, context, with)
 }
 
 // A listed record stored, unless it is at fault.
-fn stored(
-    words: &mut [u32],
-    counts: &[u8],
-    used: u16,
-    holes: &mut [u8],
-    head: &mut [u16],
-    next: &mut [u16],
-    mix: &[u32; 5],
-    symbols: &[u8],
-) -> Reply
-    requires { ⌜ Ready (now words) (now counts) used (now holes) (now head) (now next) (now mix) ⌝ }
+fn stored(words: &mut [u32], counts: &[u8], used: u16, index: &mut [u16], symbols: &[u8]) -> Reply
+    requires { ⌜ Ready (now words) (now counts) used (now index) ⌝ }
     ensures { λ r. ⌜ StoredReady (now (words .entry)) (now (counts .entry)) used (now (symbols .entry)) r (now (words .exit)) ⌝ }
 {
     if bank_listed::record_fault(counts, symbols) != 0 {
         return refused();
     }
-    let grown = bank_listed::store(words, counts, used, holes, head, next, mix, symbols);
+    let grown = bank_listed::store(words, counts, used, index, symbols);
     reply_of(grown)
 }
 
@@ -274,31 +203,11 @@ fn stored(
 pub extern "C" fn probe_store(words: &mut [u32], counts: &[u8], used: u16, symbols: &[u8]) -> Reply
     ensures { λ r. ⌜ Stored (now (words .entry)) (now (counts .entry)) used (now (symbols .entry)) r (now (words .exit)) ⌝ }
 {
-    let mut holes = [0u8; MOST_ROWS];
-    let mut head = [0u16; MOST_ROWS];
-    let mut next = [0u16; MOST_ROWS];
-    let mut mix = [0u32; 5];
-    if !passes(
-        words,
-        counts,
-        used,
-        &mut holes,
-        &mut head,
-        &mut next,
-        &mut mix,
-    ) {
+    let mut index = [0u16; INDEX_WIDTH * MOST_ROWS];
+    if !passes(words, counts, used, &mut index) {
         return refused();
     }
-    stored(
-        words,
-        counts,
-        used,
-        &mut holes,
-        &mut head,
-        &mut next,
-        &mix,
-        symbols,
-    )
+    stored(words, counts, used, &mut index, symbols)
 }
 
 // The row of a listed record; 0 for none, for one at fault, or where T1 does not hold.
@@ -306,23 +215,12 @@ pub extern "C" fn probe_store(words: &mut [u32], counts: &[u8], used: u16, symbo
 pub extern "C" fn probe_known(words: &[u32], counts: &[u8], used: u16, symbols: &[u8]) -> u16
     ensures { λ r. ⌜ r ≡ known (now (words .entry)) (now (counts .entry)) used (now (symbols .entry)) ⌝ }
 {
-    let mut holes = [0u8; MOST_ROWS];
-    let mut head = [0u16; MOST_ROWS];
-    let mut next = [0u16; MOST_ROWS];
-    let mut mix = [0u32; 5];
-    if !passes(
-        words,
-        counts,
-        used,
-        &mut holes,
-        &mut head,
-        &mut next,
-        &mut mix,
-    ) {
+    let mut index = [0u16; INDEX_WIDTH * MOST_ROWS];
+    if !passes(words, counts, used, &mut index) {
         return 0;
     }
     if bank_listed::record_fault(counts, symbols) != 0 {
         return 0;
     }
-    bank_listed::known_row(words, counts, used, &holes, &head, &next, &mix, symbols).0
+    bank_listed::known_row(words, counts, used, &index, symbols).0
 }

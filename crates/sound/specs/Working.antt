@@ -11,8 +11,8 @@ use Rattle.model.specs.Table.{Tables}
 use Rattle.model.specs.Sound.{isT1, contextsFew, isT5, isT6, isT7, isT8}
 use Rattle.model.specs.Entry.{storeOf, answersIn}
 use Rattle.bank.specs.Rows.{answerIn}
+use Rattle.bank.specs.Index.{Roomy}
 use Rattle.bank.specs.Ready.{Ready}
-use Rattle.bank_t1.specs.Pass as Rows
 use Rattle.table.specs.Answers.{Observed, Placing, Placed, gapFrom, isOpen}
 use Rattle.sound_roles.specs.Marked.{recordBy}
 use Rattle.table_verdict.specs.Rules.{RepsBy, hypothesis}
@@ -28,16 +28,15 @@ pub record Arrays (s : List ℕ) (q : ℕ) (t : List ℕ) (n : ℕ) (c : List �
   pub few-c : m ≤ mostContexts
 
 -- room to work in, for all rows lent and n transitions
-pub record Room (words : List ℕ) (n : ℕ) (holes head next mix table places reps : List ℕ) : Type 0 where
-  pub rows : Rows.Room words holes head next
-  pub mix-long : length mix ≡ 5
+pub record Room (words : List ℕ) (n : ℕ) (index table places reps : List ℕ) : Type 0 where
+  pub rows : Roomy words index
   pub table-long : mostContexts * n ≤ length table
   pub places-long : length places ≡ mostStates
   pub reps-long : length words ≤ rowWidth * length reps
 
 -- the index, the table of answers, S by its places in T; where no answer is missing, the representative of each transition
-pub record Working (words counts : List ℕ) (u : ℕ) (s : List ℕ) (q : ℕ) (t : List ℕ) (n : ℕ) (c : List ℕ) (m : ℕ) (holes head next mix table places reps : List ℕ) : Type 0 where
-  pub ready : Ready words counts u holes head next mix
+pub record Working (words counts : List ℕ) (u : ℕ) (s : List ℕ) (q : ℕ) (t : List ℕ) (n : ℕ) (c : List ℕ) (m : ℕ) (index table places reps : List ℕ) : Type 0 where
+  pub ready : Ready words counts u index
   pub observed : Observed (storeOf words counts u) (answersIn u words) t n c m table
   pub placing : Placing places q n
   pub placed : Placed t n s q places
@@ -52,6 +51,6 @@ abbrev pub judgedFit : Tables → Bool
 judgedFit x = (contextsFew x && (isT5 x && isT6 x)) && (isT7 x && isT8 x)
 
 -- T7 by the marks of holes and the hypothesis
-abbrev pub handFits : (words counts : List ℕ) → (u : ℕ) → (s : List ℕ) → (q : ℕ) → (t : List ℕ) → (n : ℕ) → (reps holes : List ℕ) → (hand : ℕ) → (missing : Bool) → Bool
-handFits ws ns u s q t n reps hs h b =
-    eqb h 0 || (recordBy hs u h && (eqb (answerIn ws h) (cond (acceptsRow (hypothesis ws ns u s q t n reps) (storeOf ws ns u) h) 1 2) && not b))
+abbrev pub handFits : (words counts : List ℕ) → (u : ℕ) → (s : List ℕ) → (q : ℕ) → (t : List ℕ) → (n : ℕ) → (reps index : List ℕ) → (hand : ℕ) → (missing : Bool) → Bool
+handFits ws ns u s q t n reps ix h b =
+    eqb h 0 || (recordBy ix u h && (eqb (answerIn ws h) (cond (acceptsRow (hypothesis ws ns u s q t n reps) (storeOf ws ns u) h) 1 2) && not b))

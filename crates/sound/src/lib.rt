@@ -8,8 +8,8 @@ ghost use Rattle.model.specs.Limits.{mostContexts, mostRules, mostStates};
 ghost use Rattle.model.specs.Base.{noRepeats, allAmong};
 ghost use Rattle.model.specs.Sound.{isSound};
 ghost use Rattle.model.specs.Entry.{storeOf, answersIn, sizeFits, listsFit, tablesOf};
+ghost use Rattle.bank.specs.Index.{Roomy};
 ghost use Rattle.bank.specs.Ready.{Ready};
-ghost use Rattle.bank_t1.specs.Pass as Rows;
 ghost use Rattle.table.specs.Answers.{Sized, Observed, Placing, Placed, gapFrom, isOpen};
 ghost use Rattle.table_verdict.specs.Rules.{RepsBy, Ruled};
 ghost use Rattle.sound_parts.specs.Given.{given};
@@ -55,50 +55,20 @@ fn prepare(
     rules: usize,
     c: &[u16; MOST_CONTEXTS],
     contexts: usize,
-    holes: &mut [u8],
-    head: &mut [u16],
-    next: &mut [u16],
-    mix: &mut [u32; 5],
+    index: &mut [u16],
     table: &mut [u8],
 ) -> bool
-    requires { ⌜ (sizeFits (now words) ≡ true) × Arrays (now s) states (now t) rules (now c) contexts × Rows.Room (now words) (now holes) (now head) (now next) × (length (now mix) ≡ 5) × (mostContexts * rules ≤ length (now table)) ⌝ }
+    requires { ⌜ (sizeFits (now words) ≡ true) × Arrays (now s) states (now t) rules (now c) contexts × Roomy (now words) (now index) × (mostContexts * rules ≤ length (now table)) ⌝ }
     ensures { λ r. ⌜ r ≡ preparedFit (given (now (words .entry)) (now (counts .entry)) used (now (s .entry)) states (now (t .entry)) rules (now (c .entry)) contexts 0 0 false) ⌝ }
-    ensures observed { λ r. ⌜ (r ≡ true → Ready (now (words .entry)) (now (counts .entry)) used (now (holes .exit)) (now (head .exit)) (now (next .exit)) (now (mix .exit)) × Observed (storeOf (now (words .entry)) (now (counts .entry)) used) (answersIn used (now (words .entry))) (now (t .entry)) rules (now (c .entry)) contexts (now (table .exit))) ⌝ }
+    ensures observed { λ r. ⌜ (r ≡ true → Ready (now (words .entry)) (now (counts .entry)) used (now (index .exit)) × Observed (storeOf (now (words .entry)) (now (counts .entry)) used) (answersIn used (now (words .entry))) (now (t .entry)) rules (now (c .entry)) contexts (now (table .exit))) ⌝ }
 {
-    if !bank_t1::t1(words, counts, used, holes, head, next, mix) {
+    if !bank_t1::t1(words, counts, used, index) {
         return false;
     }
-    if !judge::roles_fit(
-        words,
-        counts,
-        used,
-        holes,
-        head,
-        next,
-        mix,
-        s,
-        states,
-        t,
-        rules,
-        c,
-        contexts,
-    ) {
+    if !judge::roles_fit(words, counts, used, index, s, states, t, rules, c, contexts) {
         return false;
     }
-    table_answers::observe(
-        words,
-        counts,
-        used,
-        holes,
-        head,
-        next,
-        mix,
-        t,
-        rules,
-        c,
-        contexts,
-        table,
-    );
+    table_answers::observe(words, counts, used, index, t, rules, c, contexts, table);
     true
 }
 
@@ -111,21 +81,18 @@ fn hand_fits(
     states: usize,
     t: &[u16; MOST_RULES],
     rules: usize,
-    holes: &[u8],
-    head: &[u16],
-    next: &[u16],
-    mix: &[u32; 5],
+    index: &[u16],
     reps: &[u16],
     hand: u16,
     missing: bool,
 ) -> bool
-    requires { ⌜ Ready (now words) (now counts) used (now holes) (now head) (now next) (now mix) × (missing ≡ false → Ruled (storeOf (now words) (now counts) used) (take states (now s)) (take rules (now t)) (now reps)) ⌝ }
-    ensures { λ r. ⌜ r ≡ handFits (now (words .entry)) (now (counts .entry)) used (now (s .entry)) states (now (t .entry)) rules (now (reps .entry)) (now (holes .entry)) hand missing ⌝ }
+    requires { ⌜ Ready (now words) (now counts) used (now index) × (missing ≡ false → Ruled (storeOf (now words) (now counts) used) (take states (now s)) (take rules (now t)) (now reps)) ⌝ }
+    ensures { λ r. ⌜ r ≡ handFits (now (words .entry)) (now (counts .entry)) used (now (s .entry)) states (now (t .entry)) rules (now (reps .entry)) (now (index .entry)) hand missing ⌝ }
 {
     if hand == 0 {
         return true;
     }
-    if !sound_roles::is_record(used, holes, Row(hand)) {
+    if !sound_roles::is_record(used, index, Row(hand)) {
         return false;
     }
     if missing {
@@ -136,10 +103,7 @@ fn hand_fits(
         words,
         counts,
         used,
-        holes,
-        head,
-        next,
-        mix,
+        index,
         s,
         states,
         t,
@@ -170,17 +134,14 @@ fn judged(
     rules: usize,
     c: &[u16; MOST_CONTEXTS],
     contexts: usize,
-    holes: &[u8],
-    head: &[u16],
-    next: &[u16],
-    mix: &[u32; 5],
+    index: &[u16],
     table: &[u8],
     places: &[u16; MOST_STATES],
     reps: &[u16],
     standing: Standing,
     missing: bool,
 ) -> bool
-    requires { ⌜ Arrays (now s) states (now t) rules (now c) contexts × Working (now words) (now counts) used (now s) states (now t) rules (now c) contexts (now holes) (now head) (now next) (now mix) (now table) (now places) (now reps) × (preparedFit (given (now words) (now counts) used (now s) states (now t) rules (now c) contexts 0 0 false) ≡ true) × (missing ≡ isOpen (gapFrom (now table) contexts 0 rules)) ⌝ }
+    requires { ⌜ Arrays (now s) states (now t) rules (now c) contexts × Working (now words) (now counts) used (now s) states (now t) rules (now c) contexts (now index) (now table) (now places) (now reps) × (preparedFit (given (now words) (now counts) used (now s) states (now t) rules (now c) contexts 0 0 false) ≡ true) × (missing ≡ isOpen (gapFrom (now table) contexts 0 rules)) ⌝ }
     ensures { λ r. ⌜ r ≡ judgedFit (given (now (words .entry)) (now (counts .entry)) used (now (s .entry)) states (now (t .entry)) rules (now (c .entry)) contexts (standing .hand) (standing .asked) (eqb (standing .accepted) 1)) ⌝ }
 {
     if !judge::table_fits(table, places, states, rules, contexts, missing) {
@@ -194,10 +155,7 @@ fn judged(
         states,
         t,
         rules,
-        holes,
-        head,
-        next,
-        mix,
+        index,
         reps,
         standing.hand,
         missing,
@@ -207,7 +165,7 @@ fn judged(
     judge::question_fits(
         words,
         used,
-        holes,
+        index,
         standing.hand,
         standing.asked,
         standing.accepted,
@@ -227,17 +185,14 @@ fn is_sound(
     c: &[u16; MOST_CONTEXTS],
     contexts: usize,
     standing: Standing,
-    holes: &mut [u8],
-    head: &mut [u16],
-    next: &mut [u16],
-    mix: &mut [u32; 5],
+    index: &mut [u16],
     table: &mut [u8],
     places: &mut [u16; MOST_STATES],
     reps: &mut [u16],
 ) -> bool
-    requires { ⌜ (sizeFits (now words) ≡ true) × Arrays (now s) states (now t) rules (now c) contexts × Room (now words) rules (now holes) (now head) (now next) (now mix) (now table) (now places) (now reps) ⌝ }
+    requires { ⌜ (sizeFits (now words) ≡ true) × Arrays (now s) states (now t) rules (now c) contexts × Room (now words) rules (now index) (now table) (now places) (now reps) ⌝ }
     ensures { λ r. ⌜ r ≡ isSound (given (now (words .entry)) (now (counts .entry)) used (now (s .entry)) states (now (t .entry)) rules (now (c .entry)) contexts (standing .hand) (standing .asked) (eqb (standing .accepted) 1)) ⌝ }
-    ensures working { λ r. ⌜ (r ≡ true → Working (now (words .entry)) (now (counts .entry)) used (now (s .entry)) states (now (t .entry)) rules (now (c .entry)) contexts (now (holes .exit)) (now (head .exit)) (now (next .exit)) (now (mix .exit)) (now (table .exit)) (now (places .exit)) (now (reps .exit))) ⌝ }
+    ensures working { λ r. ⌜ (r ≡ true → Working (now (words .entry)) (now (counts .entry)) used (now (s .entry)) states (now (t .entry)) rules (now (c .entry)) contexts (now (index .exit)) (now (table .exit)) (now (places .exit)) (now (reps .exit))) ⌝ }
 {
     if !prepare(
         words,
@@ -249,10 +204,7 @@ fn is_sound(
         rules,
         c,
         contexts,
-        holes,
-        head,
-        next,
-        mix,
+        index,
         table,
     ) {
         return false;
@@ -268,10 +220,7 @@ fn is_sound(
         rules,
         c,
         contexts,
-        holes,
-        head,
-        next,
-        mix,
+        index,
         table,
         places,
         reps,
@@ -284,17 +233,14 @@ fn is_sound(
 pub fn lists_sound(
     words: &[u32],
     lists: Lists,
-    holes: &mut [u8],
-    head: &mut [u16],
-    next: &mut [u16],
-    mix: &mut [u32; 5],
+    index: &mut [u16],
     table: &mut [u8],
     places: &mut [u16; MOST_STATES],
     reps: &mut [u16],
 ) -> bool
-    requires { ⌜ (sizeFits (now words) ≡ true) × (listsFit lists ≡ true) × Room (now words) (lists .rules) (now holes) (now head) (now next) (now mix) (now table) (now places) (now reps) ⌝ }
+    requires { ⌜ (sizeFits (now words) ≡ true) × (listsFit lists ≡ true) × Room (now words) (lists .rules) (now index) (now table) (now places) (now reps) ⌝ }
     ensures { λ r. ⌜ r ≡ isSound (tablesOf (now (words .entry)) lists) ⌝ }
-    ensures working { λ r. ⌜ (r ≡ true → Working (now (words .entry)) (take (lists .letters) (lists .counts)) (lists .used) (lists .s) (lists .states) (lists .t) (lists .rules) (lists .c) (lists .contexts) (now (holes .exit)) (now (head .exit)) (now (next .exit)) (now (mix .exit)) (now (table .exit)) (now (places .exit)) (now (reps .exit))) ⌝ }
+    ensures working { λ r. ⌜ (r ≡ true → Working (now (words .entry)) (take (lists .letters) (lists .counts)) (lists .used) (lists .s) (lists .states) (lists .t) (lists .rules) (lists .c) (lists .contexts) (now (index .exit)) (now (table .exit)) (now (places .exit)) (now (reps .exit))) ⌝ }
 {
     let letters = lists.letters as usize;
     let counts = lists.counts;
@@ -317,10 +263,7 @@ pub fn lists_sound(
         &c,
         lists.contexts as usize,
         standing,
-        holes,
-        head,
-        next,
-        mix,
+        index,
         table,
         places,
         reps,

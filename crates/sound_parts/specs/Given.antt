@@ -32,5 +32,5 @@ tableFits tb ps q n m b =
 
 -- T8 by the marks of holes
 abbrev pub questionFits : (words holes : List ℕ) → (u hand asked accepted : ℕ) → (missing : Bool) → Bool
-questionFits ws hs u h o z b =
-    cond (eqb o 0) (eqb h 0 && not b) (recordBy hs u o && (eqb (answerIn ws o) 0 && not (eqb z 1)))
+questionFits ws ix u h o z b =
+    cond (eqb o 0) (eqb h 0 && not b) (recordBy ix u o && (eqb (answerIn ws o) 0 && not (eqb z 1)))

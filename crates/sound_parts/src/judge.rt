@@ -6,6 +6,7 @@ ghost use lib.ListN.{length, take};
 ghost use Rattle.model.specs.Limits.{mostContexts, mostRules, mostStates, rowWidth};
 ghost use Rattle.model.specs.Base.{allAmong};
 ghost use Rattle.bank.specs.Ready.{Ready};
+ghost use Rattle.bank.specs.Index.{sizeIn};
 ghost use Rattle.table.specs.Answers.{Sized, gapFrom, isOpen, Placing, Placed};
 ghost use Rattle.sound_parts.specs.Given.{given, rolesFit, fewFit, tableFits, questionFits};
 use bank::rows;
@@ -21,10 +22,7 @@ pub fn roles_fit(
     words: &[u32],
     counts: &[u8],
     used: u16,
-    holes: &[u8],
-    head: &[u16],
-    next: &[u16],
-    mix: &[u32; 5],
+    index: &[u16],
     s: &[u16; MOST_STATES],
     states: usize,
     t: &[u16; MOST_RULES],
@@ -32,28 +30,16 @@ pub fn roles_fit(
     c: &[u16; MOST_CONTEXTS],
     contexts: usize,
 ) -> bool
-    requires { ⌜ Ready (now words) (now counts) used (now holes) (now head) (now next) (now mix) × (length (now s) ≡ mostStates) × (states ≤ mostStates) × (length (now t) ≡ mostRules) × (rules ≤ mostRules) × (length (now c) ≡ mostContexts) × (contexts ≤ mostContexts) ⌝ }
+    requires { ⌜ Ready (now words) (now counts) used (now index) × (length (now s) ≡ mostStates) × (states ≤ mostStates) × (length (now t) ≡ mostRules) × (rules ≤ mostRules) × (length (now c) ≡ mostContexts) × (contexts ≤ mostContexts) ⌝ }
     ensures { λ r. ⌜ r ≡ rolesFit (given (now (words .entry)) (now (counts .entry)) used (now (s .entry)) states (now (t .entry)) rules (now (c .entry)) contexts 0 0 false) ⌝ }
 {
-    if !sound_roles::transitions::t2(
-        words,
-        counts,
-        used,
-        holes,
-        head,
-        next,
-        mix,
-        t,
-        rules,
-        s,
-        states,
-    ) {
+    if !sound_roles::transitions::t2(words, counts, used, index, t, rules, s, states) {
         return false;
     }
     if !sound_roles::t3(s, states, t, rules) {
         return false;
     }
-    sound_roles::contexts_fit(used, holes, states + rules, c, contexts)
+    sound_roles::contexts_fit(used, index, states + rules, c, contexts)
 }
 
 // The places of S in T.
@@ -131,14 +117,14 @@ pub fn table_fits(
 pub fn question_fits(
     words: &[u32],
     used: u16,
-    holes: &[u8],
+    index: &[u16],
     hand: u16,
     asked: u16,
     accepted: u8,
     missing: bool,
 ) -> bool
-    requires { ⌜ (used ≤ length (now holes)) × (rowWidth * used ≤ length (now words)) ⌝ }
-    ensures { λ r. ⌜ r ≡ questionFits (now (words .entry)) (now (holes .entry)) used hand asked accepted missing ⌝ }
+    requires { ⌜ (used ≤ sizeIn (now index)) × (rowWidth * used ≤ length (now words)) ⌝ }
+    ensures { λ r. ⌜ r ≡ questionFits (now (words .entry)) (now (index .entry)) used hand asked accepted missing ⌝ }
 {
     if asked == 0 {
         if hand != 0 {
@@ -146,7 +132,7 @@ pub fn question_fits(
         }
         return !missing;
     }
-    if !sound_roles::is_record(used, holes, Row(asked)) {
+    if !sound_roles::is_record(used, index, Row(asked)) {
         return false;
     }
     if rows::answer_of(words, Row(asked)) != 0 {

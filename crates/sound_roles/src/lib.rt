@@ -5,44 +5,45 @@ ghost use mathlib.Core.Bool.{_&&_};
 ghost use Prim.Native.Nat.{_+_, _<_, _≤_};
 ghost use lib.ListN.{length, take};
 ghost use Rattle.model.specs.Base.{noRepeats, allAmong};
+ghost use Rattle.bank.specs.Index.{sizeIn};
 ghost use Rattle.sound_roles.specs.Marked.{recordBy, contextBy, recordsBy, contextsBy, contextsFitBy};
 use model::Row;
 
 pub mod transitions; // transitions.rt: T2
 
 // Whether a number is that of a used row without a hole.
-pub fn is_record(used: u16, holes: &[u8], row: Row) -> bool
-    requires { ⌜ used ≤ length (now holes) ⌝ }
-    ensures { λ r. ⌜ r ≡ recordBy (now (holes .entry)) used (row .0) ⌝ }
+pub fn is_record(used: u16, index: &[u16], row: Row) -> bool
+    requires { ⌜ used ≤ sizeIn (now index) ⌝ }
+    ensures { λ r. ⌜ r ≡ recordBy (now (index .entry)) used (row .0) ⌝ }
 {
     let i = row.0;
     if used <= i {
         return false;
     }
-    !bank_t1::has_hole(holes, row)
+    !bank_t1::has_hole(index, row)
 }
 
 // Whether a number is that of a used row with a hole.
-pub fn is_context(used: u16, holes: &[u8], row: Row) -> bool
-    requires { ⌜ used ≤ length (now holes) ⌝ }
-    ensures { λ r. ⌜ r ≡ contextBy (now (holes .entry)) used (row .0) ⌝ }
+pub fn is_context(used: u16, index: &[u16], row: Row) -> bool
+    requires { ⌜ used ≤ sizeIn (now index) ⌝ }
+    ensures { λ r. ⌜ r ≡ contextBy (now (index .entry)) used (row .0) ⌝ }
 {
     let i = row.0;
     if used <= i {
         return false;
     }
-    bank_t1::has_hole(holes, row)
+    bank_t1::has_hole(index, row)
 }
 
 // Whether the first n of a list are all records.
-pub fn all_records(used: u16, holes: &[u8], xs: &[u16], n: usize) -> bool
-    requires { ⌜ (used ≤ length (now holes)) × (n ≤ length (now xs)) ⌝ }
-    ensures { λ r. ⌜ r ≡ recordsBy (now (holes .entry)) used (take n (now (xs .entry))) ⌝ }
+pub fn all_records(used: u16, index: &[u16], xs: &[u16], n: usize) -> bool
+    requires { ⌜ (used ≤ sizeIn (now index)) × (n ≤ length (now xs)) ⌝ }
+    ensures { λ r. ⌜ r ≡ recordsBy (now (index .entry)) used (take n (now (xs .entry))) ⌝ }
 {
     let mut i = 0;
     while i < n {
         let row = Row(xs[i]);
-        if !is_record(used, holes, row) {
+        if !is_record(used, index, row) {
             return false;
         }
         i += 1;
@@ -51,14 +52,14 @@ pub fn all_records(used: u16, holes: &[u8], xs: &[u16], n: usize) -> bool
 }
 
 // Whether the first n of a list are all contexts.
-pub fn all_contexts(used: u16, holes: &[u8], xs: &[u16], n: usize) -> bool
-    requires { ⌜ (used ≤ length (now holes)) × (n ≤ length (now xs)) ⌝ }
-    ensures { λ r. ⌜ r ≡ contextsBy (now (holes .entry)) used (take n (now (xs .entry))) ⌝ }
+pub fn all_contexts(used: u16, index: &[u16], xs: &[u16], n: usize) -> bool
+    requires { ⌜ (used ≤ sizeIn (now index)) × (n ≤ length (now xs)) ⌝ }
+    ensures { λ r. ⌜ r ≡ contextsBy (now (index .entry)) used (take n (now (xs .entry))) ⌝ }
 {
     let mut i = 0;
     while i < n {
         let row = Row(xs[i]);
-        if !is_context(used, holes, row) {
+        if !is_context(used, index, row) {
             return false;
         }
         i += 1;
@@ -78,9 +79,9 @@ pub fn t3(s: &[u16], states: usize, t: &[u16], rules: usize) -> bool
 }
 
 // T4 but for its last clause: row 0 first, contexts, none twice, at most one more than S and T have members.
-pub fn contexts_fit(used: u16, holes: &[u8], size: usize, c: &[u16], n: usize) -> bool
-    requires { ⌜ (used ≤ length (now holes)) × (n ≤ length (now c)) × (size < 1000) ⌝ }
-    ensures { λ r. ⌜ r ≡ contextsFitBy (now (holes .entry)) used size (take n (now (c .entry))) ⌝ }
+pub fn contexts_fit(used: u16, index: &[u16], size: usize, c: &[u16], n: usize) -> bool
+    requires { ⌜ (used ≤ sizeIn (now index)) × (n ≤ length (now c)) × (size < 1000) ⌝ }
+    ensures { λ r. ⌜ r ≡ contextsFitBy (now (index .entry)) used size (take n (now (c .entry))) ⌝ }
 {
     if n == 0 {
         return false;
@@ -88,7 +89,7 @@ pub fn contexts_fit(used: u16, holes: &[u8], size: usize, c: &[u16], n: usize) -
     if c[0] != 0 {
         return false;
     }
-    if !all_contexts(used, holes, c, n) {
+    if !all_contexts(used, index, c, n) {
         return false;
     }
     if !run_lists::no_repeats(c, n) {

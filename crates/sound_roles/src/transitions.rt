@@ -15,15 +15,12 @@ fn kids_in(
     words: &[u32],
     counts: &[u8],
     used: u16,
-    holes: &[u8],
-    head: &[u16],
-    next: &[u16],
-    mix: &[u32; 5],
+    index: &[u16],
     row: Row,
     s: &[u16],
     states: usize,
 ) -> bool
-    requires { ⌜ Ready (now words) (now counts) used (now holes) (now head) (now next) (now mix) × (0 < row .0) × (row .0 < used) × (states ≤ length (now s)) ⌝ }
+    requires { ⌜ Ready (now words) (now counts) used (now index) × (0 < row .0) × (row .0 < used) × (states ≤ length (now s)) ⌝ }
     ensures { λ r. ⌜ r ≡ allAmong (kidsAt (storeOf (now (words .entry)) (now (counts .entry)) used) (row .0)) (take states (now (s .entry))) ⌝ }
 {
     let symbol = rows::symbol_of(words, row);
@@ -44,22 +41,19 @@ fn all_kids_in(
     words: &[u32],
     counts: &[u8],
     used: u16,
-    holes: &[u8],
-    head: &[u16],
-    next: &[u16],
-    mix: &[u32; 5],
+    index: &[u16],
     t: &[u16],
     rules: usize,
     s: &[u16],
     states: usize,
 ) -> bool
-    requires { ⌜ Ready (now words) (now counts) used (now holes) (now head) (now next) (now mix) × (rules ≤ length (now t)) × (states ≤ length (now s)) × (all (isRecord (storeOf (now words) (now counts) used)) (take rules (now t)) ≡ true) ⌝ }
+    requires { ⌜ Ready (now words) (now counts) used (now index) × (rules ≤ length (now t)) × (states ≤ length (now s)) × (all (isRecord (storeOf (now words) (now counts) used)) (take rules (now t)) ≡ true) ⌝ }
     ensures { λ r. ⌜ r ≡ all (λ (i : ℕ). allAmong (kidsAt (storeOf (now (words .entry)) (now (counts .entry)) used) i) (take states (now (s .entry)))) (take rules (now (t .entry))) ⌝ }
 {
     let mut k = 0;
     while k < rules {
         let row = Row(t[k]);
-        if !kids_in(words, counts, used, holes, head, next, mix, row, s, states) {
+        if !kids_in(words, counts, used, index, row, s, states) {
             return false;
         }
         k += 1;
@@ -72,35 +66,20 @@ pub fn t2(
     words: &[u32],
     counts: &[u8],
     used: u16,
-    holes: &[u8],
-    head: &[u16],
-    next: &[u16],
-    mix: &[u32; 5],
+    index: &[u16],
     t: &[u16],
     rules: usize,
     s: &[u16],
     states: usize,
 ) -> bool
-    requires { ⌜ Ready (now words) (now counts) used (now holes) (now head) (now next) (now mix) × (rules ≤ length (now t)) × (states ≤ length (now s)) ⌝ }
+    requires { ⌜ Ready (now words) (now counts) used (now index) × (rules ≤ length (now t)) × (states ≤ length (now s)) ⌝ }
     ensures { λ r. ⌜ r ≡ noRepeats (take rules (now (t .entry))) && (all (isRecord (storeOf (now (words .entry)) (now (counts .entry)) used)) (take rules (now (t .entry))) && all (λ (i : ℕ). allAmong (kidsAt (storeOf (now (words .entry)) (now (counts .entry)) used) i) (take states (now (s .entry)))) (take rules (now (t .entry)))) ⌝ }
 {
     if !run_lists::no_repeats(t, rules) {
         return false;
     }
-    if !crate::all_records(used, holes, t, rules) {
+    if !crate::all_records(used, index, t, rules) {
         return false;
     }
-    all_kids_in(
-        words,
-        counts,
-        used,
-        holes,
-        head,
-        next,
-        mix,
-        t,
-        rules,
-        s,
-        states,
-    )
+    all_kids_in(words, counts, used, index, t, rules, s, states)
 }

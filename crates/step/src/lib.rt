@@ -21,16 +21,13 @@ use step_search::Found;
 fn find(
     words: &[u32],
     lists: Lists,
-    holes: &[u8],
-    head: &[u16],
-    next: &[u16],
-    mix: &[u32; 5],
+    index: &[u16],
     reps: &[u16],
-    down: &mut [u8],
+    down: &mut [u16],
     at: &mut [u16],
     exchanged: &mut [u16],
 ) -> Found
-    requires { ⌜ Stepping (now words) lists (now holes) (now head) (now next) (now mix) × InHand (now words) lists (now reps) × (lists .used ≤ length (now down)) × (lists .used ≤ length (now at)) × (lists .used ≤ length (now exchanged)) ⌝ }
+    requires { ⌜ Stepping (now words) lists (now index) × InHand (now words) lists (now reps) × (lists .used ≤ length (now down)) × (lists .used ≤ length (now at)) × (lists .used ≤ length (now exchanged)) ⌝ }
     ensures { λ r. ⌜ Descended (tablesOf (now (words .entry)) lists .s) (now (reps .entry)) (tablesOf (now (words .entry)) lists .store) (now (down .exit)) (now (at .exit)) (now (exchanged .exit)) (lists .used) ⌝ }
     ensures ended { λ r. ⌜ searchBy (tablesOf (now (words .entry)) lists .s) (now (reps .entry)) (tablesOf (now (words .entry)) lists .store) r ≡ search (tablesOf (now (words .entry)) lists .store) (tablesOf (now (words .entry)) lists .answers) (tablesOf (now (words .entry)) lists .s) (tablesOf (now (words .entry)) lists .t) (tablesOf (now (words .entry)) lists .c) (lists .hand) ⌝ }
 {
@@ -43,10 +40,7 @@ fn find(
         words,
         &counts[..letters],
         lists.used,
-        holes,
-        head,
-        next,
-        mix,
+        index,
         &s,
         lists.states as usize,
         &t,
@@ -65,71 +59,38 @@ fn find(
 fn in_hand_with(
     words: &mut [u32],
     lists: Lists,
-    holes: &mut [u8],
-    head: &mut [u16],
-    next: &mut [u16],
-    mix: &[u32; 5],
+    index: &mut [u16],
     table: &mut [u8],
     reps: &[u16],
-    down: &mut [u8],
+    down: &mut [u16],
     at: &mut [u16],
     exchanged: &mut [u16],
 ) -> Stepped
-    requires { ⌜ Stepping (now words) lists (now holes) (now head) (now next) (now mix) × (mostContexts * (lists .rules + 1) ≤ length (now table)) × InHand (now words) lists (now reps) × (lists .hand ≡ 0 → ⊥) × (lists .used ≤ length (now down)) × (lists .used ≤ length (now at)) × (lists .used ≤ length (now exchanged)) ⌝ }
+    requires { ⌜ Stepping (now words) lists (now index) × (mostContexts * (lists .rules + 1) ≤ length (now table)) × InHand (now words) lists (now reps) × (lists .hand ≡ 0 → ⊥) × (lists .used ≤ length (now down)) × (lists .used ≤ length (now at)) × (lists .used ≤ length (now exchanged)) ⌝ }
     ensures { λ r. ⌜ EndedAs (now (words .entry)) lists (advanceOf (tablesOf (now (words .entry)) lists)) r (now (words .exit)) ⌝ }
 {
-    let found = find(
-        words,
-        lists,
-        holes,
-        head,
-        next,
-        mix,
-        reps,
-        down,
-        at,
-        exchanged,
-    );
-    step_found::ended_at(
-        words,
-        lists,
-        holes,
-        head,
-        next,
-        mix,
-        table,
-        reps,
-        down,
-        at,
-        exchanged,
-        found,
-    )
+    let found = find(words, lists, index, reps, down, at, exchanged);
+    step_found::ended_at(words, lists, index, table, reps, down, at, exchanged, found)
 }
 
 // The same where few rows are used.
 fn in_hand_few(
     words: &mut [u32],
     lists: Lists,
-    holes: &mut [u8],
-    head: &mut [u16],
-    next: &mut [u16],
-    mix: &[u32; 5],
+    index: &mut [u16],
     table: &mut [u8],
     reps: &[u16],
 ) -> Stepped
-    requires { ⌜ Stepping (now words) lists (now holes) (now head) (now next) (now mix) × (mostContexts * (lists .rules + 1) ≤ length (now table)) × InHand (now words) lists (now reps) × (lists .hand ≡ 0 → ⊥) × (lists .used ≤ smallRows) ⌝ }
+    requires { ⌜ Stepping (now words) lists (now index) × (mostContexts * (lists .rules + 1) ≤ length (now table)) × InHand (now words) lists (now reps) × (lists .hand ≡ 0 → ⊥) × (lists .used ≤ smallRows) ⌝ }
     ensures { λ r. ⌜ EndedAs (now (words .entry)) lists (advanceOf (tablesOf (now (words .entry)) lists)) r (now (words .exit)) ⌝ }
 {
-    let mut down = [0u8; SMALL_ROWS];
+    let mut down = [0u16; SMALL_ROWS];
     let mut at = [0u16; SMALL_ROWS];
     let mut exchanged = [0u16; SMALL_ROWS];
     in_hand_with(
         words,
         lists,
-        holes,
-        head,
-        next,
-        mix,
+        index,
         table,
         reps,
         &mut down,
@@ -142,29 +103,23 @@ fn in_hand_few(
 pub fn in_hand(
     words: &mut [u32],
     lists: Lists,
-    holes: &mut [u8],
-    head: &mut [u16],
-    next: &mut [u16],
-    mix: &[u32; 5],
+    index: &mut [u16],
     table: &mut [u8],
     reps: &[u16],
 ) -> Stepped
-    requires { ⌜ Stepping (now words) lists (now holes) (now head) (now next) (now mix) × (mostContexts * (lists .rules + 1) ≤ length (now table)) × InHand (now words) lists (now reps) × (lists .hand ≡ 0 → ⊥) ⌝ }
+    requires { ⌜ Stepping (now words) lists (now index) × (mostContexts * (lists .rules + 1) ≤ length (now table)) × InHand (now words) lists (now reps) × (lists .hand ≡ 0 → ⊥) ⌝ }
     ensures { λ r. ⌜ EndedAs (now (words .entry)) lists (advanceOf (tablesOf (now (words .entry)) lists)) r (now (words .exit)) ⌝ }
 {
     if lists.used as usize <= SMALL_ROWS {
-        return in_hand_few(words, lists, holes, head, next, mix, table, reps);
+        return in_hand_few(words, lists, index, table, reps);
     }
-    let mut down = [0u8; MOST_ROWS];
+    let mut down = [0u16; MOST_ROWS];
     let mut at = [0u16; MOST_ROWS];
     let mut exchanged = [0u16; MOST_ROWS];
     in_hand_with(
         words,
         lists,
-        holes,
-        head,
-        next,
-        mix,
+        index,
         table,
         reps,
         &mut down,
@@ -177,18 +132,15 @@ pub fn in_hand(
 pub fn advance(
     words: &mut [u32],
     lists: Lists,
-    holes: &mut [u8],
-    head: &mut [u16],
-    next: &mut [u16],
-    mix: &[u32; 5],
+    index: &mut [u16],
     table: &mut [u8],
     reps: &[u16],
 ) -> Stepped
-    requires { ⌜ Stepping (now words) lists (now holes) (now head) (now next) (now mix) × (mostContexts * (lists .rules + 1) ≤ length (now table)) × ((lists .hand ≡ 0 → ⊥) → InHand (now words) lists (now reps)) × (lists .hand ≡ 0 → KnownTable (now words) lists (now table)) × (lists .asked ≡ 0) × (lists .accepted ≡ 0) ⌝ }
+    requires { ⌜ Stepping (now words) lists (now index) × (mostContexts * (lists .rules + 1) ≤ length (now table)) × ((lists .hand ≡ 0 → ⊥) → InHand (now words) lists (now reps)) × (lists .hand ≡ 0 → KnownTable (now words) lists (now table)) × (lists .asked ≡ 0) × (lists .accepted ≡ 0) ⌝ }
     ensures { λ r. ⌜ EndedAs (now (words .entry)) lists (advanceOf (tablesOf (now (words .entry)) lists)) r (now (words .exit)) ⌝ }
 {
     if lists.hand == 0 {
-        return finish::finish(words, lists, holes, head, next, mix, table);
+        return finish::finish(words, lists, index, table);
     }
-    in_hand(words, lists, holes, head, next, mix, table, reps)
+    in_hand(words, lists, index, table, reps)
 }

@@ -30,8 +30,8 @@ abbrev pub countsIn : Lists → List ℕ
 countsIn l = take (l .letters) (l .counts)
 
 -- WHAT A STEP NEEDS: orderly tables in lists that fit, and a right index over them
-pub record Stepping (words : List ℕ) (l : Lists) (holes head next mix : List ℕ) : Type 0 where
-  pub ready : Ready words (countsIn l) (l .used) holes head next mix
+pub record Stepping (words : List ℕ) (l : Lists) (index : List ℕ) : Type 0 where
+  pub ready : Ready words (countsIn l) (l .used) index
   pub orderly : Orderly (tablesOf words l)
   pub fit : listsFit l ≡ true
 

@@ -69,16 +69,8 @@ fn left_by(step: Step, lists: Lists, s: [u16; MOST_STATES]) -> Stepped
 }
 
 // Nothing in hand: the first unknown is asked, or the automaton is proposed. Rows of the table without an unknown answer are right.
-pub fn finish(
-    words: &mut [u32],
-    lists: Lists,
-    holes: &mut [u8],
-    head: &mut [u16],
-    next: &mut [u16],
-    mix: &[u32; 5],
-    table: &mut [u8],
-) -> Stepped
-    requires { ⌜ Stepping (now words) lists (now holes) (now head) (now next) (now mix) × KnownTable (now words) lists (now table) × (lists .hand ≡ 0) × (lists .asked ≡ 0) × (lists .accepted ≡ 0) ⌝ }
+pub fn finish(words: &mut [u32], lists: Lists, index: &mut [u16], table: &mut [u8]) -> Stepped
+    requires { ⌜ Stepping (now words) lists (now index) × KnownTable (now words) lists (now table) × (lists .hand ≡ 0) × (lists .asked ≡ 0) × (lists .accepted ≡ 0) ⌝ }
     ensures { λ r. ⌜ EndedAs (now (words .entry)) lists (settled (tablesOf (now (words .entry)) lists)) r (now (words .exit)) ⌝ }
 {
     let letters = lists.letters as usize;
@@ -90,10 +82,7 @@ pub fn finish(
         words,
         &counts[..letters],
         lists.used,
-        holes,
-        head,
-        next,
-        mix,
+        index,
         &mut s,
         lists.states as usize,
         &t,

@@ -38,15 +38,12 @@ fn with_context(lists: Lists, context: Row, used: u16) -> Lists
 pub fn put_down(
     words: &mut [u32],
     lists: Lists,
-    holes: &mut [u8],
-    head: &mut [u16],
-    next: &mut [u16],
-    mix: &[u32; 5],
+    index: &mut [u16],
     table: &mut [u8],
-    down: &[u8],
+    down: &[u16],
     hand: Row,
 ) -> Stepped
-    requires { ⌜ Stepping (now words) lists (now holes) (now head) (now next) (now mix) × (mostContexts * lists .rules ≤ length (now table)) × (lists .used ≤ length (now down)) × (lists .contexts < mostContexts) × IsRecord (tablesOf (now words) lists .store) (hand .0) × Fits (tablesOf (now words) lists .store) (pathOf (now down) (tablesOf (now words) lists .store) (hand .0)) ⌝ }
+    requires { ⌜ Stepping (now words) lists (now index) × (mostContexts * lists .rules ≤ length (now table)) × (lists .used ≤ length (now down)) × (lists .contexts < mostContexts) × IsRecord (tablesOf (now words) lists .store) (hand .0) × Fits (tablesOf (now words) lists .store) (pathOf (now down) (tablesOf (now words) lists .store) (hand .0)) ⌝ }
     ensures { λ r. ⌜ EndedAs (now (words .entry)) lists (putDown (tablesOf (now (words .entry)) lists) (pathOf (now (down .entry)) (tablesOf (now (words .entry)) lists .store) (hand .0))) r (now (words .exit)) ⌝ }
 {
     let letters = lists.letters as usize;
@@ -55,10 +52,7 @@ pub fn put_down(
         words,
         &counts[..letters],
         lists.used,
-        holes,
-        head,
-        next,
-        mix,
+        index,
         down,
         hand,
         Row(0),
@@ -67,7 +61,7 @@ pub fn put_down(
         Grown::At(context, n) => {
             let left = with_context(lists, context, n);
             table::forget(table, left.rules as usize);
-            finish::finish(words, left, holes, head, next, mix, table)
+            finish::finish(words, left, index, table)
         }
     }
 }

@@ -36,38 +36,32 @@ fn with_rule(lists: Lists, row: Row) -> Lists
 fn new_transition(
     words: &mut [u32],
     lists: Lists,
-    holes: &mut [u8],
-    head: &mut [u16],
-    next: &mut [u16],
-    mix: &[u32; 5],
+    index: &mut [u16],
     table: &mut [u8],
-    down: &[u8],
+    down: &[u16],
     hand: Row,
     spot: Row,
 ) -> Stepped
-    requires { ⌜ Stepping (now words) lists (now holes) (now head) (now next) (now mix) × (mostContexts * (lists .rules + 1) ≤ length (now table)) × (lists .used ≤ length (now down)) × (lists .contexts < mostContexts) × IsRecord (tablesOf (now words) lists .store) (hand .0) × IsRecord (tablesOf (now words) lists .store) (spot .0) × Fits (tablesOf (now words) lists .store) (pathOf (now down) (tablesOf (now words) lists .store) (hand .0)) ⌝ }
+    requires { ⌜ Stepping (now words) lists (now index) × (mostContexts * (lists .rules + 1) ≤ length (now table)) × (lists .used ≤ length (now down)) × (lists .contexts < mostContexts) × IsRecord (tablesOf (now words) lists .store) (hand .0) × IsRecord (tablesOf (now words) lists .store) (spot .0) × Fits (tablesOf (now words) lists .store) (pathOf (now down) (tablesOf (now words) lists .store) (hand .0)) ⌝ }
     ensures { λ r. ⌜ EndedAs (now (words .entry)) lists (searched (tablesOf (now (words .entry)) lists) (atNewTransition (hand .0) (record { row = spot .0; around = pathOf (now (down .entry)) (tablesOf (now (words .entry)) lists .store) (hand .0) }))) r (now (words .exit)) ⌝ }
 {
     if lists.rules as usize == MOST_RULES {
         return finish::short(36, lists);
     }
     let left = with_rule(lists, spot);
-    putdown::put_down(words, left, holes, head, next, mix, table, down, hand)
+    putdown::put_down(words, left, index, table, down, hand)
 }
 
 // The answer with the representative in the spot's place is unknown: it is asked.
 fn ask_exchanged(
     words: &mut [u32],
     lists: Lists,
-    holes: &mut [u8],
-    head: &mut [u16],
-    next: &mut [u16],
-    mix: &[u32; 5],
-    down: &[u8],
+    index: &mut [u16],
+    down: &[u16],
     hand: Row,
     rep: Row,
 ) -> Stepped
-    requires { ⌜ Stepping (now words) lists (now holes) (now head) (now next) (now mix) × (lists .used ≤ length (now down)) × IsRecord (tablesOf (now words) lists .store) (hand .0) × (rep .0 < lists .used) × Fits (tablesOf (now words) lists .store) (pathOf (now down) (tablesOf (now words) lists .store) (hand .0)) ⌝ }
+    requires { ⌜ Stepping (now words) lists (now index) × (lists .used ≤ length (now down)) × IsRecord (tablesOf (now words) lists .store) (hand .0) × (rep .0 < lists .used) × Fits (tablesOf (now words) lists .store) (pathOf (now down) (tablesOf (now words) lists .store) (hand .0)) ⌝ }
     ensures { λ r. ⌜ EndedAs (now (words .entry)) lists (searched (tablesOf (now (words .entry)) lists) (atUnknown (hand .0) (record { row = 0; around = pathOf (now (down .entry)) (tablesOf (now (words .entry)) lists .store) (hand .0) }) (rep .0))) r (now (words .exit)) ⌝ }
 {
     let letters = lists.letters as usize;
@@ -76,10 +70,7 @@ fn ask_exchanged(
         words,
         &counts[..letters],
         lists.used,
-        holes,
-        head,
-        next,
-        mix,
+        index,
         down,
         hand,
         rep,
@@ -96,31 +87,26 @@ fn ask_exchanged(
 pub fn ended_at(
     words: &mut [u32],
     lists: Lists,
-    holes: &mut [u8],
-    head: &mut [u16],
-    next: &mut [u16],
-    mix: &[u32; 5],
+    index: &mut [u16],
     table: &mut [u8],
     reps: &[u16],
-    down: &[u8],
+    down: &[u16],
     at: &[u16],
     exchanged: &[u16],
     found: Found,
 ) -> Stepped
-    requires { ⌜ Stepping (now words) lists (now holes) (now head) (now next) (now mix) × (mostContexts * (lists .rules + 1) ≤ length (now table)) × InHand (now words) lists (now reps) × Descended (tablesOf (now words) lists .s) (now reps) (tablesOf (now words) lists .store) (now down) (now at) (now exchanged) (lists .used) × (searchBy (tablesOf (now words) lists .s) (now reps) (tablesOf (now words) lists .store) found ≡ search (tablesOf (now words) lists .store) (tablesOf (now words) lists .answers) (tablesOf (now words) lists .s) (tablesOf (now words) lists .t) (tablesOf (now words) lists .c) (lists .hand)) ⌝ }
+    requires { ⌜ Stepping (now words) lists (now index) × (mostContexts * (lists .rules + 1) ≤ length (now table)) × InHand (now words) lists (now reps) × Descended (tablesOf (now words) lists .s) (now reps) (tablesOf (now words) lists .store) (now down) (now at) (now exchanged) (lists .used) × (searchBy (tablesOf (now words) lists .s) (now reps) (tablesOf (now words) lists .store) found ≡ search (tablesOf (now words) lists .store) (tablesOf (now words) lists .answers) (tablesOf (now words) lists .s) (tablesOf (now words) lists .t) (tablesOf (now words) lists .c) (lists .hand)) ⌝ }
     ensures { λ r. ⌜ EndedAs (now (words .entry)) lists (searched (tablesOf (now (words .entry)) lists) (searchBy (tablesOf (now (words .entry)) lists .s) (now (reps .entry)) (tablesOf (now (words .entry)) lists .store) found)) r (now (words .exit)) ⌝ }
 {
     match found {
         Found::NewTransition(h) => {
             let spot = Row(at[h.0 as usize]);
-            new_transition(words, lists, holes, head, next, mix, table, down, h, spot)
+            new_transition(words, lists, index, table, down, h, spot)
         }
         Found::Unknown(h) => {
             let rep = Row(reps[at[h.0 as usize] as usize]);
-            ask_exchanged(words, lists, holes, head, next, mix, down, h, rep)
+            ask_exchanged(words, lists, index, down, h, rep)
         }
-        Found::Difference(h) => {
-            putdown::put_down(words, lists, holes, head, next, mix, table, down, h)
-        }
+        Found::Difference(h) => { putdown::put_down(words, lists, index, table, down, h) }
     }
 }

@@ -48,10 +48,7 @@ fn first_outside(
     words: &[u32],
     counts: &[u8],
     used: u16,
-    holes: &[u8],
-    head: &[u16],
-    next: &[u16],
-    mix: &[u32; 5],
+    index: &[u16],
     s: &[u16; MOST_STATES],
     states: usize,
     t: &[u16; MOST_RULES],
@@ -61,7 +58,7 @@ fn first_outside(
     reps: &[u16],
     row: Row,
 ) -> u8
-    requires { ⌜ Ready (now words) (now counts) used (now holes) (now head) (now next) (now mix) × Handling (storeOf (now words) (now counts) used) (answersIn used (now words)) (take states (now s)) (take rules (now t)) (take contexts (now c)) (now reps) × (0 < row .0) × (row .0 < used) ⌝ }
+    requires { ⌜ Ready (now words) (now counts) used (now index) × Handling (storeOf (now words) (now counts) used) (answersIn used (now words)) (take states (now s)) (take rules (now t)) (take contexts (now c)) (now reps) × (0 < row .0) × (row .0 < used) ⌝ }
     ensures { λ r. ⌜ r ≡ outsideAt (take states (now (s .entry))) (storeOf (now (words .entry)) (now (counts .entry)) used) (row .0) ⌝ }
 {
     let symbol = rows::symbol_of(words, row);
@@ -94,15 +91,12 @@ fn with_child(
     words: &[u32],
     counts: &[u8],
     used: u16,
-    holes: &[u8],
-    head: &[u16],
-    next: &[u16],
-    mix: &[u32; 5],
+    index: &[u16],
     row: Row,
     place: usize,
     with: Row,
 ) -> Row
-    requires { ⌜ Ready (now words) (now counts) used (now holes) (now head) (now next) (now mix) × (0 < row .0) × (row .0 < used) × (place < length (kidsAt (storeOf (now words) (now counts) used) (row .0))) ⌝ }
+    requires { ⌜ Ready (now words) (now counts) used (now index) × (0 < row .0) × (row .0 < used) × (place < length (kidsAt (storeOf (now words) (now counts) used) (row .0))) ⌝ }
     ensures { λ r. ⌜ (r .0 ≡ nextRow (storeOf (now (words .entry)) (now (counts .entry)) used) (frameAt (storeOf (now (words .entry)) (now (counts .entry)) used) (row .0) place) (with .0)) × (r .0 < used) ⌝ }
 {
     if with.0 == 0 {
@@ -111,7 +105,7 @@ fn with_child(
     let symbol = rows::symbol_of(words, row);
     let mut places = rows::places_of(words, row);
     places[place] = with.0 as u32;
-    index::find(words, used, head, next, mix, symbol, places)
+    index::find(words, used, index, symbol, places)
 }
 
 // A row's spot, and the row after the exchange.
@@ -125,20 +119,17 @@ fn turn_of(
     words: &[u32],
     counts: &[u8],
     used: u16,
-    holes: &[u8],
-    head: &[u16],
-    next: &[u16],
-    mix: &[u32; 5],
+    index: &[u16],
     s: &[u16; MOST_STATES],
     states: usize,
     reps: &[u16],
-    down: &[u8],
+    down: &[u16],
     at: &[u16],
     exchanged: &[u16],
     row: Row,
     code: u8,
 ) -> Turn
-    requires { ⌜ Ready (now words) (now counts) used (now holes) (now head) (now next) (now mix) × (used ≤ length (now reps)) × Descended (take states (now s)) (now reps) (storeOf (now words) (now counts) used) (now down) (now at) (now exchanged) (row .0) × (0 < row .0) × (row .0 < used) × (code ≡ outsideAt (take states (now s)) (storeOf (now words) (now counts) used) (row .0)) ⌝ }
+    requires { ⌜ Ready (now words) (now counts) used (now index) × (used ≤ length (now reps)) × Descended (take states (now s)) (now reps) (storeOf (now words) (now counts) used) (now down) (now at) (now exchanged) (row .0) × (0 < row .0) × (row .0 < used) × (code ≡ outsideAt (take states (now s)) (storeOf (now words) (now counts) used) (row .0)) ⌝ }
     ensures { λ r. ⌜ (r .spot .0 ≡ spotOf (take states (now (s .entry))) (storeOf (now (words .entry)) (now (counts .entry)) used) (row .0) .row) × (r .row .0 ≡ exchangedRow (take states (now (s .entry))) (now (reps .entry)) (storeOf (now (words .entry)) (now (counts .entry)) used) (row .0)) ⌝ }
 {
     if code == 0 {
@@ -152,18 +143,7 @@ fn turn_of(
     let kid = rows::kid_of(words, row, place) as usize;
     let spot = at[kid];
     let inner = exchanged[kid];
-    let outer = with_child(
-        words,
-        counts,
-        used,
-        holes,
-        head,
-        next,
-        mix,
-        row,
-        place,
-        Row(inner),
-    );
+    let outer = with_child(words, counts, used, index, row, place, Row(inner));
     Turn {
         spot: Row(spot),
         row: outer,
@@ -175,10 +155,7 @@ fn descend_row(
     words: &[u32],
     counts: &[u8],
     used: u16,
-    holes: &[u8],
-    head: &[u16],
-    next: &[u16],
-    mix: &[u32; 5],
+    index: &[u16],
     s: &[u16; MOST_STATES],
     states: usize,
     t: &[u16; MOST_RULES],
@@ -186,22 +163,19 @@ fn descend_row(
     c: &[u16; MOST_CONTEXTS],
     contexts: usize,
     reps: &[u16],
-    down: &mut [u8],
+    down: &mut [u16],
     at: &mut [u16],
     exchanged: &mut [u16],
     row: Row,
 )
-    requires { ⌜ Ready (now words) (now counts) used (now holes) (now head) (now next) (now mix) × Handling (storeOf (now words) (now counts) used) (answersIn used (now words)) (take states (now s)) (take rules (now t)) (take contexts (now c)) (now reps) × Descended (take states (now s)) (now reps) (storeOf (now words) (now counts) used) (now down) (now at) (now exchanged) (row .0) × (0 < row .0) × (row .0 < used) ⌝ }
+    requires { ⌜ Ready (now words) (now counts) used (now index) × Handling (storeOf (now words) (now counts) used) (answersIn used (now words)) (take states (now s)) (take rules (now t)) (take contexts (now c)) (now reps) × Descended (take states (now s)) (now reps) (storeOf (now words) (now counts) used) (now down) (now at) (now exchanged) (row .0) × (0 < row .0) × (row .0 < used) ⌝ }
     ensures { λ _. ⌜ Descended (take states (now (s .entry))) (now (reps .entry)) (storeOf (now (words .entry)) (now (counts .entry)) used) (now (down .exit)) (now (at .exit)) (now (exchanged .exit)) (row .0 + 1) ⌝ }
 {
     let code = first_outside(
         words,
         counts,
         used,
-        holes,
-        head,
-        next,
-        mix,
+        index,
         s,
         states,
         t,
@@ -215,10 +189,7 @@ fn descend_row(
         words,
         counts,
         used,
-        holes,
-        head,
-        next,
-        mix,
+        index,
         s,
         states,
         reps,
@@ -229,7 +200,7 @@ fn descend_row(
         code,
     );
     let n = row.0 as usize;
-    down[n] = code;
+    down[n] = code as u16;
     at[n] = turn.spot.0;
     exchanged[n] = turn.row.0;
 }
@@ -239,10 +210,7 @@ fn descend(
     words: &[u32],
     counts: &[u8],
     used: u16,
-    holes: &[u8],
-    head: &[u16],
-    next: &[u16],
-    mix: &[u32; 5],
+    index: &[u16],
     s: &[u16; MOST_STATES],
     states: usize,
     t: &[u16; MOST_RULES],
@@ -250,11 +218,11 @@ fn descend(
     c: &[u16; MOST_CONTEXTS],
     contexts: usize,
     reps: &[u16],
-    down: &mut [u8],
+    down: &mut [u16],
     at: &mut [u16],
     exchanged: &mut [u16],
 )
-    requires { ⌜ Ready (now words) (now counts) used (now holes) (now head) (now next) (now mix) × Handling (storeOf (now words) (now counts) used) (answersIn used (now words)) (take states (now s)) (take rules (now t)) (take contexts (now c)) (now reps) × (used ≤ length (now down)) × (used ≤ length (now at)) × (used ≤ length (now exchanged)) ⌝ }
+    requires { ⌜ Ready (now words) (now counts) used (now index) × Handling (storeOf (now words) (now counts) used) (answersIn used (now words)) (take states (now s)) (take rules (now t)) (take contexts (now c)) (now reps) × (used ≤ length (now down)) × (used ≤ length (now at)) × (used ≤ length (now exchanged)) ⌝ }
     ensures { λ _. ⌜ Descended (take states (now (s .entry))) (now (reps .entry)) (storeOf (now (words .entry)) (now (counts .entry)) used) (now (down .exit)) (now (at .exit)) (now (exchanged .exit)) used ⌝ }
 {
     down[0] = 0;
@@ -266,10 +234,7 @@ fn descend(
             words,
             counts,
             used,
-            holes,
-            head,
-            next,
-            mix,
+            index,
             s,
             states,
             t,
@@ -298,10 +263,7 @@ fn search(
     words: &[u32],
     counts: &[u8],
     used: u16,
-    holes: &[u8],
-    head: &[u16],
-    next: &[u16],
-    mix: &[u32; 5],
+    index: &[u16],
     s: &[u16; MOST_STATES],
     states: usize,
     t: &[u16; MOST_RULES],
@@ -309,12 +271,12 @@ fn search(
     c: &[u16; MOST_CONTEXTS],
     contexts: usize,
     reps: &[u16],
-    down: &[u8],
+    down: &[u16],
     at: &[u16],
     exchanged: &[u16],
     hand: Row,
 ) -> Found
-    requires { ⌜ Ready (now words) (now counts) used (now holes) (now head) (now next) (now mix) × Handling (storeOf (now words) (now counts) used) (answersIn used (now words)) (take states (now s)) (take rules (now t)) (take contexts (now c)) (now reps) × Descended (take states (now s)) (now reps) (storeOf (now words) (now counts) used) (now down) (now at) (now exchanged) used × HandFits (storeOf (now words) (now counts) used) (answersIn used (now words)) (take states (now s)) (take rules (now t)) (take contexts (now c)) (hand .0) ⌝ }
+    requires { ⌜ Ready (now words) (now counts) used (now index) × Handling (storeOf (now words) (now counts) used) (answersIn used (now words)) (take states (now s)) (take rules (now t)) (take contexts (now c)) (now reps) × Descended (take states (now s)) (now reps) (storeOf (now words) (now counts) used) (now down) (now at) (now exchanged) used × HandFits (storeOf (now words) (now counts) used) (answersIn used (now words)) (take states (now s)) (take rules (now t)) (take contexts (now c)) (hand .0) ⌝ }
     ensures { λ r. ⌜ searchBy (take states (now (s .entry))) (now (reps .entry)) (storeOf (now (words .entry)) (now (counts .entry)) used) r ≡ searchOf (storeOf (now (words .entry)) (now (counts .entry)) used) (answersIn used (now (words .entry))) (take states (now (s .entry))) (take rules (now (t .entry))) (take contexts (now (c .entry))) (hand .0) ⌝ }
 {
     let mut h = hand.0;
@@ -340,10 +302,7 @@ pub fn find(
     words: &[u32],
     counts: &[u8],
     used: u16,
-    holes: &[u8],
-    head: &[u16],
-    next: &[u16],
-    mix: &[u32; 5],
+    index: &[u16],
     s: &[u16; MOST_STATES],
     states: usize,
     t: &[u16; MOST_RULES],
@@ -351,12 +310,12 @@ pub fn find(
     c: &[u16; MOST_CONTEXTS],
     contexts: usize,
     reps: &[u16],
-    down: &mut [u8],
+    down: &mut [u16],
     at: &mut [u16],
     exchanged: &mut [u16],
     hand: Row,
 ) -> Found
-    requires { ⌜ Ready (now words) (now counts) used (now holes) (now head) (now next) (now mix) × Handling (storeOf (now words) (now counts) used) (answersIn used (now words)) (take states (now s)) (take rules (now t)) (take contexts (now c)) (now reps) × HandFits (storeOf (now words) (now counts) used) (answersIn used (now words)) (take states (now s)) (take rules (now t)) (take contexts (now c)) (hand .0) × (used ≤ length (now down)) × (used ≤ length (now at)) × (used ≤ length (now exchanged)) ⌝ }
+    requires { ⌜ Ready (now words) (now counts) used (now index) × Handling (storeOf (now words) (now counts) used) (answersIn used (now words)) (take states (now s)) (take rules (now t)) (take contexts (now c)) (now reps) × HandFits (storeOf (now words) (now counts) used) (answersIn used (now words)) (take states (now s)) (take rules (now t)) (take contexts (now c)) (hand .0) × (used ≤ length (now down)) × (used ≤ length (now at)) × (used ≤ length (now exchanged)) ⌝ }
     ensures { λ r. ⌜ Descended (take states (now (s .entry))) (now (reps .entry)) (storeOf (now (words .entry)) (now (counts .entry)) used) (now (down .exit)) (now (at .exit)) (now (exchanged .exit)) used ⌝ }
     ensures ended { λ r. ⌜ searchBy (take states (now (s .entry))) (now (reps .entry)) (storeOf (now (words .entry)) (now (counts .entry)) used) r ≡ searchOf (storeOf (now (words .entry)) (now (counts .entry)) used) (answersIn used (now (words .entry))) (take states (now (s .entry))) (take rules (now (t .entry))) (take contexts (now (c .entry))) (hand .0) ⌝ }
 {
@@ -364,10 +323,7 @@ pub fn find(
         words,
         counts,
         used,
-        holes,
-        head,
-        next,
-        mix,
+        index,
         s,
         states,
         t,
@@ -383,10 +339,7 @@ pub fn find(
         words,
         counts,
         used,
-        holes,
-        head,
-        next,
-        mix,
+        index,
         s,
         states,
         t,

@@ -82,10 +82,7 @@ pub fn settle(
     words: &mut [u32],
     counts: &[u8],
     used: u16,
-    holes: &mut [u8],
-    head: &mut [u16],
-    next: &mut [u16],
-    mix: &[u32; 5],
+    index: &mut [u16],
     s: &mut [u16; MOST_STATES],
     states: usize,
     t: &[u16; MOST_RULES],
@@ -94,29 +91,16 @@ pub fn settle(
     contexts: usize,
     table: &mut [u8],
 ) -> Step
-    requires { ⌜ Ready (now words) (now counts) used (now holes) (now head) (now next) (now mix) × Settling (now words) (now counts) used (now s) states (now t) rules (now c) contexts × KnownRows (storeOf (now words) (now counts) used) (answersIn used (now words)) (now t) rules (now c) contexts (now table) ⌝ }
+    requires { ⌜ Ready (now words) (now counts) used (now index) × Settling (now words) (now counts) used (now s) states (now t) rules (now c) contexts × KnownRows (storeOf (now words) (now counts) used) (answersIn used (now words)) (now t) rules (now c) contexts (now table) ⌝ }
     ensures { λ r. ⌜ StepAs (now (words .entry)) (now (counts .entry)) used (now (s .entry)) (settled (given (now (words .entry)) (now (counts .entry)) used (now (s .entry)) states (now (t .entry)) rules (now (c .entry)) contexts 0 0 false)) r (now (words .exit)) (now (s .exit)) ⌝ }
 {
-    let n = table_answers::observe_to_gap(
-        words,
-        counts,
-        used,
-        holes,
-        head,
-        next,
-        mix,
-        t,
-        rules,
-        c,
-        contexts,
-        table,
-    );
+    let n = table_answers::observe_to_gap(words, counts, used, index, t, rules, c, contexts, table);
     match table::first_unknown(table, n, contexts) {
         Gap::Closed => propose(words, counts, used, s, states, t, rules, c, contexts, table),
         Gap::At(k, j) => {
             let around = Row(c[j as usize]);
             let with = Row(t[k as usize]);
-            match context::fill_context(words, counts, used, holes, head, next, mix, around, with) {
+            match context::fill_context(words, counts, used, index, around, with) {
                 Grown::Full => Step::NoRows,
                 Grown::At(row, then) => Step::Asks(row, then),
             }

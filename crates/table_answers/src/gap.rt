@@ -20,10 +20,7 @@ fn update_row(
     words: &[u32],
     counts: &[u8],
     used: u16,
-    holes: &[u8],
-    head: &[u16],
-    next: &[u16],
-    mix: &[u32; 5],
+    index: &[u16],
     list: &[u16],
     n: u16,
     t: &[u16; MOST_RULES],
@@ -34,7 +31,7 @@ fn update_row(
     filled: &mut [u16],
     table: &mut [u8],
 ) -> bool
-    requires { ⌜ Ready (now words) (now counts) used (now holes) (now head) (now next) (now mix) × Answered (now words) used × HoledRows (now holes) used (now list) n × (length (now t) ≡ mostRules) × (k < rules) × (getD (now t) k 0 < used) × Contexts (storeOf (now words) (now counts) used) (now c) contexts × (length (now c) ≡ mostContexts) × (used ≤ length (now filled)) × Observed (storeOf (now words) (now counts) used) (answersIn used (now words)) (now t) k (now c) contexts (now table) × KnownRows (storeOf (now words) (now counts) used) (answersIn used (now words)) (now t) rules (now c) contexts (now table) ⌝ }
+    requires { ⌜ Ready (now words) (now counts) used (now index) × Answered (now words) used × HoledRows (now index) used (now list) n × (length (now t) ≡ mostRules) × (k < rules) × (getD (now t) k 0 < used) × Contexts (storeOf (now words) (now counts) used) (now c) contexts × (length (now c) ≡ mostContexts) × (used ≤ length (now filled)) × Observed (storeOf (now words) (now counts) used) (answersIn used (now words)) (now t) k (now c) contexts (now table) × KnownRows (storeOf (now words) (now counts) used) (answersIn used (now words)) (now t) rules (now c) contexts (now table) ⌝ }
     ensures { λ r. ⌜ Observed (storeOf (now (words .entry)) (now (counts .entry)) used) (answersIn used (now (words .entry))) (now (t .entry)) (k + 1) (now (c .entry)) contexts (now (table .exit)) × KnownRows (storeOf (now (words .entry)) (now (counts .entry)) used) (answersIn used (now (words .entry))) (now (t .entry)) rules (now (c .entry)) contexts (now (table .exit)) × (length (now (filled .exit)) ≡ length (now (filled .entry))) × (r ≡ among 0 (rowAt (now (table .exit)) contexts k)) ⌝ }
 {
     if !table::has_answer(table, contexts, k, 0) {
@@ -44,10 +41,7 @@ fn update_row(
         words,
         counts,
         used,
-        holes,
-        head,
-        next,
-        mix,
+        index,
         list,
         n,
         t,
@@ -66,10 +60,7 @@ pub fn gap_with(
     words: &[u32],
     counts: &[u8],
     used: u16,
-    holes: &[u8],
-    head: &[u16],
-    next: &[u16],
-    mix: &[u32; 5],
+    index: &[u16],
     t: &[u16; MOST_RULES],
     rules: usize,
     c: &[u16; MOST_CONTEXTS],
@@ -78,20 +69,17 @@ pub fn gap_with(
     list: &mut [u16],
     filled: &mut [u16],
 ) -> usize
-    requires { ⌜ Ready (now words) (now counts) used (now holes) (now head) (now next) (now mix) × Answered (now words) used × Used used (now t) rules × (length (now t) ≡ mostRules) × (rules ≤ mostRules) × Contexts (storeOf (now words) (now counts) used) (now c) contexts × (length (now c) ≡ mostContexts) × (contexts ≤ mostContexts) × KnownRows (storeOf (now words) (now counts) used) (answersIn used (now words)) (now t) rules (now c) contexts (now table) × (used ≤ length (now list)) × (used ≤ length (now filled)) ⌝ }
+    requires { ⌜ Ready (now words) (now counts) used (now index) × Answered (now words) used × Used used (now t) rules × (length (now t) ≡ mostRules) × (rules ≤ mostRules) × Contexts (storeOf (now words) (now counts) used) (now c) contexts × (length (now c) ≡ mostContexts) × (contexts ≤ mostContexts) × KnownRows (storeOf (now words) (now counts) used) (answersIn used (now words)) (now t) rules (now c) contexts (now table) × (used ≤ length (now list)) × (used ≤ length (now filled)) ⌝ }
     ensures { λ r. ⌜ ToGap (storeOf (now (words .entry)) (now (counts .entry)) used) (answersIn used (now (words .entry))) (now (t .entry)) rules (now (c .entry)) contexts (now (table .exit)) r ⌝ }
 {
-    let n = table_columns::holed_rows(used, holes, list);
+    let n = table_columns::holed_rows(used, index, list);
     let mut k = 0;
     while k < rules {
         if update_row(
             words,
             counts,
             used,
-            holes,
-            head,
-            next,
-            mix,
+            index,
             list,
             n,
             t,
@@ -114,17 +102,14 @@ fn gap_few(
     words: &[u32],
     counts: &[u8],
     used: u16,
-    holes: &[u8],
-    head: &[u16],
-    next: &[u16],
-    mix: &[u32; 5],
+    index: &[u16],
     t: &[u16; MOST_RULES],
     rules: usize,
     c: &[u16; MOST_CONTEXTS],
     contexts: usize,
     table: &mut [u8],
 ) -> usize
-    requires { ⌜ Ready (now words) (now counts) used (now holes) (now head) (now next) (now mix) × Answered (now words) used × Used used (now t) rules × (length (now t) ≡ mostRules) × (rules ≤ mostRules) × Contexts (storeOf (now words) (now counts) used) (now c) contexts × (length (now c) ≡ mostContexts) × (contexts ≤ mostContexts) × KnownRows (storeOf (now words) (now counts) used) (answersIn used (now words)) (now t) rules (now c) contexts (now table) × (used ≤ leastRows) ⌝ }
+    requires { ⌜ Ready (now words) (now counts) used (now index) × Answered (now words) used × Used used (now t) rules × (length (now t) ≡ mostRules) × (rules ≤ mostRules) × Contexts (storeOf (now words) (now counts) used) (now c) contexts × (length (now c) ≡ mostContexts) × (contexts ≤ mostContexts) × KnownRows (storeOf (now words) (now counts) used) (answersIn used (now words)) (now t) rules (now c) contexts (now table) × (used ≤ leastRows) ⌝ }
     ensures { λ r. ⌜ ToGap (storeOf (now (words .entry)) (now (counts .entry)) used) (answersIn used (now (words .entry))) (now (t .entry)) rules (now (c .entry)) contexts (now (table .exit)) r ⌝ }
 {
     let mut list = [0u16; LEAST_ROWS];
@@ -133,10 +118,7 @@ fn gap_few(
         words,
         counts,
         used,
-        holes,
-        head,
-        next,
-        mix,
+        index,
         t,
         rules,
         c,
@@ -152,34 +134,18 @@ pub fn gap_some(
     words: &[u32],
     counts: &[u8],
     used: u16,
-    holes: &[u8],
-    head: &[u16],
-    next: &[u16],
-    mix: &[u32; 5],
+    index: &[u16],
     t: &[u16; MOST_RULES],
     rules: usize,
     c: &[u16; MOST_CONTEXTS],
     contexts: usize,
     table: &mut [u8],
 ) -> usize
-    requires { ⌜ Ready (now words) (now counts) used (now holes) (now head) (now next) (now mix) × Answered (now words) used × Used used (now t) rules × (length (now t) ≡ mostRules) × (rules ≤ mostRules) × Contexts (storeOf (now words) (now counts) used) (now c) contexts × (length (now c) ≡ mostContexts) × (contexts ≤ mostContexts) × KnownRows (storeOf (now words) (now counts) used) (answersIn used (now words)) (now t) rules (now c) contexts (now table) × (used ≤ midRows) ⌝ }
+    requires { ⌜ Ready (now words) (now counts) used (now index) × Answered (now words) used × Used used (now t) rules × (length (now t) ≡ mostRules) × (rules ≤ mostRules) × Contexts (storeOf (now words) (now counts) used) (now c) contexts × (length (now c) ≡ mostContexts) × (contexts ≤ mostContexts) × KnownRows (storeOf (now words) (now counts) used) (answersIn used (now words)) (now t) rules (now c) contexts (now table) × (used ≤ midRows) ⌝ }
     ensures { λ r. ⌜ ToGap (storeOf (now (words .entry)) (now (counts .entry)) used) (answersIn used (now (words .entry))) (now (t .entry)) rules (now (c .entry)) contexts (now (table .exit)) r ⌝ }
 {
     if used as usize <= LEAST_ROWS {
-        return gap_few(
-            words,
-            counts,
-            used,
-            holes,
-            head,
-            next,
-            mix,
-            t,
-            rules,
-            c,
-            contexts,
-            table,
-        );
+        return gap_few(words, counts, used, index, t, rules, c, contexts, table);
     }
     let mut list = [0u16; MID_ROWS];
     let mut filled = [0u16; MID_ROWS];
@@ -187,10 +153,7 @@ pub fn gap_some(
         words,
         counts,
         used,
-        holes,
-        head,
-        next,
-        mix,
+        index,
         t,
         rules,
         c,

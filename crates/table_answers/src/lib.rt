@@ -22,34 +22,18 @@ pub fn observe(
     words: &[u32],
     counts: &[u8],
     used: u16,
-    holes: &[u8],
-    head: &[u16],
-    next: &[u16],
-    mix: &[u32; 5],
+    index: &[u16],
     t: &[u16; MOST_RULES],
     rules: usize,
     c: &[u16; MOST_CONTEXTS],
     contexts: usize,
     table: &mut [u8],
 )
-    requires { ⌜ Ready (now words) (now counts) used (now holes) (now head) (now next) (now mix) × Answered (now words) used × Used used (now t) rules × (length (now t) ≡ mostRules) × (rules ≤ mostRules) × Contexts (storeOf (now words) (now counts) used) (now c) contexts × (length (now c) ≡ mostContexts) × (contexts ≤ mostContexts) × (mostContexts * rules ≤ length (now table)) ⌝ }
+    requires { ⌜ Ready (now words) (now counts) used (now index) × Answered (now words) used × Used used (now t) rules × (length (now t) ≡ mostRules) × (rules ≤ mostRules) × Contexts (storeOf (now words) (now counts) used) (now c) contexts × (length (now c) ≡ mostContexts) × (contexts ≤ mostContexts) × (mostContexts * rules ≤ length (now table)) ⌝ }
     ensures { λ _. ⌜ Observed (storeOf (now (words .entry)) (now (counts .entry)) used) (answersIn used (now (words .entry))) (now (t .entry)) rules (now (c .entry)) contexts (now (table .exit)) ⌝ }
 {
     if used as usize <= MID_ROWS {
-        return whole::observe_some(
-            words,
-            counts,
-            used,
-            holes,
-            head,
-            next,
-            mix,
-            t,
-            rules,
-            c,
-            contexts,
-            table,
-        );
+        return whole::observe_some(words, counts, used, index, t, rules, c, contexts, table);
     }
     let mut list = [0u16; MOST_ROWS];
     let mut filled = [0u16; MOST_ROWS];
@@ -57,10 +41,7 @@ pub fn observe(
         words,
         counts,
         used,
-        holes,
-        head,
-        next,
-        mix,
+        index,
         t,
         rules,
         c,
@@ -77,34 +58,18 @@ pub fn observe_to_gap(
     words: &[u32],
     counts: &[u8],
     used: u16,
-    holes: &[u8],
-    head: &[u16],
-    next: &[u16],
-    mix: &[u32; 5],
+    index: &[u16],
     t: &[u16; MOST_RULES],
     rules: usize,
     c: &[u16; MOST_CONTEXTS],
     contexts: usize,
     table: &mut [u8],
 ) -> usize
-    requires { ⌜ Ready (now words) (now counts) used (now holes) (now head) (now next) (now mix) × Answered (now words) used × Used used (now t) rules × (length (now t) ≡ mostRules) × (rules ≤ mostRules) × Contexts (storeOf (now words) (now counts) used) (now c) contexts × (length (now c) ≡ mostContexts) × (contexts ≤ mostContexts) × KnownRows (storeOf (now words) (now counts) used) (answersIn used (now words)) (now t) rules (now c) contexts (now table) ⌝ }
+    requires { ⌜ Ready (now words) (now counts) used (now index) × Answered (now words) used × Used used (now t) rules × (length (now t) ≡ mostRules) × (rules ≤ mostRules) × Contexts (storeOf (now words) (now counts) used) (now c) contexts × (length (now c) ≡ mostContexts) × (contexts ≤ mostContexts) × KnownRows (storeOf (now words) (now counts) used) (answersIn used (now words)) (now t) rules (now c) contexts (now table) ⌝ }
     ensures { λ r. ⌜ ToGap (storeOf (now (words .entry)) (now (counts .entry)) used) (answersIn used (now (words .entry))) (now (t .entry)) rules (now (c .entry)) contexts (now (table .exit)) r ⌝ }
 {
     if used as usize <= MID_ROWS {
-        return gap::gap_some(
-            words,
-            counts,
-            used,
-            holes,
-            head,
-            next,
-            mix,
-            t,
-            rules,
-            c,
-            contexts,
-            table,
-        );
+        return gap::gap_some(words, counts, used, index, t, rules, c, contexts, table);
     }
     let mut list = [0u16; MOST_ROWS];
     let mut filled = [0u16; MOST_ROWS];
@@ -112,10 +77,7 @@ pub fn observe_to_gap(
         words,
         counts,
         used,
-        holes,
-        head,
-        next,
-        mix,
+        index,
         t,
         rules,
         c,

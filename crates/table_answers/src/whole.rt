@@ -19,10 +19,7 @@ pub fn observe_with(
     words: &[u32],
     counts: &[u8],
     used: u16,
-    holes: &[u8],
-    head: &[u16],
-    next: &[u16],
-    mix: &[u32; 5],
+    index: &[u16],
     t: &[u16; MOST_RULES],
     rules: usize,
     c: &[u16; MOST_CONTEXTS],
@@ -31,20 +28,17 @@ pub fn observe_with(
     list: &mut [u16],
     filled: &mut [u16],
 )
-    requires { ⌜ Ready (now words) (now counts) used (now holes) (now head) (now next) (now mix) × Answered (now words) used × Used used (now t) rules × (length (now t) ≡ mostRules) × (rules ≤ mostRules) × Contexts (storeOf (now words) (now counts) used) (now c) contexts × (length (now c) ≡ mostContexts) × (contexts ≤ mostContexts) × (mostContexts * rules ≤ length (now table)) × (used ≤ length (now list)) × (used ≤ length (now filled)) ⌝ }
+    requires { ⌜ Ready (now words) (now counts) used (now index) × Answered (now words) used × Used used (now t) rules × (length (now t) ≡ mostRules) × (rules ≤ mostRules) × Contexts (storeOf (now words) (now counts) used) (now c) contexts × (length (now c) ≡ mostContexts) × (contexts ≤ mostContexts) × (mostContexts * rules ≤ length (now table)) × (used ≤ length (now list)) × (used ≤ length (now filled)) ⌝ }
     ensures { λ _. ⌜ Observed (storeOf (now (words .entry)) (now (counts .entry)) used) (answersIn used (now (words .entry))) (now (t .entry)) rules (now (c .entry)) contexts (now (table .exit)) ⌝ }
 {
-    let n = table_columns::holed_rows(used, holes, list);
+    let n = table_columns::holed_rows(used, index, list);
     let mut k = 0;
     while k < rules {
         table_columns::observe_row(
             words,
             counts,
             used,
-            holes,
-            head,
-            next,
-            mix,
+            index,
             list,
             n,
             t,
@@ -63,17 +57,14 @@ fn observe_few(
     words: &[u32],
     counts: &[u8],
     used: u16,
-    holes: &[u8],
-    head: &[u16],
-    next: &[u16],
-    mix: &[u32; 5],
+    index: &[u16],
     t: &[u16; MOST_RULES],
     rules: usize,
     c: &[u16; MOST_CONTEXTS],
     contexts: usize,
     table: &mut [u8],
 )
-    requires { ⌜ Ready (now words) (now counts) used (now holes) (now head) (now next) (now mix) × Answered (now words) used × Used used (now t) rules × (length (now t) ≡ mostRules) × (rules ≤ mostRules) × Contexts (storeOf (now words) (now counts) used) (now c) contexts × (length (now c) ≡ mostContexts) × (contexts ≤ mostContexts) × (mostContexts * rules ≤ length (now table)) × (used ≤ leastRows) ⌝ }
+    requires { ⌜ Ready (now words) (now counts) used (now index) × Answered (now words) used × Used used (now t) rules × (length (now t) ≡ mostRules) × (rules ≤ mostRules) × Contexts (storeOf (now words) (now counts) used) (now c) contexts × (length (now c) ≡ mostContexts) × (contexts ≤ mostContexts) × (mostContexts * rules ≤ length (now table)) × (used ≤ leastRows) ⌝ }
     ensures { λ _. ⌜ Observed (storeOf (now (words .entry)) (now (counts .entry)) used) (answersIn used (now (words .entry))) (now (t .entry)) rules (now (c .entry)) contexts (now (table .exit)) ⌝ }
 {
     let mut list = [0u16; LEAST_ROWS];
@@ -82,10 +73,7 @@ fn observe_few(
         words,
         counts,
         used,
-        holes,
-        head,
-        next,
-        mix,
+        index,
         t,
         rules,
         c,
@@ -101,34 +89,18 @@ pub fn observe_some(
     words: &[u32],
     counts: &[u8],
     used: u16,
-    holes: &[u8],
-    head: &[u16],
-    next: &[u16],
-    mix: &[u32; 5],
+    index: &[u16],
     t: &[u16; MOST_RULES],
     rules: usize,
     c: &[u16; MOST_CONTEXTS],
     contexts: usize,
     table: &mut [u8],
 )
-    requires { ⌜ Ready (now words) (now counts) used (now holes) (now head) (now next) (now mix) × Answered (now words) used × Used used (now t) rules × (length (now t) ≡ mostRules) × (rules ≤ mostRules) × Contexts (storeOf (now words) (now counts) used) (now c) contexts × (length (now c) ≡ mostContexts) × (contexts ≤ mostContexts) × (mostContexts * rules ≤ length (now table)) × (used ≤ midRows) ⌝ }
+    requires { ⌜ Ready (now words) (now counts) used (now index) × Answered (now words) used × Used used (now t) rules × (length (now t) ≡ mostRules) × (rules ≤ mostRules) × Contexts (storeOf (now words) (now counts) used) (now c) contexts × (length (now c) ≡ mostContexts) × (contexts ≤ mostContexts) × (mostContexts * rules ≤ length (now table)) × (used ≤ midRows) ⌝ }
     ensures { λ _. ⌜ Observed (storeOf (now (words .entry)) (now (counts .entry)) used) (answersIn used (now (words .entry))) (now (t .entry)) rules (now (c .entry)) contexts (now (table .exit)) ⌝ }
 {
     if used as usize <= LEAST_ROWS {
-        return observe_few(
-            words,
-            counts,
-            used,
-            holes,
-            head,
-            next,
-            mix,
-            t,
-            rules,
-            c,
-            contexts,
-            table,
-        );
+        return observe_few(words, counts, used, index, t, rules, c, contexts, table);
     }
     let mut list = [0u16; MID_ROWS];
     let mut filled = [0u16; MID_ROWS];
@@ -136,10 +108,7 @@ pub fn observe_some(
         words,
         counts,
         used,
-        holes,
-        head,
-        next,
-        mix,
+        index,
         t,
         rules,
         c,

@@ -10,6 +10,7 @@ ghost use Rattle.model.specs.Store.{isContext, nextRow};
 ghost use Rattle.model.specs.Table.{answerIn, answersOf};
 ghost use Rattle.model.specs.Entry.{storeOf, answersIn};
 ghost use Rattle.bank.specs.Ready.{Ready, frameAt};
+ghost use Rattle.bank.specs.Index.{sizeIn, holeOf};
 ghost use Rattle.table.specs.Answers.{Observed};
 ghost use Rattle.table_columns.specs.Columns.{HoledRows, holeKid, Column, Answered, Contexts};
 use bank::index;
@@ -19,14 +20,14 @@ use model::limits::MOST_CONTEXTS;
 use model::limits::MOST_RULES;
 
 // The rows beyond row 0 with a hole, in order, and how many they are.
-pub fn holed_rows(used: u16, holes: &[u8], list: &mut [u16]) -> u16
-    requires { ⌜ (used ≤ length (now holes)) × (used ≤ length (now list)) × (0 < used) × (used ≤ mostRows) ⌝ }
-    ensures { λ r. ⌜ HoledRows (now (holes .entry)) used (now (list .exit)) r ⌝ }
+pub fn holed_rows(used: u16, index: &[u16], list: &mut [u16]) -> u16
+    requires { ⌜ (used ≤ sizeIn (now index)) × (used ≤ length (now list)) × (0 < used) × (used ≤ mostRows) ⌝ }
+    ensures { λ r. ⌜ HoledRows (now (index .entry)) used (now (list .exit)) r ⌝ }
 {
     let mut n: u16 = 0;
     let mut i: u16 = 1;
     while i < used {
-        if holes[i as usize] != 0 {
+        if index::hole_of(index, Row(i)) != 0 {
             list[n as usize] = i;
             n += 1;
         }
@@ -36,49 +37,28 @@ pub fn holed_rows(used: u16, holes: &[u8], list: &mut [u16]) -> u16
 }
 
 // The child of a row that has the hole.
-fn hole_kid(
-    words: &[u32],
-    counts: &[u8],
-    used: u16,
-    holes: &[u8],
-    head: &[u16],
-    next: &[u16],
-    mix: &[u32; 5],
-    row: Row,
-) -> Row
-    requires { ⌜ Ready (now words) (now counts) used (now holes) (now head) (now next) (now mix) × (row .0 < used) × (getD (now holes) (row .0) 0 ≡ 0 → ⊥) ⌝ }
-    ensures { λ r. ⌜ (r .0 ≡ holeKid (storeOf (now (words .entry)) (now (counts .entry)) used) (now (holes .entry)) (row .0)) × (r .0 < row .0) ⌝ }
+fn hole_kid(words: &[u32], counts: &[u8], used: u16, index: &[u16], row: Row) -> Row
+    requires { ⌜ Ready (now words) (now counts) used (now index) × (row .0 < used) × (getD (now index) (holeOf (row .0)) 0 ≡ 0 → ⊥) ⌝ }
+    ensures { λ r. ⌜ (r .0 ≡ holeKid (storeOf (now (words .entry)) (now (counts .entry)) used) (now (index .entry)) (row .0)) × (r .0 < row .0) ⌝ }
 {
-    let i = row.0 as usize;
-    let place = holes[i] as usize - 1;
+    let place = index::hole_of(index, row) as usize - 1;
     let kid = rows::kid_of(words, row, place);
     Row(kid as u16)
 }
 
 // What a row with a hole fills to, where its hole child fills to `with`; row 0 where that is not stored.
-fn refill(
-    words: &[u32],
-    counts: &[u8],
-    used: u16,
-    holes: &[u8],
-    head: &[u16],
-    next: &[u16],
-    mix: &[u32; 5],
-    row: Row,
-    with: Row,
-) -> Row
-    requires { ⌜ Ready (now words) (now counts) used (now holes) (now head) (now next) (now mix) × (row .0 < used) × (getD (now holes) (row .0) 0 ≡ 0 → ⊥) × (with .0 < used) ⌝ }
-    ensures { λ r. ⌜ (r .0 ≡ nextRow (storeOf (now (words .entry)) (now (counts .entry)) used) (frameAt (storeOf (now (words .entry)) (now (counts .entry)) used) (row .0) (getD (now (holes .entry)) (row .0) 0 - 1)) (with .0)) × (r .0 < used) ⌝ }
+fn refill(words: &[u32], counts: &[u8], used: u16, index: &[u16], row: Row, with: Row) -> Row
+    requires { ⌜ Ready (now words) (now counts) used (now index) × (row .0 < used) × (getD (now index) (holeOf (row .0)) 0 ≡ 0 → ⊥) × (with .0 < used) ⌝ }
+    ensures { λ r. ⌜ (r .0 ≡ nextRow (storeOf (now (words .entry)) (now (counts .entry)) used) (frameAt (storeOf (now (words .entry)) (now (counts .entry)) used) (row .0) (getD (now (index .entry)) (holeOf (row .0)) 0 - 1)) (with .0)) × (r .0 < used) ⌝ }
 {
     if with.0 == 0 {
         return Row(0);
     }
-    let i = row.0 as usize;
-    let place = holes[i] as usize - 1;
+    let place = index::hole_of(index, row) as usize - 1;
     let symbol = rows::symbol_of(words, row);
     let mut places = rows::places_of(words, row);
     places[place] = with.0 as u32;
-    index::find(words, used, head, next, mix, symbol, places)
+    index::find(words, used, index, symbol, places)
 }
 
 // The column of a record: one loop over the rows with a hole, each from its hole child.
@@ -86,25 +66,22 @@ fn fill_column(
     words: &[u32],
     counts: &[u8],
     used: u16,
-    holes: &[u8],
-    head: &[u16],
-    next: &[u16],
-    mix: &[u32; 5],
+    index: &[u16],
     list: &[u16],
     n: u16,
     with: Row,
     filled: &mut [u16],
 )
-    requires { ⌜ Ready (now words) (now counts) used (now holes) (now head) (now next) (now mix) × HoledRows (now holes) used (now list) n × (with .0 < used) × (used ≤ length (now filled)) ⌝ }
+    requires { ⌜ Ready (now words) (now counts) used (now index) × HoledRows (now index) used (now list) n × (with .0 < used) × (used ≤ length (now filled)) ⌝ }
     ensures { λ _. ⌜ Column (storeOf (now (words .entry)) (now (counts .entry)) used) (with .0) (now (filled .exit)) ⌝ }
 {
     filled[0] = with.0;
     let mut p: u16 = 0;
     while p < n {
         let row = Row(list[p as usize]);
-        let kid = hole_kid(words, counts, used, holes, head, next, mix, row);
+        let kid = hole_kid(words, counts, used, index, row);
         let inner = Row(filled[kid.0 as usize]);
-        let outer = refill(words, counts, used, holes, head, next, mix, row, inner);
+        let outer = refill(words, counts, used, index, row, inner);
         filled[row.0 as usize] = outer.0;
         p += 1;
     }
@@ -147,10 +124,7 @@ pub fn observe_row(
     words: &[u32],
     counts: &[u8],
     used: u16,
-    holes: &[u8],
-    head: &[u16],
-    next: &[u16],
-    mix: &[u32; 5],
+    index: &[u16],
     list: &[u16],
     n: u16,
     t: &[u16; MOST_RULES],
@@ -160,24 +134,12 @@ pub fn observe_row(
     filled: &mut [u16],
     table: &mut [u8],
 )
-    requires { ⌜ Ready (now words) (now counts) used (now holes) (now head) (now next) (now mix) × Answered (now words) used × HoledRows (now holes) used (now list) n × (length (now t) ≡ mostRules) × (k < mostRules) × (getD (now t) k 0 < used) × Contexts (storeOf (now words) (now counts) used) (now c) contexts × (length (now c) ≡ mostContexts) × (contexts ≤ mostContexts) × (used ≤ length (now filled)) × (mostContexts * k + mostContexts ≤ length (now table)) × Observed (storeOf (now words) (now counts) used) (answersIn used (now words)) (now t) k (now c) contexts (now table) ⌝ }
+    requires { ⌜ Ready (now words) (now counts) used (now index) × Answered (now words) used × HoledRows (now index) used (now list) n × (length (now t) ≡ mostRules) × (k < mostRules) × (getD (now t) k 0 < used) × Contexts (storeOf (now words) (now counts) used) (now c) contexts × (length (now c) ≡ mostContexts) × (contexts ≤ mostContexts) × (used ≤ length (now filled)) × (mostContexts * k + mostContexts ≤ length (now table)) × Observed (storeOf (now words) (now counts) used) (answersIn used (now words)) (now t) k (now c) contexts (now table) ⌝ }
     ensures { λ _. ⌜ Observed (storeOf (now (words .entry)) (now (counts .entry)) used) (answersIn used (now (words .entry))) (now (t .entry)) (k + 1) (now (c .entry)) contexts (now (table .exit)) ⌝ }
     ensures filled { λ _. ⌜ length (now (filled .exit)) ≡ length (now (filled .entry)) ⌝ }
     ensures row { λ _. ⌜ now (table .exit) ≡ sets (now (table .entry)) (mostContexts * k) (answersOf (storeOf (now (words .entry)) (now (counts .entry)) used) (answersIn used (now (words .entry))) (take contexts (now (c .entry))) (getD (now (t .entry)) k 0)) ⌝ }
 {
     let with = Row(t[k]);
-    fill_column(
-        words,
-        counts,
-        used,
-        holes,
-        head,
-        next,
-        mix,
-        list,
-        n,
-        with,
-        filled,
-    );
+    fill_column(words, counts, used, index, list, n, with, filled);
     read_column(words, counts, used, with, filled, c, contexts, k, table);
 }

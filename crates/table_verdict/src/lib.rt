@@ -69,18 +69,15 @@ fn target_of(
     words: &[u32],
     counts: &[u8],
     used: u16,
-    holes: &[u8],
-    head: &[u16],
-    next: &[u16],
-    mix: &[u32; 5],
+    index: &[u16],
     reps: &[u16],
     symbol: u32,
     places: [u32; 4],
 ) -> Row
-    requires { ⌜ Ready (now words) (now counts) used (now holes) (now head) (now next) (now mix) × (used ≤ length (now reps)) ⌝ }
+    requires { ⌜ Ready (now words) (now counts) used (now index) × (used ≤ length (now reps)) ⌝ }
     ensures { λ r. ⌜ r .0 ≡ getD (now (reps .entry)) (findPlaces (storeOf (now (words .entry)) (now (counts .entry)) used) symbol places) 0 ⌝ }
 {
-    let found = index::find(words, used, head, next, mix, symbol, places);
+    let found = index::find(words, used, index, symbol, places);
     Row(reps[found.0 as usize])
 }
 
@@ -89,10 +86,7 @@ fn row_rep(
     words: &[u32],
     counts: &[u8],
     used: u16,
-    holes: &[u8],
-    head: &[u16],
-    next: &[u16],
-    mix: &[u32; 5],
+    index: &[u16],
     s: &[u16; MOST_STATES],
     states: usize,
     t: &[u16; MOST_RULES],
@@ -101,7 +95,7 @@ fn row_rep(
     led: &[u16],
     row: Row,
 ) -> Row
-    requires { ⌜ Ready (now words) (now counts) used (now holes) (now head) (now next) (now mix) × Ruled (storeOf (now words) (now counts) used) (take states (now s)) (take rules (now t)) (now reps) × (used ≤ length (now led)) × (0 < row .0) × (row .0 < used) × ((i : ℕ) → i < row .0 → getD (now led) i 0 ≡ repOf (take states (now s)) (rowState (rulesBy (storeOf (now words) (now counts) used) (take states (now s)) (take rules (now t)) (now reps)) (storeOf (now words) (now counts) used) i)) ⌝ }
+    requires { ⌜ Ready (now words) (now counts) used (now index) × Ruled (storeOf (now words) (now counts) used) (take states (now s)) (take rules (now t)) (now reps) × (used ≤ length (now led)) × (0 < row .0) × (row .0 < used) × ((i : ℕ) → i < row .0 → getD (now led) i 0 ≡ repOf (take states (now s)) (rowState (rulesBy (storeOf (now words) (now counts) used) (take states (now s)) (take rules (now t)) (now reps)) (storeOf (now words) (now counts) used) i)) ⌝ }
     ensures { λ r. ⌜ r .0 ≡ repOf (take states (now (s .entry))) (rowState (rulesBy (storeOf (now (words .entry)) (now (counts .entry)) used) (take states (now (s .entry))) (take rules (now (t .entry))) (now (reps .entry))) (storeOf (now (words .entry)) (now (counts .entry)) used) (row .0)) ⌝ }
 {
     let symbol = rows::symbol_of(words, row);
@@ -117,18 +111,7 @@ fn row_rep(
         places[k] = rep as u32;
         k += 1;
     }
-    target_of(
-        words,
-        counts,
-        used,
-        holes,
-        head,
-        next,
-        mix,
-        reps,
-        symbol,
-        places,
-    )
+    target_of(words, counts, used, index, reps, symbol, places)
 }
 
 // The representative of the state of every row up to a row, by one loop from the bottom.
@@ -136,10 +119,7 @@ pub fn row_reps(
     words: &[u32],
     counts: &[u8],
     used: u16,
-    holes: &[u8],
-    head: &[u16],
-    next: &[u16],
-    mix: &[u32; 5],
+    index: &[u16],
     s: &[u16; MOST_STATES],
     states: usize,
     t: &[u16; MOST_RULES],
@@ -148,7 +128,7 @@ pub fn row_reps(
     upto: Row,
     led: &mut [u16],
 )
-    requires { ⌜ Ready (now words) (now counts) used (now holes) (now head) (now next) (now mix) × Ruled (storeOf (now words) (now counts) used) (take states (now s)) (take rules (now t)) (now reps) × (used ≤ length (now led)) × (upto .0 < used) ⌝ }
+    requires { ⌜ Ready (now words) (now counts) used (now index) × Ruled (storeOf (now words) (now counts) used) (take states (now s)) (take rules (now t)) (now reps) × (used ≤ length (now led)) × (upto .0 < used) ⌝ }
     ensures { λ _. ⌜ (length (now (led .exit)) ≡ length (now (led .entry))) × ((i : ℕ) → i ≤ upto .0 → getD (now (led .exit)) i 0 ≡ repOf (take states (now (s .entry))) (rowState (rulesBy (storeOf (now (words .entry)) (now (counts .entry)) used) (take states (now (s .entry))) (take rules (now (t .entry))) (now (reps .entry))) (storeOf (now (words .entry)) (now (counts .entry)) used) i)) ⌝ }
 {
     led[0] = 0;
@@ -158,10 +138,7 @@ pub fn row_reps(
             words,
             counts,
             used,
-            holes,
-            head,
-            next,
-            mix,
+            index,
             s,
             states,
             t,
@@ -180,10 +157,7 @@ pub fn accepts_row(
     words: &[u32],
     counts: &[u8],
     used: u16,
-    holes: &[u8],
-    head: &[u16],
-    next: &[u16],
-    mix: &[u32; 5],
+    index: &[u16],
     s: &[u16; MOST_STATES],
     states: usize,
     t: &[u16; MOST_RULES],
@@ -191,35 +165,18 @@ pub fn accepts_row(
     reps: &[u16],
     row: Row,
 ) -> bool
-    requires { ⌜ Ready (now words) (now counts) used (now holes) (now head) (now next) (now mix) × Ruled (storeOf (now words) (now counts) used) (take states (now s)) (take rules (now t)) (now reps) × (row .0 < used) ⌝ }
+    requires { ⌜ Ready (now words) (now counts) used (now index) × Ruled (storeOf (now words) (now counts) used) (take states (now s)) (take rules (now t)) (now reps) × (row .0 < used) ⌝ }
     ensures { λ r. ⌜ r ≡ acceptsRow (hypothesis (now (words .entry)) (now (counts .entry)) used (now (s .entry)) states (now (t .entry)) rules (now (reps .entry))) (storeOf (now (words .entry)) (now (counts .entry)) used) (row .0) ⌝ }
 {
     if used as usize <= SMALL_ROWS {
-        return accepts_few(
-            words,
-            counts,
-            used,
-            holes,
-            head,
-            next,
-            mix,
-            s,
-            states,
-            t,
-            rules,
-            reps,
-            row,
-        );
+        return accepts_few(words, counts, used, index, s, states, t, rules, reps, row);
     }
     let mut led = [0u16; MOST_ROWS];
     accepts_with(
         words,
         counts,
         used,
-        holes,
-        head,
-        next,
-        mix,
+        index,
         s,
         states,
         t,
@@ -235,10 +192,7 @@ fn accepts_few(
     words: &[u32],
     counts: &[u8],
     used: u16,
-    holes: &[u8],
-    head: &[u16],
-    next: &[u16],
-    mix: &[u32; 5],
+    index: &[u16],
     s: &[u16; MOST_STATES],
     states: usize,
     t: &[u16; MOST_RULES],
@@ -246,7 +200,7 @@ fn accepts_few(
     reps: &[u16],
     row: Row,
 ) -> bool
-    requires { ⌜ Ready (now words) (now counts) used (now holes) (now head) (now next) (now mix) × Ruled (storeOf (now words) (now counts) used) (take states (now s)) (take rules (now t)) (now reps) × (row .0 < used) × (used ≤ smallRows) ⌝ }
+    requires { ⌜ Ready (now words) (now counts) used (now index) × Ruled (storeOf (now words) (now counts) used) (take states (now s)) (take rules (now t)) (now reps) × (row .0 < used) × (used ≤ smallRows) ⌝ }
     ensures { λ r. ⌜ r ≡ acceptsRow (hypothesis (now (words .entry)) (now (counts .entry)) used (now (s .entry)) states (now (t .entry)) rules (now (reps .entry))) (storeOf (now (words .entry)) (now (counts .entry)) used) (row .0) ⌝ }
 {
     let mut led = [0u16; SMALL_ROWS];
@@ -254,10 +208,7 @@ fn accepts_few(
         words,
         counts,
         used,
-        holes,
-        head,
-        next,
-        mix,
+        index,
         s,
         states,
         t,
@@ -273,10 +224,7 @@ fn accepts_with(
     words: &[u32],
     counts: &[u8],
     used: u16,
-    holes: &[u8],
-    head: &[u16],
-    next: &[u16],
-    mix: &[u32; 5],
+    index: &[u16],
     s: &[u16; MOST_STATES],
     states: usize,
     t: &[u16; MOST_RULES],
@@ -285,17 +233,14 @@ fn accepts_with(
     row: Row,
     led: &mut [u16],
 ) -> bool
-    requires { ⌜ Ready (now words) (now counts) used (now holes) (now head) (now next) (now mix) × Ruled (storeOf (now words) (now counts) used) (take states (now s)) (take rules (now t)) (now reps) × (row .0 < used) × (used ≤ length (now led)) ⌝ }
+    requires { ⌜ Ready (now words) (now counts) used (now index) × Ruled (storeOf (now words) (now counts) used) (take states (now s)) (take rules (now t)) (now reps) × (row .0 < used) × (used ≤ length (now led)) ⌝ }
     ensures { λ r. ⌜ r ≡ acceptsRow (hypothesis (now (words .entry)) (now (counts .entry)) used (now (s .entry)) states (now (t .entry)) rules (now (reps .entry))) (storeOf (now (words .entry)) (now (counts .entry)) used) (row .0) ⌝ }
 {
     row_reps(
         words,
         counts,
         used,
-        holes,
-        head,
-        next,
-        mix,
+        index,
         s,
         states,
         t,
@@ -330,10 +275,7 @@ pub fn run_list(
     words: &[u32],
     counts: &[u8],
     used: u16,
-    holes: &[u8],
-    head: &[u16],
-    next: &[u16],
-    mix: &[u32; 5],
+    index: &[u16],
     s: &[u16; MOST_STATES],
     states: usize,
     t: &[u16; MOST_RULES],
@@ -341,7 +283,7 @@ pub fn run_list(
     reps: &[u16],
     symbols: &[u8],
 ) -> Led
-    requires { ⌜ Ready (now words) (now counts) used (now holes) (now head) (now next) (now mix) × Ruled (storeOf (now words) (now counts) used) (take states (now s)) (take rules (now t)) (now reps) × Parses (now counts) 0 (now symbols) × (length (now symbols) ≤ mostListed) ⌝ }
+    requires { ⌜ Ready (now words) (now counts) used (now index) × Ruled (storeOf (now words) (now counts) used) (take states (now s)) (take rules (now t)) (now reps) × Parses (now counts) 0 (now symbols) × (length (now symbols) ≤ mostListed) ⌝ }
     ensures { λ r. ⌜ r ≡ ledBy (take states (now (s .entry))) (runFrom (hypothesis (now (words .entry)) (now (counts .entry)) used (now (s .entry)) states (now (t .entry)) rules (now (reps .entry))) 0 (now (symbols .entry)) []) ⌝ }
 {
     let mut stack = [0u16; MOST_LISTED];
@@ -351,18 +293,7 @@ pub fn run_list(
         let symbol = symbols[at] as u32;
         let count = counts[symbol as usize] as usize;
         let places = bank_listed::top_places(&stack, height, count);
-        let rep = target_of(
-            words,
-            counts,
-            used,
-            holes,
-            head,
-            next,
-            mix,
-            reps,
-            symbol,
-            places,
-        );
+        let rep = target_of(words, counts, used, index, reps, symbol, places);
         if rep.0 == 0 {
             return Led::Stuck(at);
         }
@@ -379,10 +310,7 @@ pub fn accepts_list(
     words: &[u32],
     counts: &[u8],
     used: u16,
-    holes: &[u8],
-    head: &[u16],
-    next: &[u16],
-    mix: &[u32; 5],
+    index: &[u16],
     s: &[u16; MOST_STATES],
     states: usize,
     t: &[u16; MOST_RULES],
@@ -390,17 +318,14 @@ pub fn accepts_list(
     reps: &[u16],
     symbols: &[u8],
 ) -> bool
-    requires { ⌜ Ready (now words) (now counts) used (now holes) (now head) (now next) (now mix) × Ruled (storeOf (now words) (now counts) used) (take states (now s)) (take rules (now t)) (now reps) × Parses (now counts) 0 (now symbols) × (length (now symbols) ≤ mostListed) ⌝ }
+    requires { ⌜ Ready (now words) (now counts) used (now index) × Ruled (storeOf (now words) (now counts) used) (take states (now s)) (take rules (now t)) (now reps) × Parses (now counts) 0 (now symbols) × (length (now symbols) ≤ mostListed) ⌝ }
     ensures { λ r. ⌜ r ≡ acceptsList (hypothesis (now (words .entry)) (now (counts .entry)) used (now (s .entry)) states (now (t .entry)) rules (now (reps .entry))) (now (symbols .entry)) ⌝ }
 {
     match run_list(
         words,
         counts,
         used,
-        holes,
-        head,
-        next,
-        mix,
+        index,
         s,
         states,
         t,

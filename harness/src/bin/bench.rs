@@ -1,7 +1,7 @@
 //! Times of bank's functions, as `crates/probe` exports them, beside the same work in Rust.
 //! docs/BENCHMARKS.md says what the lines mean.
 
-use harness::colliding::Crowd;
+use harness::colliding::{Sort, ALL, FEW};
 use harness::hashed::Hashed;
 use harness::lent::{Lent, ROWS_MAX};
 use harness::probe;
@@ -34,10 +34,14 @@ fn longer(mut long: impl FnMut(), mut short: impl FnMut()) -> Duration {
     times[RUNS / 2]
 }
 
-/// One line: bank's time, another's, and bank's as a part of the other's.
-fn line(name: &str, bank: Duration, other: &str, time: Duration) {
+/// Bank's time, another's, and bank's as a part of the other's.
+fn told(name: &str, bank: Duration, other: &str, time: Duration) -> String {
     let ratio = bank.as_secs_f64() / time.as_secs_f64();
-    println!("{name:<44} {bank:>10.1?}   {other:<7} {time:>10.1?}   {ratio:>6.2}");
+    format!("{name:<44} {bank:>10.1?}   {other:<7} {time:>10.1?}   {ratio:>6.2}")
+}
+
+fn line(name: &str, bank: Duration, other: &str, time: Duration) {
+    println!("{}", told(name, bank, other, time));
 }
 
 fn pass_time(runs: usize, lent: &Lent) -> Duration {
@@ -77,8 +81,8 @@ fn read_time(lent: &Lent) -> Duration {
     })
 }
 
-fn pass_lines(name: &str, runs: usize, lent: &Lent) {
-    let bank = pass_time(runs, lent);
+fn pass_lines(name: &str, lent: &Lent) {
+    let bank = pass_time(RUNS, lent);
     line(name, bank, "oracle", look_time(lent));
     line("", bank, "HashMap", read_time(lent));
 }
@@ -153,31 +157,31 @@ fn fill_line(name: &str, lent: &Lent, context: u16, with: u16) {
     line(name, bank, "HashMap", hashed);
 }
 
-/// A full table in which all but 2,000 rows share a bucket under the multipliers of one try, and
-/// 66 under those of each try before it, so that it is reached.
-fn crowded(last: usize) -> Lent {
-    let mut crowd = Crowd::over(3, 2_000);
-    for mix in 0..last {
-        crowd.crowd(mix, 66);
+/// T1 of full tables: scattered rows, and the same made against the index, each time also as a multiple of the first.
+fn sort_lines(name: &str, sorts: [Sort; 3]) {
+    let mut scattered = None;
+    for sort in sorts {
+        let lent = sort.table(ROWS_MAX, ROWS_MAX);
+        assert_eq!(lent.used as usize, ROWS_MAX);
+        let bank = pass_time(RUNS, &lent);
+        let name = scattered.map_or(name.to_string(), |_| format!("    {}", sort.name));
+        let scattered = *scattered.get_or_insert(bank);
+        let times = bank.as_secs_f64() / scattered.as_secs_f64();
+        println!(
+            "{}   {times:>9.2}",
+            told(&name, bank, "oracle", look_time(&lent))
+        );
     }
-    let left = ROWS_MAX - crowd.lent.used as usize;
-    crowd.crowd(last, left);
-    assert_eq!(crowd.lent.used as usize, ROWS_MAX);
-    crowd.lent
 }
 
 fn lines() {
     println!(
-        "{:<44} {:>10}   {:<7} {:>10}   {:>6}",
-        "", "bank", "against", "", "ratio"
+        "{:<44} {:>10}   {:<7} {:>10}   {:>6}   {:>9}",
+        "", "bank", "against", "", "ratio", "scattered"
     );
     let full = sound::large(&mut Random::new(1), ROWS_MAX);
-    pass_lines("T1 and index, 16,384 random rows", RUNS, &full);
-    pass_lines(
-        "T1 and index, a chain of 16,382 rows",
-        RUNS,
-        &chain(ROWS_MAX - 2),
-    );
+    pass_lines("T1 and index, 16,384 random rows", &full);
+    pass_lines("T1 and index, a chain of 16,382 rows", &chain(ROWS_MAX - 2));
     lookup_line();
     fill_line(
         "a chain of 16,000 filled, all rows found",
@@ -191,12 +195,8 @@ fn lines() {
         8_000,
         8_001,
     );
-    pass_lines(
-        "T1, 14,384 rows collide in the first try",
-        RUNS,
-        &crowded(0),
-    );
-    pass_lines("T1, 13,922 rows collide in the last try", 5, &crowded(7));
+    sort_lines("T1, 16,384 rows over 4 symbols, scattered", FEW);
+    sort_lines("T1, 16,384 rows over 63 symbols, scattered", ALL);
 }
 
 /// Recursion in Rust takes more stack than a main thread may have.

@@ -4,6 +4,7 @@
 
 use harness::calls::{call, oracle_call};
 use harness::cases::lists::longest_list;
+use harness::colliding::{Sort, FEW};
 use harness::crowded::Crowded;
 use harness::kuldveth;
 use harness::learning::{learning, runs};
@@ -29,9 +30,13 @@ fn repeats(states: usize) -> usize {
 
 type Calls = fn(&mut [u32], &mut Lists, &Call) -> Seen;
 
-fn line(name: &str, library: Duration, oracle: Duration) {
+fn told(name: &str, library: Duration, oracle: Duration) -> String {
     let ratio = library.as_secs_f64() / oracle.as_secs_f64();
-    println!("{name:<50} {library:>10.1?} {oracle:>10.1?} {ratio:>8.2}");
+    format!("{name:<50} {library:>10.1?} {oracle:>10.1?} {ratio:>8.2}")
+}
+
+fn line(name: &str, library: Duration, oracle: Duration) {
+    println!("{}", told(name, library, oracle));
 }
 
 /// The time that calls take one after the other, without the copies that they are made on.
@@ -131,23 +136,29 @@ fn call_lines() {
     call_line("start", &started, Call::Start(vec![1, 0]));
 }
 
-/// The same offer on tables with 7,000 rows more: any, all of one bucket in the first try, and 60 to a bucket.
-fn collided_lines() {
-    let offered = |name: &str, add: fn(&mut Crowded)| {
-        let mut crowded = Crowded::over(big::spine(4_000));
-        add(&mut crowded);
+/// The same offer on tables with rows more, scattered or made against the index, each time also as a multiple of the first.
+fn sort_lines(name: &str, sorts: [Sort; 3], rows: usize, crowded: impl Fn() -> Crowded) {
+    let mut scattered = None;
+    for sort in sorts {
+        let mut crowded = crowded();
+        crowded.add(sort.aim, rows);
         let tables = crowded.strange.tables;
         let node = tables.lists.letters - 1;
-        call_line(name, &tables, Call::Offer(vec![0, 0, 0, 0, node], 1));
-    };
-    offered("offer on 32, 33, 65; 7,000 rows more", |crowded| {
-        crowded.scatter(7_000);
+        let offer = Call::Offer(vec![0, 0, 0, 0, node], 1);
+        let (library, oracle) = least(RUNS, &tables, &[offer]);
+        let name = scattered.map_or(name.to_string(), |_| format!("    {}", sort.name));
+        let scattered = *scattered.get_or_insert(library);
+        let times = library.as_secs_f64() / scattered.as_secs_f64();
+        println!("{} {times:>10.2}", told(&name, library, oracle));
+    }
+}
+
+fn collided_lines() {
+    sort_lines("offer on 32, 33, 65; 7,000 rows more", FEW, 7_000, || {
+        Crowded::over(big::spine(4_000), 4, ROWS_MAX)
     });
-    offered("    in one bucket", |crowded| {
-        crowded.collide(0, 7_000, ROWS_MAX);
-    });
-    offered("    60 to a bucket", |crowded| {
-        crowded.collide(0, 7_000, 60);
+    sort_lines("offer on 0, 0, 1; 16,000 rows", FEW, 16_000, || {
+        Crowded::over_leaves(20, 4, ROWS_MAX)
     });
 }
 
@@ -205,8 +216,8 @@ fn list_lines() {
 
 fn main() {
     println!(
-        "{:<50} {:>10} {:>10} {:>8}",
-        "", "library", "oracle", "ratio"
+        "{:<50} {:>10} {:>10} {:>8} {:>10}",
+        "", "library", "oracle", "ratio", "scattered"
     );
     for states in [8, 12, 16, 20, 24, 28, 32] {
         run_line(states, ROWS_MAX);

@@ -1,14 +1,19 @@
 //! Times of looking at full tables, library and oracle in turn. docs/BENCHMARKS.md says what the
 //! lines mean.
 
+use harness::colliding::{Sort, ALL, FEW};
 use harness::crowded::Crowded;
+use harness::flat;
 use harness::kuldveth;
+use oracle::limits::ROWS_MAX;
 use oracle::testing::big;
 use oracle::testing::compare::Tables;
 use std::hint::black_box;
 use std::time::{Duration, Instant};
 
 const RUNS: usize = 100;
+/// These looks take long.
+const FLAT_RUNS: usize = 10;
 
 fn time(call: impl FnOnce()) -> Duration {
     let begin = Instant::now();
@@ -34,23 +39,65 @@ fn ratio(one: Duration, other: Duration) -> f64 {
     one.as_secs_f64() / other.as_secs_f64()
 }
 
-/// One line, and the library's time.
-fn line(name: &str, runs: usize, tables: &Tables) -> Duration {
-    let (library, oracle) = times(runs, tables);
+/// One line: both times and their ratio.
+fn told(name: &str, library: Duration, oracle: Duration) -> String {
     let ratio = ratio(library, oracle);
-    println!("{name:<50} {library:>10.1?} {oracle:>10.1?} {ratio:>8.2}");
-    library
+    format!("{name:<50} {library:>10.1?} {oracle:>10.1?} {ratio:>8.2}")
 }
 
-/// The same rows scattered, all of one bucket in the first try, and 60 to a bucket.
-fn collided_lines(name: &str, tables: impl Fn() -> Tables) {
-    let crowded = || Crowded::over(tables());
-    let scattered = line(name, RUNS, &crowded().scattered());
-    let collided = line("    in one bucket", RUNS, &crowded().collided());
-    let chained = line("    60 to a bucket", RUNS, &crowded().chained());
-    let (one, other) = (ratio(collided, scattered), ratio(chained, scattered));
-    let name = "    both against scattered, library alone";
-    println!("{name:<50} {one:>10.2} {other:>10.2}");
+fn line(name: &str, tables: &Tables) {
+    let (library, oracle) = times(RUNS, tables);
+    println!("{}", told(name, library, oracle));
+}
+
+/// Tables filled with scattered records, and with such as are made against the index, each time also as a multiple of the first.
+fn sort_lines(name: &str, sorts: [Sort; 3], crowded: impl Fn() -> Crowded) {
+    let mut scattered = None;
+    for sort in sorts {
+        let (library, oracle) = times(RUNS, &crowded().filled(sort.aim));
+        let name = scattered.map_or(name.to_string(), |_| format!("    {}", sort.name));
+        let scattered = *scattered.get_or_insert(library);
+        let times = ratio(library, scattered);
+        println!("{} {times:>10.2}", told(&name, library, oracle));
+    }
+}
+
+/// Contexts beside C, scattered and against the index.
+fn flat_lines() {
+    let (scattered, oracle) = times(FLAT_RUNS, &flat::scattered());
+    println!(
+        "{}",
+        told("2, 256, 2; 7,400 flat contexts beside C", scattered, oracle)
+    );
+    let (library, oracle) = times(FLAT_RUNS, &flat::against());
+    let times = ratio(library, scattered);
+    println!(
+        "{} {times:>10.2}",
+        told("    against the trees", library, oracle)
+    );
+}
+
+/// The tables that are filled: few symbols, and as many as there are.
+fn collided_lines() {
+    let few = |tables: Tables| Crowded::over(tables, 4, ROWS_MAX);
+    sort_lines("32, 256, 289; 8,000 rows more", FEW, || {
+        few(big::widest(4_000, 8_000))
+    });
+    sort_lines("32, 256, 41; 7,127 rows more", FEW, || {
+        few(big::proposing(40))
+    });
+    sort_lines("32, 33, 65; 8,350 rows more", FEW, || {
+        few(big::spine(4_000))
+    });
+    sort_lines("0, 0, 1; 16,363 rows over 4 symbols", FEW, || {
+        Crowded::over_leaves(20, 4, ROWS_MAX)
+    });
+    sort_lines("0, 0, 1; 16,382 rows over 63 symbols", ALL, || {
+        Crowded::over_leaves(1, 63, ROWS_MAX)
+    });
+    sort_lines("0, 0, 1; 1,022 rows over 63 symbols", ALL, || {
+        Crowded::over_leaves(1, 63, 1_024)
+    });
 }
 
 /// Full tables of every kind, each with the lengths of S, T and C.
@@ -89,16 +136,14 @@ fn full_tables() -> [(&'static str, Tables); 12] {
 }
 
 fn main() {
-    let (library, oracle, ratio) = ("library", "oracle", "ratio");
-    println!("{:<50} {library:>10} {oracle:>10} {ratio:>8}", "");
+    let (library, oracle, ratio, scattered) = ("library", "oracle", "ratio", "scattered");
+    println!(
+        "{:<50} {library:>10} {oracle:>10} {ratio:>8} {scattered:>10}",
+        ""
+    );
     for (name, tables) in full_tables() {
-        line(name, RUNS, &tables);
+        line(name, &tables);
     }
-    collided_lines("32, 256, 289; 7,600 rows more", || {
-        big::widest(4_000, 8_000)
-    });
-    collided_lines("32, 256, 41; 6,727 rows more", || big::proposing(40));
-    collided_lines("32, 33, 65; 7,950 rows more", || big::spine(4_000));
-    let worst = Crowded::over(big::spine(4_000)).collided_in_all();
-    line("    in one bucket of the last try", 3, &worst);
+    collided_lines();
+    flat_lines();
 }

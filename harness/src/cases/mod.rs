@@ -55,7 +55,7 @@ const KINDS: [(&str, Kind); 17] = [
         (0..200).for_each(|_| rubbish::random_calls(random, met));
     }),
     ("lists damaged", lists::random_list),
-    ("rows of one bucket", colliding::random_rows),
+    ("rows against the index", colliding::random_rows),
     ("lists viewed", view::random_lists),
 ];
 
@@ -73,10 +73,11 @@ pub fn run(seed: u64, case: u64, met: &mut Met) {
 /// The stack that the deepest tables have to do with.
 const STACK: usize = 4 << 20;
 
-/// Does something in a thread of its own; an error if it panics.
+/// Does something in a thread of its own, with the name of this one; an error if it panics.
 pub fn on_a_small_stack<T: Send + 'static>(
     run: impl FnOnce() -> T + Send + 'static,
 ) -> thread::Result<T> {
-    let thread = thread::Builder::new().stack_size(STACK).spawn(run);
-    thread.expect("a thread").join()
+    let name = thread::current().name().unwrap_or("main").to_string();
+    let thread = thread::Builder::new().name(name).stack_size(STACK);
+    thread.spawn(run).expect("a thread").join()
 }

@@ -123,12 +123,12 @@ impl Terms {
     }
 
     /// For each row the place, plus one, of its child with the hole; 0 for none.
-    pub fn marks(&self) -> Vec<u8> {
+    pub fn marks(&self) -> Vec<u16> {
         let holes = self.hole_counts();
         let mark = |row: usize| {
             let mut children = self.children(row).iter();
             match children.position(|&child| holes[child as usize] != 0) {
-                Some(place) => place as u8 + 1,
+                Some(place) => place as u16 + 1,
                 None => 0,
             }
         };

@@ -2,6 +2,7 @@
 
 use harness::cases::compare::Met;
 use harness::cases::damage::{after_some_calls, damaged_run, every_field, in_hand, several_fields};
+use harness::cases::on_a_small_stack;
 use oracle::testing::big;
 use oracle::testing::watch::each_case;
 
@@ -45,8 +46,13 @@ fn runs() {
     met.at_least(300, [0, 18, 30, 31]);
 }
 
+/// On a stack of 4 MB: the deepest fills take more than a test has by itself.
 #[test]
 fn full_tables() {
+    on_a_small_stack(damaged_full_tables).unwrap();
+}
+
+fn damaged_full_tables() {
     let mut met = Met::default();
     let all = [
         big::full(7_700, 7_800),

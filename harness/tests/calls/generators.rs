@@ -1,9 +1,10 @@
 //! The generators end, however little there is to make a table or a record of: one symbol without children, no such
 //! symbol at all, one record, no row left.
 
+use harness::aimed::Aim;
 use harness::cases::colliding;
 use harness::cases::compare::Met;
-use harness::colliding::{Crowd, MIXES};
+use harness::colliding::{ALL, FEW};
 use harness::crowded::Crowded;
 use harness::difference::difference;
 use harness::lent::ROWS_MAX;
@@ -44,24 +45,28 @@ fn strange(counts: &[u8], records: usize, rows: usize, seed: u64) -> Strange {
     strange
 }
 
-/// Records of one bucket, or of any, over few records or none.
+const AIMS: [Aim; 5] = [
+    Aim::Scattered,
+    Aim::OneBucket,
+    Aim::Trees(0),
+    Aim::Trees(8),
+    Aim::Trees(ROWS_MAX),
+];
+
+/// Records scattered or made against the index, over few records or none.
 #[test]
 fn crowded_tables() {
     each_case(261, 0..480, |case, random| {
         let counts = ALPHABETS[case as usize % ALPHABETS.len()];
         let records = *random.pick(&[0, 1, 2, 3, 8]);
         let tables = strange(counts, records, 30, case).tables;
-        let mut crowded = Crowded::over(tables);
-        let (mix, rows) = (random.below(MIXES.len()), random.within(0, 40));
-        match random.below(3) {
-            0 => crowded.scatter(rows),
-            1 => crowded.collide(mix, rows, rows.max(1)),
-            _ => crowded.collide(mix, rows, 3),
-        }
+        let mut crowded = Crowded::over(tables, random.within(0, 3), random.within(30, 400));
+        let rows = random.within(0, 40);
+        crowded.add(*random.pick(&AIMS), rows);
         let tables = &crowded.strange.tables;
         assert_eq!(oracle::look(&tables.words, &tables.lists).number, 0);
         let added = tables.lists.used as usize - 1;
-        assert!(added <= 8 + 400 + rows);
+        assert!(added <= 8 + rows);
         assert!(counts.contains(&0) || added == 0);
     });
 }
@@ -69,14 +74,17 @@ fn crowded_tables() {
 /// One record has one parent of four equal children, these two have 15 more, and no row is left for more.
 #[test]
 fn crowded_to_the_last() {
-    let mut crowded = Crowded::over(strange(&[0], 1, 2, 1).tables);
-    assert_eq!(crowded.strange.records.len(), 2);
-    crowded.scatter(400);
-    assert_eq!(crowded.strange.records.len(), 17);
-    let tables = Crowded::over(big::spine(8_000)).scattered();
+    for aim in AIMS {
+        let mut crowded = Crowded::over(strange(&[0], 1, 2, 1).tables, 1, 30);
+        crowded.add(aim, 1);
+        assert_eq!(crowded.strange.records.len(), 2);
+        crowded.add(aim, 4);
+        assert_eq!(crowded.strange.records.len(), 6);
+    }
+    let tables = Crowded::over(big::spine(8_000), 1, ROWS_MAX).filled(Aim::Scattered);
     assert_eq!(tables.lists.used as usize, ROWS_MAX);
-    let mut full = Crowded::over(tables.clone());
-    full.collide(0, 100, 100);
+    let mut full = Crowded::over(tables.clone(), 1, ROWS_MAX);
+    full.add(Aim::OneBucket, 100);
     assert!(full.strange.tables.words == tables.words);
 }
 
@@ -84,25 +92,29 @@ fn crowded_to_the_last() {
 #[test]
 fn crowded_small_tables() {
     let mut met = Met::default();
-    for tables in [big::deep_context(1), big::exchanges(2), big::doubling(1)] {
-        let rounds = [(0, 900, 60), (0, 500, 500), (5, 66, 66)];
-        colliding::lent(tables, &rounds, &mut met);
-    }
+    let all = [big::deep_context(1), big::exchanges(2), big::doubling(1)];
+    each_case(264, 0..3, |case, _| {
+        let tables = all[case as usize].clone();
+        let rounds = [
+            (Aim::OneBucket, 900),
+            (Aim::Trees(250), 500),
+            (Aim::Scattered, 66),
+        ];
+        colliding::lent(tables, ROWS_MAX, &rounds, &mut met);
+    });
     met.at_least(3, [0]);
 }
 
-/// 60 leaves have 791 parents in a bucket, more or less.
+/// A table has as many rows as are asked for, few or many, whatever its nodes are aimed at; at least its leaves.
 #[test]
 fn crowds() {
-    for base in [0, 1, 2, 61, 62] {
-        let mut crowd = Crowd::over(base as u64, base);
-        assert_eq!(crowd.lent.used as usize, base.max(61));
-        crowd.crowd(0, 3);
-        assert_eq!(crowd.lent.used as usize, base.max(61) + 3);
-    }
-    let mut crowd = Crowd::over(7, 61);
-    crowd.crowd(0, 900);
-    assert!((700..900).contains(&(crowd.lent.used as usize - 61)));
+    each_case(265, 0..30, |case, random| {
+        let sort = [FEW, ALL].concat()[case as usize % 6];
+        let rows = random.within(21, 900);
+        let room = random.within(rows, 1_000);
+        assert_eq!(sort.table(rows, room).used as usize, rows);
+        assert!(sort.table(0, 1).used <= 21);
+    });
 }
 
 /// Tables and listed records over alphabets that allow few or none.

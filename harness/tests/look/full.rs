@@ -1,9 +1,12 @@
 //! Full tables: sound, damaged, in another order, with rows that collide, and on a stack of 4 MB.
 
 use crate::compare::look;
+use harness::aimed::Aim;
 use harness::crowded::Crowded;
+use harness::flat;
+use harness::index_model::ROOMS;
 use harness::strange::shuffled;
-use oracle::limits::ROW_WORDS;
+use oracle::limits::{ROWS_MAX, ROW_WORDS};
 use oracle::testing::big;
 use oracle::testing::compare::Tables;
 use oracle::testing::damage::damage;
@@ -105,23 +108,53 @@ fn twin_refused(mut tables: Tables) {
     assert_eq!(look(&tables).number, 30);
 }
 
-/// Rows that share a bucket: 60 of them, more than bank takes in the first try, or in all of them.
+/// Rows of one bucket, and rows against the trees of one bucket and of many.
 #[test]
 fn colliding() {
-    let tables = [
+    let all = [
         big::widest(4_000, 8_000),
         big::proposing(40),
         big::spine(4_000),
     ];
-    for tables in tables {
-        let mut crowded = Crowded::over(tables);
-        crowded.collide(0, 1_000, 60);
-        assert_eq!(look(&crowded.strange.tables).number, 0);
-        crowded.collide(0, 500, 500);
-        assert_eq!(look(&crowded.strange.tables).number, 0);
-        (1..7).for_each(|mix| crowded.collide(mix, 66, 66));
-        crowded.collide(7, 1_000, 1_000);
-        assert_eq!(look(&crowded.strange.tables).number, 0);
+    each_case(124, 0..6, |case, _| {
+        let tables = all[case as usize % 3].clone();
+        let symbols = [4, 50][case as usize / 3];
+        let mut crowded = Crowded::over(tables, symbols, ROWS_MAX);
+        let rounds = [
+            (Aim::OneBucket, 1_000),
+            (Aim::Trees(500), 500),
+            (Aim::Trees(128), ROWS_MAX),
+        ];
+        for (aim, rows) in rounds {
+            crowded.add(aim, rows);
+            assert_eq!(look(&crowded.strange.tables).number, 0);
+        }
+        assert_eq!(crowded.room(), 0);
         twin_refused(crowded.strange.tables);
-    }
+    });
+}
+
+/// The same in each room, with nothing learnt: all rows are against the index.
+#[test]
+fn colliding_in_every_room() {
+    each_case(125, 0..12, |case, random| {
+        let room = ROOMS[case as usize % 4];
+        let aim = [Aim::OneBucket, Aim::Trees(64), Aim::Trees(ROWS_MAX)][case as usize / 4];
+        let (leaves, symbols) = (random.within(1, 20), random.within(1, 44));
+        let tables = Crowded::over_leaves(leaves, symbols, room).filled(aim);
+        assert_eq!(tables.lists.used as usize, room);
+        assert_eq!(look(&tables).number, 0);
+        twin_refused(tables);
+    });
+}
+
+/// Contexts beside C: what they fill to is looked for in long walks.
+#[test]
+fn contexts_beside() {
+    each_case(126, 0..2, |case, _| {
+        let tables = [flat::scattered, flat::against][case as usize]();
+        assert!(tables.lists.used > 16_000);
+        assert_eq!(look(&tables).number, 0);
+        twin_refused(tables);
+    });
 }

@@ -7,3 +7,4 @@ mod fill;
 mod find;
 mod listed;
 mod pass;
+mod walks;

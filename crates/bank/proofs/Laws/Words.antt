@@ -13,7 +13,6 @@ use Rattle.model.specs.Table.{answerAt}
 use Rattle.model.specs.Entry.{nodesIn, answersIn, rowWords, storeOf}
 use Rattle.model.proofs.Laws.Lent.{FourPlaces, length-rowWords, nodesIn-rowWords, answersIn-rowWords, rowWords-same, length-nodesIn, length-answersIn}
 use Rattle.bank.specs.Rows.{symbolIn, answerIn, kidIn, placesIn, nodeIn, withRow, Within}
-use Rattle.bank.specs.Index.{bucketOf, bucketAt}
 use Rattle.bank.specs.Ready.{withRows}
 
 -- ROWS READ
@@ -102,11 +101,6 @@ module _ (ws vs : List ℕ) (n : ℕ) (same : SameRows ws n vs) where
 
     pub places-kept : placesIn vs i ≡ placesIn ws i
     places-kept = λ t. kid-kept 0 (omega arith) t ∷ kid-kept 1 (omega arith) t ∷ kid-kept 2 (omega arith) t ∷ kid-kept 3 (omega arith) t ∷ []
-
-    pub bucket-kept : (mix : List ℕ) (z : ℕ) → bucketAt mix z vs i ≡ bucketAt mix z ws i
-    unfolding bucketAt
-    bucket-kept m z =
-        λ t. bucketOf m z (symbol-kept t) (kid-kept 0 (omega arith) t) (kid-kept 1 (omega arith) t) (kid-kept 2 (omega arith) t) (kid-kept 3 (omega arith) t)
 
   pub answers-kept : answersIn n vs ≡ answersIn n ws
   answers-kept =

@@ -18,7 +18,7 @@ use Rattle.model.proofs.Laws.Down.{clear-none}
 use Rattle.bank.specs.Rows.{symbolIn, placesIn}
 use Rattle.bank.specs.Ready.{placeCode, oneFurther, Ready, frameAt}
 use Rattle.bank.proofs.Laws.Words.{used-of, symbol-in, places-in}
-use Rattle.bank.proofs.Laws.Chains.{by-equal}
+use Rattle.bank.proofs.Laws.Trees.{by-equal}
 use Rattle.bank_t1.proofs.Laws.T1.{hole-ready}
 use Rattle.bank_fill.specs.declared.add.Grown.{Grown}
 use Rattle.bank_fill.specs.Adding.{kidsOf, PlacesAsked, holeAbove, Put}
@@ -82,7 +82,7 @@ module _ (x : Store) (g : Good x) (i k : ℕ) (u : i < used x) (q : FrameFits x 
       ap (λ (l : ℕ). cond (hasHole x j) (suc l) 0) (length-take-le k (kidsAt x i) (let a = frame-place in omega arith))
 
 -- THE ROW PUT in its place
-module _ {ws ns : List ℕ} {n : ℕ} {hs he ne m : List ℕ} (r : Ready ws ns n hs he ne m) (i k j : ℕ) (l : i < n) (v : j < n) (q : FrameFits (storeOf ws ns n) (frameAt (storeOf ws ns n) i k)) where
+module _ {ws ns : List ℕ} {n : ℕ} {xs : List ℕ} (r : Ready ws ns n xs) (i k j : ℕ) (l : i < n) (v : j < n) (q : FrameFits (storeOf ws ns n) (frameAt (storeOf ws ns n) i k)) where
   abbrev x : Store
   x = storeOf ws ns n
 
@@ -98,7 +98,7 @@ module _ {ws ns : List ℕ} {n : ℕ} {hs he ne m : List ℕ} (r : Ready ws ns n
   pub above-kids : kidsOf ns (symbolIn ws i) (set (placesIn ws i) k j) ≡ filledKids (frameAt (storeOf ws ns n) i k) j
   above-kids = (λ t. take (getD ns (sym sym-in t) 0) (set (sym pl-in t) k j)) ∙ kids-set x (r .good) i k u q j ∙ frame-set x (r .good) i k u q j
 
-  pub above-asks : PlacesAsked (storeOf ws ns n) (symbolIn ws i) (set (placesIn ws i) k j) (holeAbove hs j k)
+  pub above-asks : PlacesAsked (storeOf ws ns n) (symbolIn ws i) (set (placesIn ws i) k j) (holeAbove xs j k)
   above-asks =
       let f = frame-asks x (r .good) (frameAt x i k) q j (omega (arith, used-of ws ns n)) in
       record {
@@ -109,6 +109,6 @@ module _ {ws ns : List ℕ} {n : ℕ} {hs he ne m : List ℕ} (r : Ready ws ns n
       }
 
   -- and how putting it ends
-  pub above-comes : {g : Grown} {vs hs' he' ne' : List ℕ} → Put ws n hs he ne m (symbolIn ws i) (set (placesIn ws i) k j) (holeAbove hs j k) g vs hs' he' ne' →
-      Comes ws ns n (rowFor (storeOf ws ns n) (symbolAt (storeOf ws ns n) i) (filledKids (frameAt (storeOf ws ns n) i k) j)) g vs hs' he' ne' m
+  pub above-comes : {g : Grown} {vs xs' : List ℕ} → Put ws n xs (symbolIn ws i) (set (placesIn ws i) k j) (holeAbove xs j k) g vs xs' →
+      Comes ws ns n (rowFor (storeOf ws ns n) (symbolAt (storeOf ws ns n) i) (filledKids (frameAt (storeOf ws ns n) i k) j)) g vs xs'
   above-comes p = comes-by (λ t. rowFor (storeOf ws ns n) (sym-in t) (sym above-kids t)) (put-comes r above-asks p)

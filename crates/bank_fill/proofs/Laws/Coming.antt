@@ -19,14 +19,14 @@ use Rattle.bank_fill.specs.declared.add.Grown.the-variants.{Full, At}
 use Rattle.bank_fill.specs.Adding.{Came, grownRow}
 
 -- how adding ended, as a record: its parts are known from it
-pub record Comes (ws ns : List ℕ) (n : ℕ) (b : Built) (r : Grown) (ws' hs he ne m : List ℕ) : Type 0 where
-  pub came : Came ws ns n b r ws' hs he ne m
+pub record Comes (ws ns : List ℕ) (n : ℕ) (b : Built) (r : Grown) (ws' xs : List ℕ) : Type 0 where
+  pub came : Came ws ns n b r ws' xs
 
-pub comes-by : {ws ns : List ℕ} {n : ℕ} {b c : Built} {r : Grown} {ws' hs he ne m : List ℕ} → b ≡ c → Comes ws ns n c r ws' hs he ne m → Comes ws ns n b r ws' hs he ne m
-comes-by {ws} {ns} {n} {b} {c} {r} {ws'} {hs} {he} {ne} {m} e t = subst (λ (d : Built). Comes ws ns n d r ws' hs he ne m) (sym e) t
+pub comes-by : {ws ns : List ℕ} {n : ℕ} {b c : Built} {r : Grown} {ws' xs : List ℕ} → b ≡ c → Comes ws ns n c r ws' xs → Comes ws ns n b r ws' xs
+comes-by {ws} {ns} {n} {b} {c} {r} {ws'} {xs} e t = subst (λ (d : Built). Comes ws ns n d r ws' xs) (sym e) t
 
-pub comes-as : {ws ns : List ℕ} {n : ℕ} {b : Built} {r s : Grown} {ws' hs he ne m : List ℕ} → r ≡ s → Comes ws ns n b r ws' hs he ne m → Comes ws ns n b s ws' hs he ne m
-comes-as {ws} {ns} {n} {b} {r} {s} {ws'} {hs} {he} {ne} {m} e t = subst (λ (g : Grown). Comes ws ns n b g ws' hs he ne m) e t
+pub comes-as : {ws ns : List ℕ} {n : ℕ} {b : Built} {r s : Grown} {ws' xs : List ℕ} → r ≡ s → Comes ws ns n b r ws' xs → Comes ws ns n b s ws' xs
+comes-as {ws} {ns} {n} {b} {r} {s} {ws'} {xs} e t = subst (λ (g : Grown). Comes ws ns n b g ws' xs) e t
 
 -- the row and the rows used, of an answer
 abbrev rowIn : Grown → ℕ
@@ -46,21 +46,21 @@ withRows-none ws ns n =
     ap (λ (l : List ℕ). l ++ drop (rowWidth * n) ws) (append-nil (take (rowWidth * n) ws)) ∙ take-append-drop (rowWidth * n) ws
 
 -- nothing added
-pub comes-same : {ws ns : List ℕ} {n : ℕ} {hs he ne m : List ℕ} → Ready ws ns n hs he ne m → (j : ℕ) → Comes ws ns n (built j (storeOf ws ns n)) (grownRow j n) ws hs he ne m
-comes-same {ws} {ns} {n} {hs} {he} {ne} {m} r j =
+pub comes-same : {ws ns : List ℕ} {n : ℕ} {xs : List ℕ} → Ready ws ns n xs → (j : ℕ) → Comes ws ns n (built j (storeOf ws ns n)) (grownRow j n) ws xs
+comes-same {ws} {ns} {n} {xs} r j =
     let u = used-of ws ns n in
-    record { came = (ap (grownRow j) (sym u), sym (withRows-none ws ns n), subst (λ (k : ℕ). Ready ws ns k hs he ne m) (sym u) r) }
+    record { came = (ap (grownRow j) (sym u), sym (withRows-none ws ns n), subst (λ (k : ℕ). Ready ws ns k xs) (sym u) r) }
 
 -- a store over the lent words has room in them
 pub store-room : (ws ns : List ℕ) (n : ℕ) (y : Store) → Extends (storeOf ws ns n) y → Good y → rowWidth * used y ≤ length ws
 store-room ws ns n y e g = rows-within ws (used y) (let f = g .fits in let r = e .room in omega arith)
 
 -- A STORE BUILT over the first n rows, and the words that hold it
-pub record Stage (ws ns : List ℕ) (n j : ℕ) (y : Store) (u : ℕ) (ws' hs he ne m : List ℕ) : Type 0 where
+pub record Stage (ws ns : List ℕ) (n j : ℕ) (y : Store) (u : ℕ) (ws' xs : List ℕ) : Type 0 where
   pub count : u ≡ used y
   pub words : ws' ≡ withRows ws n y
   pub store : storeOf ws' ns u ≡ y
-  pub ready : Ready ws' ns u hs he ne m
+  pub ready : Ready ws' ns u xs
 
 module _ (ws ns : List ℕ) (n : ℕ) (y : Store) (e : Extends (storeOf ws ns n) y) (g : Good y) where
   fit : rowWidth * used y ≤ length ws
@@ -79,27 +79,27 @@ module _ (ws ns : List ℕ) (n : ℕ) (y : Store) (e : Extends (storeOf ws ns n)
       }
 
   -- more rows behind these
-  again : (r : Grown) (vs hs he ne m : List ℕ) (b : Built) → ((k : ℕ) (z : Store) → b ≡ built k z → Extends y z) →
-      Came (withRows ws n y) ns (used y) b r vs hs he ne m → Came ws ns n b r vs hs he ne m
-  again r vs hs he ne m full x c = (c .0, kept-again vs (c .1))
-  again r vs hs he ne m (built k z) x c = (c .0, c .1 ∙ withRows-twice ws ns n y e (good-four y g) fit z (x k z refl), c .2)
+  again : (r : Grown) (vs xs : List ℕ) (b : Built) → ((k : ℕ) (z : Store) → b ≡ built k z → Extends y z) →
+      Came (withRows ws n y) ns (used y) b r vs xs → Came ws ns n b r vs xs
+  again r vs xs full x c = (c .0, kept-again vs (c .1))
+  again r vs xs (built k z) x c = (c .0, c .1 ∙ withRows-twice ws ns n y e (good-four y g) fit z (x k z refl), c .2)
 
-  pub comes-again : {j u : ℕ} {ws' hs he ne m : List ℕ} → Stage ws ns n j y u ws' hs he ne m → {b : Built} {r : Grown} {vs hs' he' ne' : List ℕ} →
-      ((k : ℕ) (z : Store) → b ≡ built k z → Extends y z) → Comes ws' ns u b r vs hs' he' ne' m → Comes ws ns n b r vs hs' he' ne' m
-  comes-again {j} {u} {ws'} {hs} {he} {ne} {m} s {b} {r} {vs} {hs'} {he'} {ne'} x c =
-      let d : Comes (withRows ws n y) ns (used y) b r vs hs' he' ne' m = subst (λ (k : ℕ). Comes (withRows ws n y) ns k b r vs hs' he' ne' m) (s .count)
-      (subst (λ (l : List ℕ). Comes l ns u b r vs hs' he' ne' m) (s .words) c) in
-      record { came = again r vs hs' he' ne' m b x (d .came) }
+  pub comes-again : {j u : ℕ} {ws' xs : List ℕ} → Stage ws ns n j y u ws' xs → {b : Built} {r : Grown} {vs xs' : List ℕ} →
+      ((k : ℕ) (z : Store) → b ≡ built k z → Extends y z) → Comes ws' ns u b r vs xs' → Comes ws ns n b r vs xs'
+  comes-again {j} {u} {ws'} {xs} s {b} {r} {vs} {xs'} x c =
+      let d : Comes (withRows ws n y) ns (used y) b r vs xs' = subst (λ (k : ℕ). Comes (withRows ws n y) ns k b r vs xs') (s .count)
+      (subst (λ (l : List ℕ). Comes l ns u b r vs xs') (s .words) c) in
+      record { came = again r vs xs' b x (d .came) }
 
   -- the row for a symbol and children in that store, found or added
-  pub comes-row : {j u : ℕ} {ws' hs he ne m : List ℕ} → Stage ws ns n j y u ws' hs he ne m → (a : ℕ) (ks : List ℕ) → RowAsked y a ks →
-      {r : Grown} {vs hs' he' ne' : List ℕ} → Comes ws' ns u (rowFor (storeOf ws' ns u) a ks) r vs hs' he' ne' m → Comes ws ns n (rowFor y a ks) r vs hs' he' ne' m
+  pub comes-row : {j u : ℕ} {ws' xs : List ℕ} → Stage ws ns n j y u ws' xs → (a : ℕ) (ks : List ℕ) → RowAsked y a ks →
+      {r : Grown} {vs xs' : List ℕ} → Comes ws' ns u (rowFor (storeOf ws' ns u) a ks) r vs xs' → Comes ws ns n (rowFor y a ks) r vs xs'
   comes-row {ws' = ws'} s a ks q c =
       comes-again s (λ k z p. row-is y g a ks q k z p .ext) (comes-by (ap (λ (x : Store). rowFor x a ks) (sym (s .store))) c)
 
   -- how adding ended, taken apart
-  pub stage : {j u k : ℕ} {ws' hs he ne m : List ℕ} → Comes ws ns n (built k y) (grownRow j u) ws' hs he ne m → (j ≡ k) × Stage ws ns n j y u ws' hs he ne m
-  stage {j} {u} {k} {ws'} {hs} {he} {ne} {m} c =
+  pub stage : {j u k : ℕ} {ws' xs : List ℕ} → Comes ws ns n (built k y) (grownRow j u) ws' xs → (j ≡ k) × Stage ws ns n j y u ws' xs
+  stage {j} {u} {k} {ws'} {xs} c =
       let a : j ≡ k = ap rowIn (c .came .0) in
       let b : u ≡ used y = ap usedIn (c .came .0) in
       let w : ws' ≡ withRows ws n y = c .came .1 in (
@@ -108,10 +108,10 @@ module _ (ws ns : List ℕ) (n : ℕ) (y : Store) (e : Extends (storeOf ws ns n)
           count = b;
           words = w;
           store = (λ t. storeOf (w t) ns (b t)) ∙ store-withRows ws ns n y e (good-four y g) fit;
-          ready = subst (λ (v : ℕ). Ready ws' ns v hs he ne m) (sym b) (c .came .2);
+          ready = subst (λ (v : ℕ). Ready ws' ns v xs) (sym b) (c .came .2);
         },
       )
 
 -- where rows ran out before, the answer is no row
-pub not-full : {ws ns : List ℕ} {n j u : ℕ} {ws' hs he ne m : List ℕ} → Comes ws ns n full (grownRow j u) ws' hs he ne m → ⊥
+pub not-full : {ws ns : List ℕ} {n j u : ℕ} {ws' xs : List ℕ} → Comes ws ns n full (grownRow j u) ws' xs → ⊥
 not-full c = let p = c .came .0 in let z : _≡_ {A = ℕ} 0 1 = cc in omega arith

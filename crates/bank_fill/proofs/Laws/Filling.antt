@@ -21,17 +21,17 @@ use Rattle.bank_fill.proofs.Laws.Above.{frame-four, above-comes}
 use Rattle.bank_fill.proofs.Laws.Paths.{fits-head, fits-tail, path-none, path-step, kid-before, kid-word}
 
 -- the store that some frames were filled into
-pub record Reached (ws ns : List ℕ) (n : ℕ) (fs : List Frame) (i j u : ℕ) (ws' hs he ne m : List ℕ) : Type 0 where
+pub record Reached (ws ns : List ℕ) (n : ℕ) (fs : List Frame) (i j u : ℕ) (ws' xs : List ℕ) : Type 0 where
   pub y : Store
   pub is : fill (storeOf ws ns n) fs i ≡ built j y
   pub filled : Filled (storeOf ws ns n) fs i j y
-  pub stands : Stage ws ns n j y u ws' hs he ne m
+  pub stands : Stage ws ns n j y u ws' xs
 
 pub reached : (ws ns : List ℕ) (n : ℕ) (fs : List Frame) (i : ℕ) → Good (storeOf ws ns n) → Fits (storeOf ws ns n) fs → i < n →
-    {j u : ℕ} {ws' hs he ne m : List ℕ} → Comes ws ns n (fill (storeOf ws ns n) fs i) (grownRow j u) ws' hs he ne m → Reached ws ns n fs i j u ws' hs he ne m
-reached ws ns n fs i g q l {j} {u} {ws'} {hs} {he} {ne} {m} c = go (fill (storeOf ws ns n) fs i) refl c
+    {j u : ℕ} {ws' xs : List ℕ} → Comes ws ns n (fill (storeOf ws ns n) fs i) (grownRow j u) ws' xs → Reached ws ns n fs i j u ws' xs
+reached ws ns n fs i g q l {j} {u} {ws'} {xs} c = go (fill (storeOf ws ns n) fs i) refl c
   where
-    go : (b : Built) → fill (storeOf ws ns n) fs i ≡ b → Comes ws ns n b (grownRow j u) ws' hs he ne m → Reached ws ns n fs i j u ws' hs he ne m
+    go : (b : Built) → fill (storeOf ws ns n) fs i ≡ b → Comes ws ns n b (grownRow j u) ws' xs → Reached ws ns n fs i j u ws' xs
     go full e d = absurd (not-full d)
     go (built k y) e d =
         let f = fill-is fs (storeOf ws ns n) g q i (omega (arith, used-of ws ns n)) k y e in
@@ -45,7 +45,7 @@ reached ws ns n fs i g q l {j} {u} {ws'} {hs} {he} {ne} {m} c = go (fill (storeO
         }
 
 -- THE ROW ABOVE: row `row` of the first store with the filled row at place k
-module _ {ws ns : List ℕ} {n : ℕ} {fs : List Frame} {i j u : ℕ} {ws' hs he ne m : List ℕ} (g : Good (storeOf ws ns n)) (d : Reached ws ns n fs i j u ws' hs he ne m)
+module _ {ws ns : List ℕ} {n : ℕ} {fs : List Frame} {i j u : ℕ} {ws' xs : List ℕ} (g : Good (storeOf ws ns n)) (d : Reached ws ns n fs i j u ws' xs)
     (row k : ℕ) (l : row < n) (q : FrameFits (storeOf ws ns n) (frameAt (storeOf ws ns n) row k)) where
   frame-same : frameAt (storeOf ws ns n) row k ≡ frameAt (d .y) row k
   frame-same =
@@ -71,9 +71,9 @@ module _ {ws ns : List ℕ} {n : ℕ} {fs : List Frame} {i j u : ℕ} {ws' hs he
   next-kid : j < u
   next-kid = let a = d .filled .within in let b = d .stands .count in omega arith
 
-  next-comes : {r : Grown} {vs hs' he' ne' : List ℕ} →
-      Comes ws' ns u (rowFor (storeOf ws' ns u) (symbolAt (storeOf ws' ns u) row) (filledKids (frameAt (storeOf ws' ns u) row k) j)) r vs hs' he' ne' m →
-      Comes ws ns n (fill (storeOf ws ns n) (frameAt (storeOf ws ns n) row k ∷ fs) i) r vs hs' he' ne' m
+  next-comes : {r : Grown} {vs xs' : List ℕ} →
+      Comes ws' ns u (rowFor (storeOf ws' ns u) (symbolAt (storeOf ws' ns u) row) (filledKids (frameAt (storeOf ws' ns u) row k) j)) r vs xs' →
+      Comes ws ns n (fill (storeOf ws ns n) (frameAt (storeOf ws ns n) row k ∷ fs) i) r vs xs'
   unfolding fill
   next-comes c =
       let f : Frame = frameAt (storeOf ws ns n) row k in
@@ -84,21 +84,21 @@ module _ {ws ns : List ℕ} {n : ℕ} {fs : List Frame} {i j u : ℕ} {ws' hs he
       (comes-row ws ns n (d .y) (d .filled .ext) (d .filled .good) (d .stands) (f .symbol) (filledKids f j) a (comes-by e c))
 
 -- ROWS RAN OUT: one fill is full where another is, and the first rows are kept
-full-on : {ws ns : List ℕ} {n : ℕ} {b c : Built} {vs hs he ne m : List ℕ} → (b ≡ full → c ≡ full) → Comes ws ns n b Grown.Full vs hs he ne m → Comes ws ns n c Grown.Full vs hs he ne m
-full-on {ws} {ns} {n} {b} {c} {vs} {hs} {he} {ne} {m} f d = go b refl d
+full-on : {ws ns : List ℕ} {n : ℕ} {b c : Built} {vs xs : List ℕ} → (b ≡ full → c ≡ full) → Comes ws ns n b Grown.Full vs xs → Comes ws ns n c Grown.Full vs xs
+full-on {ws} {ns} {n} {b} {c} {vs} {xs} f d = go b refl d
   where
-    go : (a : Built) → b ≡ a → Comes ws ns n a Grown.Full vs hs he ne m → Comes ws ns n c Grown.Full vs hs he ne m
+    go : (a : Built) → b ≡ a → Comes ws ns n a Grown.Full vs xs → Comes ws ns n c Grown.Full vs xs
     go full e k = comes-by (f e) (record { came = k .came })
     go (built i y) e k = let p = k .came .0 in let z : _≡_ {A = ℕ} 0 1 = cc in absurd (omega arith)
 
 -- NO FRAME: a row whose entry names no place
-pub fill-none : {ws ns : List ℕ} {n : ℕ} {hs he ne m : List ℕ} → Ready ws ns n hs he ne m → (ds : List ℕ) (row i : ℕ) → getD ds row 0 ≡ 0 →
-    Comes ws ns n (fill (storeOf ws ns n) (pathOf ds (storeOf ws ns n) row) i) (grownRow i n) ws hs he ne m
+pub fill-none : {ws ns : List ℕ} {n : ℕ} {xs : List ℕ} → Ready ws ns n xs → (ds : List ℕ) (row i : ℕ) → getD ds row 0 ≡ 0 →
+    Comes ws ns n (fill (storeOf ws ns n) (pathOf ds (storeOf ws ns n) row) i) (grownRow i n) ws xs
 unfolding fill
 fill-none {ws} {ns} {n} r ds row i e = comes-by (ap (λ (fs : List Frame). fill (storeOf ws ns n) fs i) (path-none ds (storeOf ws ns n) (r .good) row e)) (comes-same r i)
 
 -- FRAMES from a row whose entry names a place, which is that of a child
-module _ {ws ns : List ℕ} {n : ℕ} {hs he ne m ds : List ℕ} {row i : ℕ} (q : FramesAsked ws ns n hs he ne m ds row i) where
+module _ {ws ns : List ℕ} {n : ℕ} {xs ds : List ℕ} {row i : ℕ} (q : FramesAsked ws ns n xs ds row i) where
   low : row < used (storeOf ws ns n)
   low = omega (arith, used-of ws ns n, q .row-used)
 
@@ -124,7 +124,7 @@ module _ {ws ns : List ℕ} {n : ℕ} {hs he ne m ds : List ℕ} {row i : ℕ} (
     kid-fits : Fits (storeOf ws ns n) (pathOf ds (storeOf ws ns n) kid)
     kid-fits = subst (λ (k : ℕ). Fits (storeOf ws ns n) (pathOf ds (storeOf ws ns n) k)) (sym kid-is) (fits-tail both)
 
-    pub down-asked : (getD ds kid 0 ≡ 0 → ⊥) → FramesAsked ws ns n hs he ne m ds kid i
+    pub down-asked : (getD ds kid 0 ≡ 0 → ⊥) → FramesAsked ws ns n xs ds kid i
     down-asked z =
         record {
           ready = q .ready;
@@ -145,16 +145,16 @@ module _ {ws ns : List ℕ} {n : ℕ} {hs he ne m ds : List ℕ} {row i : ℕ} (
         let h : Frame = frameAt (storeOf ws ns n) row (getD ds row 0 - 1) in
         ap (λ (fs : List Frame). fill (storeOf ws ns n) fs i) path-is ∙ ap (λ (b : Built). thenBuild b (λ (j : ℕ) (y : Store). rowFor y (h .symbol) (filledKids h j))) p
 
-    pub up-full : {vs hs' he' ne' : List ℕ} → Comes ws ns n (fill (storeOf ws ns n) (pathOf ds (storeOf ws ns n) kid) i) Grown.Full vs hs' he' ne' m →
-        Comes ws ns n (fill (storeOf ws ns n) (pathOf ds (storeOf ws ns n) row) i) Grown.Full vs hs' he' ne' m
+    pub up-full : {vs xs' : List ℕ} → Comes ws ns n (fill (storeOf ws ns n) (pathOf ds (storeOf ws ns n) kid) i) Grown.Full vs xs' →
+        Comes ws ns n (fill (storeOf ws ns n) (pathOf ds (storeOf ws ns n) row) i) Grown.Full vs xs'
     up-full c = full-on full-above c
 
     -- what is below gave a row: the row above put
-    module _ {j u : ℕ} {ws' hs' he' ne' : List ℕ} (c : Comes ws ns n (fill (storeOf ws ns n) (pathOf ds (storeOf ws ns n) kid) i) (grownRow j u) ws' hs' he' ne' m) where
-      inside : Reached ws ns n (pathOf ds (storeOf ws ns n) kid) i j u ws' hs' he' ne' m
+    module _ {j u : ℕ} {ws' xs' : List ℕ} (c : Comes ws ns n (fill (storeOf ws ns n) (pathOf ds (storeOf ws ns n) kid) i) (grownRow j u) ws' xs') where
+      inside : Reached ws ns n (pathOf ds (storeOf ws ns n) kid) i j u ws' xs'
       inside = reached ws ns n (pathOf ds (storeOf ws ns n) kid) i (q .ready .good) kid-fits (q .with-used) c
 
-      pub up-lent : Lent ws' u hs' he' ne' m
+      pub up-lent : Lent ws' u xs'
       up-lent = lent-of (inside .stands .ready)
 
       pub up-row : row < u
@@ -163,9 +163,9 @@ module _ {ws ns : List ℕ} {n : ℕ} {hs he ne m ds : List ℕ} {row i : ℕ} (
       pub up-kid : j < u
       up-kid = next-kid (q .ready .good) inside row (getD ds row 0 - 1) (q .row-used) frame-fits
 
-      pub up-comes : {r : Grown} {vs hs'' he'' ne'' : List ℕ} →
-          Put ws' u hs' he' ne' m (symbolIn ws' row) (set (placesIn ws' row) (getD ds row 0 - 1) j) (holeAbove hs' j (getD ds row 0 - 1)) r vs hs'' he'' ne'' →
-          Comes ws ns n (fill (storeOf ws ns n) (pathOf ds (storeOf ws ns n) row) i) r vs hs'' he'' ne'' m
+      pub up-comes : {r : Grown} {vs xs'' : List ℕ} →
+          Put ws' u xs' (symbolIn ws' row) (set (placesIn ws' row) (getD ds row 0 - 1) j) (holeAbove xs' j (getD ds row 0 - 1)) r vs xs'' →
+          Comes ws ns n (fill (storeOf ws ns n) (pathOf ds (storeOf ws ns n) row) i) r vs xs''
       up-comes p =
           comes-by (ap (λ (fs : List Frame). fill (storeOf ws ns n) fs i) path-is)
           (next-comes (q .ready .good) inside row (getD ds row 0 - 1) (q .row-used) frame-fits

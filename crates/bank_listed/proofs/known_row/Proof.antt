@@ -22,19 +22,19 @@ use Rattle.bank_listed.proofs.known_row.Lts as lts
 use Rattle.bank_listed.proofs.top_places.Reads as top-places-reads
 
 abbrev Inv-loop : tie.InvT-loop
-Inv-loop words counts used holes head next mix symbols stack₀ height₀ at₀ stack height at =
+Inv-loop words counts used index symbols stack₀ height₀ at₀ stack height at =
     Reading (storeOf words counts used) symbols stack height at ×
     (knownFrom (storeOf words counts used) (drop at symbols) (stackOf stack height) ≡ knownRow (storeOf words counts used) symbols)
 
 abbrev μ-loop : tie.MeasureT-loop
-μ-loop words counts used holes head next mix symbols stack₀ height₀ at₀ stack height at = length symbols - at
+μ-loop words counts used index symbols stack₀ height₀ at₀ stack height at = length symbols - at
 
 -- a turn: its start, the store, and what is known of the reading there
 abbrev Turn : Type 0
 Turn = lts.In-loop (top-places-reads.Asked, top-places-reads.Learnt, find-reads.Asked, find-reads.Learnt) reads.Pre reads.Post Inv-loop μ-loop
 
 abbrev start : (t : Turn) → lts.Start (top-places-reads.Asked, top-places-reads.Learnt, find-reads.Asked, find-reads.Learnt) reads.Pre reads.Post Inv-loop μ-loop
-start t = t .before .before .before .before .before .before .before .before
+start t = t .before .before .before .before .before .before
 
 abbrev xs : Turn → List ℕ
 xs t = start t .args .symbols .now
@@ -64,23 +64,23 @@ sought c =
 loop-holds : tie.Need-loop-holds Inv-loop μ-loop
 unfolding backwards
 loop-holds c =
-    let s = c .before .before .before .before .before .before in
+    let s = c .before .before .before .before in
     (R.reading-start (storeOf (s .args .words .now) (s .args .counts .now) (s .args .used)) (s .args .symbols .now) _ (s .pre .0 .good) (s .pre .1) refl (s .pre .2), refl)
 
 shared-slice-read-symbol : tie.Need-shared-slice-read-symbol Inv-loop μ-loop
 shared-slice-read-symbol c = search needs
 
 cast-symbol : tie.Need-cast-symbol Inv-loop μ-loop
-cast-symbol c = omega (arith, c .shared-slice-known7 .given (c .before .before .loop .at))
+cast-symbol c = omega (arith, c .shared-slice-known5 .given (c .before .before .loop .at))
 
 cast-count : tie.Need-cast-count Inv-loop μ-loop
-cast-count c = omega (arith, c .shared-slice-known7 .given (c .before .before .loop .at))
+cast-count c = omega (arith, c .shared-slice-known5 .given (c .before .before .loop .at))
 
 shared-slice-read-count : tie.Need-shared-slice-read-count Inv-loop μ-loop
 shared-slice-read-count c = R.known (reading (c .before .before)) (c .before .before .loop-test .taken)
 
 cast-count-2 : tie.Need-cast-count-2 Inv-loop μ-loop
-cast-count-2 c = omega (arith, c .shared-slice-known8 .given (symbol (c .before .before)))
+cast-count-2 c = omega (arith, c .shared-slice-known6 .given (symbol (c .before .before)))
 
 top-places-requires : tie.Need-top-places-requires Inv-loop μ-loop
 top-places-requires c κs =
@@ -133,8 +133,8 @@ loop-again c =
     let p = R.pushed (reading t) (t .loop-test .taken) j (store t) (R.found (reading t) (t .loop-test .taken) j (sought m) (c .if1 .left)) in
     (p .1, sym (R.known-found (reading t) (t .loop-test .taken) j (sought m) (c .if1 .left)) ∙ t .before .loop .inv .1)
 
-array-read-t26 : tie.Need-array-read-t26 Inv-loop μ-loop
-array-read-t26 c = omega arith
+array-read-t23 : tie.Need-array-read-t23 Inv-loop μ-loop
+array-read-t23 c = omega arith
 
 returns-2 : tie.Need-returns-2 Inv-loop μ-loop
 returns-2 c = sym (R.known-end (c .before .loop .inv .0) (c .loop-test .left)) ∙ c .before .loop .inv .1
@@ -161,5 +161,5 @@ known-row-spec =
     add-at
     loop-less
     loop-again
-    array-read-t26
+    array-read-t23
     returns-2)

@@ -21,11 +21,11 @@ use Rattle.bank_fill.proofs.add.row_for.Reads as row-for-reads
 use Rattle.bank_listed.proofs.top_places.Reads as top-places-reads
 
 abbrev Inv-loop : tie.InvT-loop
-Inv-loop words₀ counts used holes₀ head₀ next₀ mix symbols stack₀ height₀ n₀ at₀ words holes head next stack height n at =
-    Storing words₀ counts used symbols words holes head next mix stack height n at × (length words ≡ length words₀) × (length holes ≡ length holes₀) × (length head ≡ length head₀) × (length next ≡ length next₀)
+Inv-loop words₀ counts used index₀ symbols stack₀ height₀ n₀ at₀ words index stack height n at =
+    Storing words₀ counts used symbols words index stack height n at × (length words ≡ length words₀) × (length index ≡ length index₀)
 
 abbrev μ-loop : tie.MeasureT-loop
-μ-loop words₀ counts used holes₀ head₀ next₀ mix symbols stack₀ height₀ n₀ at₀ words holes head next stack height n at =
+μ-loop words₀ counts used index₀ symbols stack₀ height₀ n₀ at₀ words index stack height n at =
     length symbols - at
 
 -- a turn: its start, and what is known of the storing there
@@ -33,7 +33,7 @@ abbrev Turn : Type 0
 Turn = lts.In-loop (top-places-reads.Asked, top-places-reads.Learnt, row-for-reads.Asked, row-for-reads.Learnt) reads.Pre reads.Post Inv-loop μ-loop
 
 abbrev start : (t : Turn) → lts.Start (top-places-reads.Asked, top-places-reads.Learnt, row-for-reads.Asked, row-for-reads.Learnt) reads.Pre reads.Post Inv-loop μ-loop
-start t = t .before .before .before .before .before .before .before .before
+start t = t .before .before .before .before .before .before
 
 abbrev xs : Turn → List ℕ
 xs t = start t .args .symbols .now
@@ -42,8 +42,7 @@ abbrev symbol : Turn → ℕ
 symbol t = R.symbolNext (xs t) (t .before .loop .at)
 
 abbrev storing : (t : Turn) →
-    Storing (start t .args .words .now) (start t .args .counts .now) (start t .args .used) (xs t) (t .before .loop .words) (t .before .loop .holes) (t .before .loop .head)
-    (t .before .loop .next) (start t .args .mix .now) (t .before .loop .stack) (t .before .loop .height) (t .before .loop .n) (t .before .loop .at)
+    Storing (start t .args .words .now) (start t .args .counts .now) (start t .args .used) (xs t) (t .before .loop .words) (t .before .loop .index) (t .before .loop .stack) (t .before .loop .height) (t .before .loop .n) (t .before .loop .at)
 storing t = t .before .loop .inv .0
 
 -- past the call for a row
@@ -51,20 +50,20 @@ abbrev Called : Type 0
 Called = lts.After-row-for (top-places-reads.Asked, top-places-reads.Learnt, row-for-reads.Asked, row-for-reads.Learnt) reads.Pre reads.Post Inv-loop μ-loop
 
 abbrev turn : Called → Turn
-turn c = c .before .before .before .before .before .before .before .before .before
+turn c = c .before .before .before .before .before .before .before
 
 -- how it ended
 called : (c : Called) →
     Comes (turn c .before .loop .words) (start (turn c) .args .counts .now) (turn c .before .loop .n)
     (rowFor (storeOf (turn c .before .loop .words) (start (turn c) .args .counts .now) (turn c .before .loop .n)) (symbol (turn c))
-    (kidsOf (start (turn c) .args .counts .now) (symbol (turn c)) (c .before .before .before .before .before .top-places .result)))
-    (c .row-for .result) (c .row-for .last .0) (c .row-for .last .1 .1 .1 .0) (c .row-for .last .1 .1 .1 .1 .0) (c .row-for .last .1 .1 .1 .1 .1 .0) (start (turn c) .args .mix .now)
+    (kidsOf (start (turn c) .args .counts .now) (symbol (turn c)) (c .before .before .before .top-places .result)))
+    (c .row-for .result) (c .row-for .last .0) (c .row-for .last .1 .1 .1 .0)
 called c = record { came = c .row-for .ensures }
 
 loop-holds : tie.Need-loop-holds Inv-loop μ-loop
 loop-holds c =
-    let s = c .before .before .before .before .before .before in
-    (S.storing-start (s .args .symbols .now) _ (s .pre .0) (s .pre .1) refl (s .pre .2), refl, refl, refl, refl)
+    let s = c .before .before .before .before in
+    (S.storing-start (s .args .symbols .now) _ (s .pre .0) (s .pre .1) refl (s .pre .2), refl, refl)
 
 shared-slice-read-symbol : tie.Need-shared-slice-read-symbol Inv-loop μ-loop
 shared-slice-read-symbol c = search needs
@@ -89,8 +88,8 @@ top-places-requires c κs =
 
 row-for-requires : tie.Need-row-for-requires Inv-loop μ-loop
 row-for-requires c κs =
-    let t : Turn = c .before .before .before .before .before .before .before .before in
-    (storing t .stage .ready, S.row-asked (storing t) (t .loop-test .taken) (c .before .before .before .before .top-places .ensures))
+    let t : Turn = c .before .before .before .before .before .before in
+    (storing t .stage .ready, S.row-asked (storing t) (t .loop-test .taken) (c .before .before .top-places .ensures))
 
 enum-told : tie.Need-enum-told Inv-loop μ-loop
 enum-told c = search needs
@@ -101,74 +100,62 @@ same-length c = search needs
 same-length-2 : tie.Need-same-length-2 Inv-loop μ-loop
 same-length-2 c = search needs
 
-same-length-3 : tie.Need-same-length-3 Inv-loop μ-loop
-same-length-3 c = search needs
-
-same-length-4 : tie.Need-same-length-4 Inv-loop μ-loop
-same-length-4 c = search needs
-
 returns : tie.Need-returns Inv-loop μ-loop
 returns c =
-    let d : Called = c .before .before .before .before .before .before .before .before .before .before in
+    let d : Called = c .before .before .before .before .before .before in
     let t : Turn = turn d in
-    S.ran-out (storing t) (t .loop-test .taken) (d .before .before .before .before .before .top-places .ensures) (comes-as (c .enum-told .given .1) (called d)) .came
+    S.ran-out (storing t) (t .loop-test .taken) (d .before .before .before .top-places .ensures) (comes-as (c .enum-told .given .1) (called d)) .came
 
 enum-known-grown : tie.Need-enum-known-grown Inv-loop μ-loop
 enum-known-grown c = search needs
 
 sub-height : tie.Need-sub-height Inv-loop μ-loop
 sub-height c =
-    let t : Turn = turn (c .before .before .before .before .before .before .before .before .before .before .before) in
+    let t : Turn = turn (c .before .before .before .before .before .before .before) in
     R.enough (storing t .reading) (t .loop-test .taken)
 
 mul-stack : tie.Need-mul-stack Inv-loop μ-loop
 mul-stack c =
-    let t : Turn = turn (c .before .before .before .before .before .before .before .before .before .before .before) in
+    let t : Turn = turn (c .before .before .before .before .before .before .before) in
     omega (arith, R.lower (storing t .reading) (t .loop-test .taken), storing t .reading .long)
 
 array-write-stack : tie.Need-array-write-stack Inv-loop μ-loop
 array-write-stack c =
-    let t : Turn = turn (c .before .before .before .before .before .before .before .before .before .before .before) in
+    let t : Turn = turn (c .before .before .before .before .before .before .before) in
     omega (arith, R.lower (storing t .reading) (t .loop-test .taken), storing t .reading .long)
 
 add-height : tie.Need-add-height Inv-loop μ-loop
 add-height c =
-    let t : Turn = turn (c .before .before .before .before .before .before .before .before .before .before .before) in
+    let t : Turn = turn (c .before .before .before .before .before .before .before) in
     omega (arith, R.lower (storing t .reading) (t .loop-test .taken), storing t .reading .long)
 
 add-at : tie.Need-add-at Inv-loop μ-loop
 add-at c =
-    let t : Turn = turn (c .before .before .before .before .before .before .before .before .before .before .before) in
+    let t : Turn = turn (c .before .before .before .before .before .before .before) in
     omega (arith, t .loop-test .taken, storing t .reading .few)
 
 loop-less : tie.Need-loop-less Inv-loop μ-loop
 loop-less c =
-    let t : Turn = turn (c .before .before .before .before .before .before .before .before .before .before .before) in
+    let t : Turn = turn (c .before .before .before .before .before .before .before) in
     omega (arith, t .loop-test .taken)
 
 loop-again : tie.Need-loop-again Inv-loop μ-loop
 loop-again c =
-    let d : Called = c .before .before .before .before .before .before .before .before .before .before .before in
+    let d : Called = c .before .before .before .before .before .before .before in
     let t : Turn = turn d in
-    let m = S.storing-more (storing t) (t .loop-test .taken) (d .before .before .before .before .before .top-places .ensures) (comes-as (c .before .grown .given .1) (called d)) in
+    let m = S.storing-more (storing t) (t .loop-test .taken) (d .before .before .before .top-places .ensures) (comes-as (c .before .grown .given .1) (called d)) in
     let k = d .row-for .kept in
     let i = t .before .loop .inv in
-    (m, k .0 ∙ i .1, k .1 .1 .1 .0 ∙ i .2, k .1 .1 .1 .1 .0 ∙ i .3, k .1 .1 .1 .1 .1 .0 ∙ i .4)
+    (m, k .0 ∙ i .1, k .1 .1 .1 .0 ∙ i .2)
 
-array-read-t38 : tie.Need-array-read-t38 Inv-loop μ-loop
-array-read-t38 c = search needs
+array-read-t31 : tie.Need-array-read-t31 Inv-loop μ-loop
+array-read-t31 c = search needs
 
-same-length-5 : tie.Need-same-length-5 Inv-loop μ-loop
-same-length-5 c = search needs
+same-length-3 : tie.Need-same-length-3 Inv-loop μ-loop
+same-length-3 c = search needs
 
-same-length-6 : tie.Need-same-length-6 Inv-loop μ-loop
-same-length-6 c = search needs
-
-same-length-7 : tie.Need-same-length-7 Inv-loop μ-loop
-same-length-7 c = search needs
-
-same-length-8 : tie.Need-same-length-8 Inv-loop μ-loop
-same-length-8 c = search needs
+same-length-4 : tie.Need-same-length-4 Inv-loop μ-loop
+same-length-4 c = search needs
 
 returns-2 : tie.Need-returns-2 Inv-loop μ-loop
 returns-2 c = S.stored (c .before .loop .inv .0) (c .loop-test .left) .came
@@ -190,8 +177,6 @@ store-spec =
     enum-told
     same-length
     same-length-2
-    same-length-3
-    same-length-4
     returns
     enum-known-grown
     sub-height
@@ -201,9 +186,7 @@ store-spec =
     add-at
     loop-less
     loop-again
-    array-read-t38
-    same-length-5
-    same-length-6
-    same-length-7
-    same-length-8
+    array-read-t31
+    same-length-3
+    same-length-4
     returns-2)

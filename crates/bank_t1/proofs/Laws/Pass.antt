@@ -1,9 +1,9 @@
 -- The pass over the used rows: before row i the earlier rows have passed, are indexed and marked, and the rows from i on decide.
 -- One row more: its tests, its twin, its place in the index and its mark.
-use mathlib.Core.Path.{_≡_, refl, sym, ap, _∙_}
+use mathlib.Core.Path.{_≡_, refl, sym, ap, subst, _∙_}
 use mathlib.Core.Bool.{Bool, true, false, _&&_, not}
 use mathlib.Core.List.{List, []}
-use Prim.Native.Nat.{ℕ, suc, _+_, _*_, _-_, _≤_, _<_}
+use Prim.Native.Nat.{ℕ, suc, _+_, _*_, _/_, _-_, _≤_, _<_}
 use native.Mathlib.Omega.{arith}
 use lib.Dec.{leb, eqb}
 use borrow.Author.Tests.{leb-true, eq-eqb, ne-eqb}
@@ -14,41 +14,40 @@ use Rattle.model.specs.Base.{none-below, isIn, all}
 use Rattle.model.specs.Store.{Node, Store, symbolAt, countOf, nodeAt, kidsAt, hasHole, findFrom}
 use Rattle.model.specs.Sound.{nodeFits, answerFits, hasTwin, rowsFit}
 use Rattle.model.specs.Entry.{storeOf, answersIn}
-use Rattle.model.specs.declared.Row.{Row}
 use Rattle.model.proofs.Laws.FirstRows.{nodes-first}
 use Rattle.model.proofs.Laws.ReflectRows.{counts-at, hole-of}
 use Rattle.model.proofs.Laws.Tests.{both-true}
 use Rattle.bank.specs.Rows.{symbolIn, answerIn, placesIn, nodeIn}
-use Rattle.bank.specs.Index.{Mixing, Indexed, Finding, findIn, SightOf}
-use Rattle.bank.specs.Index as I
+use Rattle.bank.specs.Index.{sizeIn, headOf, Roomy, Finding, findIn, Seat, entered}
 use Rattle.bank.specs.Ready.{placeCode}
-use Rattle.bank_t1.specs.Pass.{Cleared, Reached, TwinOf, Begun, rowSays, rowsPass, Marked, PassedAs}
-use Rattle.bank_t1.specs.Pass as P
-use Rattle.bank.specs.declared.index.Sight.{Sight}
+use Rattle.bank_t1.specs.Pass.{Cleared, Reached, Begun, rowSays, rowsPass, Marked}
 use Rattle.bank_t1.specs.declared.Kids.{Kids}
-use Rattle.bank_t1.specs.declared.Passed.{Passed}
 use Rattle.bank.proofs.Laws.Words.{symbol-in, places-in}
-use Rattle.bank.proofs.Laws.Chains.{by-equal, indexed-none, finding-more}
+use Rattle.bank.proofs.Laws.Trees.{by-equal, indexed-none, finding-more, length-entered, holes-kept, hole-entered}
 use Rattle.bank_t1.proofs.Laws.Row.{told-broken, told-hole, earlier-more}
 
--- THE SEARCH for a twin, under a bound or not, and what it saw
-pub bounded : {m f g : ℕ} {r : Sight} → (m ≡ 0 → ⊥) → f ≡ g → SightOf f r → TwinOf g m r
-bounded z e (I.seen s) = P.seen (s ∙ e)
-bounded z e I.gave-up = P.gave-up (omega arith)
+-- ROOM goes by the length
+pub roomy-same : {ws xs : List ℕ} (ys : List ℕ) → Roomy ws xs → length ys ≡ length xs → Roomy ws ys
+roomy-same ys r e = record { some = omega (arith, r .some); few = omega (arith, r .few); long = omega (arith, r .long) }
 
-pub twin-at : {f m : ℕ} {r : Sight} {row : Row} → TwinOf f m r → r ≡ Sight.At row → row .0 ≡ f
-twin-at {row = j} (P.seen {row = i} s) e = let q : j ≡ i = cc in ap (λ (k : Row). k .0) q ∙ s
-twin-at (P.gave-up l) e = let z : _≡_ {A = ℕ} 0 1 = cc in absurd (omega arith)
+-- AN INDEX cleared: heads one after the other, and then the mark of row 0
+pub cleared-more : (xs : List ℕ) (z h : ℕ) → headOf z h < length xs → ((g : ℕ) → g < h → getD xs (headOf z g) 0 ≡ 0) → (g : ℕ) → g < h + 1 → getD (set xs (headOf z h) 0) (headOf z g) 0 ≡ 0
+cleared-more xs z h l m g u =
+    by-equal g h (λ e. rw e (getD-set-same xs (headOf z h) 0 0 l)) (λ e. getD-set-other xs (headOf z h) (headOf z g) 0 0 (λ p. e (omega arith)) ∙ m g (omega arith))
 
-pub twin-lost : {f m : ℕ} {r : Sight} → TwinOf f m r → r ≡ Sight.Crowded → 0 < m
-twin-lost (P.seen s) e = let z : _≡_ {A = ℕ} 0 1 = cc in absurd (omega arith)
-twin-lost (P.gave-up l) e = l
+pub cleared : (xs ys : List ℕ) → length ys ≡ length xs → 0 < sizeIn xs → ((h : ℕ) → h < 2 * sizeIn xs → getD ys (headOf (sizeIn xs) h) 0 ≡ 0) → Cleared (set ys 2 0)
+cleared xs ys l s z =
+    let e : sizeIn (set ys 2 0) ≡ sizeIn xs = ap (λ (k : ℕ). k / 5) (length-set ys 2 0 ∙ l) in
+    record {
+      empty = λ h u. subst (λ (m : ℕ). getD (set ys 2 0) (headOf m h) 0 ≡ 0) (sym e) (getD-set-other ys 2 (headOf (sizeIn xs) h) 0 0 (λ p. omega arith) ∙ z h (omega (arith, e)));
+      unmarked = getD-set-same ys 2 0 0 (omega arith);
+    }
 
 -- THE INVARIANT before row i
-pub record Passing (words counts : List ℕ) (n : ℕ) (mix holes head next : List ℕ) (i : ℕ) : Type 0 where
-  pub reached : Reached words counts n holes i
+pub record Passing (words counts : List ℕ) (n : ℕ) (index : List ℕ) (i : ℕ) : Type 0 where
+  pub reached : Reached words counts n index i
   pub most : i ≤ n
-  pub finding : Finding mix words i head next
+  pub finding : Finding words i index
   pub decides : rowsFit (storeOf words counts n) (answersIn n words) i (n - i) ≡ rowsPass words counts n
 
 module _ (ws ns : List ℕ) (n : ℕ) where
@@ -94,10 +93,11 @@ module _ (ws ns : List ℕ) (n : ℕ) where
         let e : countOf x (symbolAt x 0) ≡ 0 = ap (countOf x) (symbol-in ws ns n 0 (omega arith) ∙ h) ∙ List·getD-eq-default ns 0 {n = holeSymbol} (omega (arith, letters)) in
         ap (λ (c : ℕ). take c (nodeAt x 0 .kids)) e
 
-    pub starts : {mix head next : List ℕ} (hs : List ℕ) → n ≤ length hs → Finding mix ws 1 head next → Passing ws ns n mix (set hs 0 0) head next 1
+    pub starts : (xs : List ℕ) → Roomy ws xs → Cleared xs → Passing ws ns n xs 1
     unfolding placeCode
-    starts hs l f =
+    starts xs l c =
         let some = b .some in
+        let room = b .room in
         record {
           reached = record {
             some = omega arith;
@@ -105,16 +105,23 @@ module _ (ws ns : List ℕ) (n : ℕ) where
             room = b .room;
             wide = few-kids;
             earlier = λ j u. let e : j ≡ 0 = omega arith in rw (e, no-kids) none-below;
-            holes-long = simp length-set l;
-            holed = λ j u. let e : j ≡ 0 = omega arith in rw (e, no-kids) (getD-set-same hs 0 0 0 (omega arith));
+            long = omega (arith, l .long);
+            holed = λ j u. let e : j ≡ 0 = omega arith in rw (e, no-kids) (c .unmarked);
           };
           most = b .some;
-          finding = f;
+          finding = record {
+            some = omega arith;
+            few = omega arith;
+            room = omega arith;
+            roomy = l;
+            indexed = indexed-none ws xs (c .empty);
+            no-twins = λ i j z h k p q. omega arith;
+          };
           decides = refl;
         }
 
   -- AT ROW i
-  module _ {mix hs head next : List ℕ} {i : ℕ} (s : Passing ws ns n mix hs head next i) (u : i < n) where
+  module _ {xs : List ℕ} {i : ℕ} (s : Passing ws ns n xs i) (u : i < n) where
     abbrev fits : Bool
     fits = nodeFits (storeOf ws ns n) i && answerFits (storeOf ws ns n) (answersIn n ws) i
 
@@ -137,14 +144,14 @@ module _ (ws ns : List ℕ) (n : ℕ) where
       pub doubled : (twin ≡ 0 → ⊥) → rowsPass ws ns n ≡ false
       doubled z = sym step ∙ (λ t. (fitting t && not (not (ne-eqb twin 0 z t))) && rest i)
 
-      pub goes-on : {head' next' : List ℕ} → twin ≡ 0 → Indexed mix ws (i + 1) head' next' → length head' ≡ length head → length next' ≡ length next →
-          Passing ws ns n mix (set hs i h) head' next' (i + 1)
-      goes-on {head'} {next'} z y p q =
+      pub goes-on : (t : ℕ) → Seat xs (symbolIn ws i) (placesIn ws i) t → getD xs t 0 ≡ twin → twin ≡ 0 → Passing ws ns n (entered xs t i h) (i + 1)
+      goes-on t seat holds z =
           let r = s .reached in
           let few = r .few in
           let room = r .room in
-          let long = r .holes-long in
+          let long = r .long in
           let node = both-true (nodeFits x i) (answerFits x w i) fitting .0 in
+          let f = s .finding in
           record {
             reached = record {
               some = omega arith;
@@ -152,66 +159,23 @@ module _ (ws ns : List ℕ) (n : ℕ) where
               room = r .room;
               wide = r .wide;
               earlier = earlier-more r u node;
-              holes-long = simp length-set long;
+              long = omega (arith, length-entered xs t i h);
               holed = λ j l. by-equal j i
-                  (λ d. rw d (getD-set-same hs i h 0 (omega arith) ∙ told-hole fits code h e .1))
-                  (λ d. getD-set-other hs i j h 0 d ∙ r .holed j (omega arith));
+                  (λ d. rw d (hole-entered (sizeIn xs) ws xs i t h (f .indexed) (r .some) (omega arith) (omega arith) (seat .leads) (holds ∙ z) ∙ told-hole fits code h e .1))
+                  (λ d. holes-kept (sizeIn xs) ws xs i t h (f .indexed) (r .some) (omega arith) (omega arith) (seat .leads) (holds ∙ z) j (omega arith) ∙ r .holed j (omega arith));
             };
             most = omega arith;
-            finding = finding-more head' next' (s .finding) (omega arith) (omega arith) z y p q;
+            finding = finding-more t h f (omega arith) (omega arith) seat holds z;
             decides = sym (λ t. (fitting t && not (not (eq-eqb twin 0 z t))) && rest i) ∙ step;
           }
 
   -- PAST THE LAST ROW
-  module _ {mix hs head next : List ℕ} {i : ℕ} (s : Passing ws ns n mix hs head next i) (u : n ≤ i) where
+  module _ {xs : List ℕ} {i : ℕ} (s : Passing ws ns n xs i) (u : n ≤ i) where
     all-passed : i ≡ n
     all-passed = let m = s .most in omega arith
 
-    pub ends : (most : ℕ) → PassedAs ws ns n most hs head next mix Passed.Sound
+    pub ends : (rowsPass ws ns n ≡ true) × Marked ws ns n xs
     unfolding rowsFit
-    ends m =
+    ends =
         let a : n - i ≡ 0 = omega arith in
-        P.passed (sym (s .decides) ∙ ap (rowsFit x w i) a) (record { finding = rw all-passed at (s .finding); holed = rw all-passed at (s .reached .holed) })
-
--- WHAT A PASS CAME TO, by its answer
-module _ {ws ns : List ℕ} {n most : ℕ} {hs head next mix : List ℕ} {r : Passed} (p : PassedAs ws ns n most hs head next mix r) where
-  pub came-broken : r ≡ Passed.Broken → rowsPass ws ns n ≡ false
-  came-broken e = go r p e
-    where
-      go : (q : Passed) → PassedAs ws ns n most hs head next mix q → q ≡ Passed.Broken → rowsPass ws ns n ≡ false
-      go q (P.broke f) e = f
-      go q (P.crowded l) e = let z : _≡_ {A = ℕ} 0 1 = cc in absurd (omega arith)
-      go q (P.passed f m) e = let z : _≡_ {A = ℕ} 0 1 = cc in absurd (omega arith)
-
-  pub came-crowded : r ≡ Passed.Crowded → 0 < most
-  came-crowded e = go r p e
-    where
-      go : (q : Passed) → PassedAs ws ns n most hs head next mix q → q ≡ Passed.Crowded → 0 < most
-      go q (P.broke f) e = let z : _≡_ {A = ℕ} 0 1 = cc in absurd (omega arith)
-      go q (P.crowded l) e = l
-      go q (P.passed f m) e = let z : _≡_ {A = ℕ} 0 1 = cc in absurd (omega arith)
-
-  pub came-sound : r ≡ Passed.Sound → (rowsPass ws ns n ≡ true) × Marked ws ns n hs head next mix
-  came-sound e = go r p e
-    where
-      go : (q : Passed) → PassedAs ws ns n most hs head next mix q → q ≡ Passed.Sound → (rowsPass ws ns n ≡ true) × Marked ws ns n hs head next mix
-      go q (P.broke f) e = let z : _≡_ {A = ℕ} 0 1 = cc in absurd (omega arith)
-      go q (P.crowded l) e = let z : _≡_ {A = ℕ} 0 1 = cc in absurd (omega arith)
-      go q (P.passed f m) e = (f, m)
-
--- AN INDEX of no row beyond row 0
-pub finding-none : {mix ws ns head next : List ℕ} {n : ℕ} → Begun ws ns n → Mixing mix → Cleared head → length ws ≤ rowWidth * length next → Finding mix ws 1 head next
-finding-none {mix} {ws} {ns} {head} {next} b m c l =
-    let some = b .some in
-    let room = b .room in
-    record {
-      some = omega arith;
-      few = omega arith;
-      room = omega arith;
-      mixing = m;
-      some-heads = c .some;
-      few-heads = c .few;
-      next-long = l;
-      indexed = indexed-none mix ws head next (c .empty);
-      no-twins = λ i j z h k p q. omega arith;
-    }
+        (sym (s .decides) ∙ ap (rowsFit x w i) a, record { finding = rw all-passed at (s .finding); holed = rw all-passed at (s .reached .holed) })

@@ -22,7 +22,7 @@ use Rattle.bank.specs.Ready.{oneFurther, placeCode, Holed}
 use Rattle.bank_t1.specs.Pass.{holeBy, unusedZero, kidsSay, kidsIn, rowSays, Reached}
 use Rattle.bank_t1.specs.declared.Kids.{Kids}
 use Rattle.bank.proofs.Laws.Words.{symbol-in, places-in, kids-in, answer-in}
-use Rattle.bank.proofs.Laws.Chains.{by-equal}
+use Rattle.bank.proofs.Laws.Trees.{by-equal}
 use Rattle.bank_t1.proofs.Laws.Kids.{pads, and-false, kids-say}
 
 -- MARKS: one other than 0 says that a child has a hole

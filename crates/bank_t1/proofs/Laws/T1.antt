@@ -81,17 +81,15 @@ module _ (ws ns : List ℕ) (n : ℕ) where
         rows-decide e = sym (left ∙ ap (λ (b : Bool). b && rowsPass ws ns n) e)
 
 -- READY, where T1 holds and all rows are marked
-pub ready : (ws ns : List ℕ) (n : ℕ) {hs head next mix : List ℕ} → sizeFits ws ≡ true → isT1 (stored ws ns n) ≡ true → length ws ≤ rowWidth * length hs → Marked ws ns n hs head next mix →
-    Ready ws ns n hs head next mix
-ready ws ns n z e l m =
+pub ready : (ws ns : List ℕ) (n : ℕ) {xs : List ℕ} → sizeFits ws ≡ true → isT1 (stored ws ns n) ≡ true → Marked ws ns n xs → Ready ws ns n xs
+ready ws ns n z e m =
     record {
       good = rows-of (stored ws ns n) e .good;
       lent = sizeFits-facts ws z .most;
       finding = m .finding;
-      holes-long = l;
       holed = m .holed;
     }
 
 -- and then a mark says whether a row has a hole
-pub hole-ready : {ws ns : List ℕ} {n : ℕ} {hs head next mix : List ℕ} → Ready ws ns n hs head next mix → (i : ℕ) → i < n → holeBy hs i ≡ hasHole (storeOf ws ns n) i
-hole-ready {ws} {ns} {n} {hs} r i l = mark-is (storeOf ws ns n) hs n (λ j u. earlier (storeOf ws ns n) (r .good) j (rw (used-of ws ns n) u)) (r .holed) i l
+pub hole-ready : {ws ns : List ℕ} {n : ℕ} {xs : List ℕ} → Ready ws ns n xs → (i : ℕ) → i < n → holeBy xs i ≡ hasHole (storeOf ws ns n) i
+hole-ready {ws} {ns} {n} {xs} r i l = mark-is (storeOf ws ns n) xs n (λ j u. earlier (storeOf ws ns n) (r .good) j (rw (used-of ws ns n) u)) (r .holed) i l

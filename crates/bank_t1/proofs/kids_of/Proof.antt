@@ -19,10 +19,10 @@ abbrev leftSay : (words holes : List ℕ) → (row count place hole : ℕ) → K
 leftSay ws hs i n k h = kidsSay (holeBy hs) i k h (drop k (take n (placesIn ws i)))
 
 abbrev Inv-loop : tie.InvT-loop
-Inv-loop words holes row count i hole₀ k₀ hole k = (k ≤ count) × (leftSay words holes (row .0) count k hole ≡ kidsIn words holes (row .0) count)
+Inv-loop words index row count i hole₀ k₀ hole k = (k ≤ count) × (leftSay words index (row .0) count k hole ≡ kidsIn words index (row .0) count)
 
 abbrev μ-loop : tie.MeasureT-loop
-μ-loop words holes row count i hole₀ k₀ hole k = count - k
+μ-loop words index row count i hole₀ k₀ hole k = count - k
 
 -- in a turn: the child that was read, and whether it has a hole
 abbrev Read : Type 0
@@ -38,7 +38,7 @@ abbrev words : Read → List ℕ
 words c = start c .args .words .now
 
 abbrev holes : Read → List ℕ
-holes c = start c .args .holes .now
+holes c = start c .args .index .now
 
 abbrev row : Read → ℕ
 row c = start c .args .row .0
@@ -67,12 +67,12 @@ unused-zero-requires c κs = search needs
 returns : tie.Need-returns Inv-loop μ-loop
 returns c =
     let s = c .before .before .before .before .args in
-    unused-breaks (s .words .now) (s .holes .now) (s .row .0) (s .count) (sym (c .before .unused-zero .ensures) ∙ not-true _ (c .if1 .taken))
+    unused-breaks (s .words .now) (s .index .now) (s .row .0) (s .count) (sym (c .before .unused-zero .ensures) ∙ not-true _ (c .if1 .taken))
 
 loop-holds : tie.Need-loop-holds Inv-loop μ-loop
 loop-holds c =
     let s = c .before .before .before .before .args in
-    (omega arith, unused-passes (s .words .now) (s .holes .now) (s .row .0) (s .count) (sym (c .before .unused-zero .ensures) ∙ not-false _ (c .if1 .left)))
+    (omega arith, unused-passes (s .words .now) (s .index .now) (s .row .0) (s .count) (sym (c .before .unused-zero .ensures) ∙ not-false _ (c .if1 .left)))
 
 cast-kid-of : tie.Need-cast-kid-of Inv-loop μ-loop
 cast-kid-of c = search needs
@@ -123,7 +123,7 @@ loop-again c =
 returns-4 : tie.Need-returns-4 Inv-loop μ-loop
 returns-4 c =
     let s = c .before .before .before .before .before .before in
-    sym (said (holeBy (s .args .holes .now)) (s .args .words .now) (s .args .row .0) (s .args .count) (s .pre .2) (c .before .loop .k) (c .before .loop .hole) (c .loop-test .left)) ∙
+    sym (said (holeBy (s .args .index .now)) (s .args .words .now) (s .args .row .0) (s .args .count) (s .pre .2) (c .before .loop .k) (c .before .loop .hole) (c .loop-test .left)) ∙
     c .before .loop .inv .1
 
 pub kids-of-spec : {M : Type 1} → statement M

@@ -23,10 +23,10 @@ fine : (c : Children) → answerIn (start c .args .words .now) (start c .args .r
 fine c = omega (arith, c .before .before .before .answer-of .ensures, c .before .before .if2 .left)
 
 told : (c : Children) → c .kids-of .result ≡
-    kidsIn (start c .args .words .now) (start c .args .holes .now) (start c .args .row .0) (getD (start c .args .counts .now) (symbolIn (start c .args .words .now) (start c .args .row .0)) 0)
+    kidsIn (start c .args .words .now) (start c .args .index .now) (start c .args .row .0) (getD (start c .args .counts .now) (symbolIn (start c .args .words .now) (start c .args .row .0)) 0)
 told c =
     c .kids-of .ensures ∙
-    ap (λ (a : ℕ). kidsIn (start c .args .words .now) (start c .args .holes .now) (start c .args .row .0) (getD (start c .args .counts .now) a 0)) (c .before .before .before .before .before .symbol-of .ensures)
+    ap (λ (a : ℕ). kidsIn (start c .args .words .now) (start c .args .index .now) (start c .args .row .0) (getD (start c .args .counts .now) a 0)) (c .before .before .before .before .before .symbol-of .ensures)
 
 symbol-of-requires : tie.Need-symbol-of-requires
 symbol-of-requires c κs = search needs
@@ -54,7 +54,7 @@ kids-of-requires c κs =
     let s = c .before .before .before .before .before .before .before .before in
     let r = s .pre .0 in
     let e = c .before .before .before .before .symbol-of .ensures in
-    (omega (arith, r .room), omega (arith, r .few), rw e (small r (s .pre .1)), omega (arith, r .holes-long, s .pre .1))
+    (omega (arith, r .room), omega (arith, r .few), rw e (small r (s .pre .1)), omega (arith, r .long, s .pre .1))
 
 enum-told : tie.Need-enum-told
 enum-told c = search needs

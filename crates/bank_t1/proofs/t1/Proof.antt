@@ -16,16 +16,16 @@ use Rattle.bank_t1.proofs.t1.Statement.{statement}
 use Rattle.bank_t1.proofs.t1.Tie as tie
 
 -- past each test
-alphabet : (c : tie.Else1) → alphabetFits (c .before .before .before .before .before .before .before .args .counts .now) ≡ true
+alphabet : (c : tie.Else1) → alphabetFits (c .before .before .before .before .before .args .counts .now) ≡ true
 alphabet c = sym (c .before .alphabet-fits .ensures) ∙ not-false _ (c .if1 .left)
 
 abbrev Sized : Type 0
 Sized = tie.Else3
 
 abbrev start : Sized → tie.Start
-start c = c .before .before .before .before .before .before .before .before .before
+start c = c .before .before .before .before .before .before .before
 
-some : (c : tie.Else2) → 1 ≤ c .before .before .before .before .before .before .before .before .args .used
+some : (c : tie.Else2) → 1 ≤ c .before .before .before .before .before .before .args .used
 some c = omega arith
 
 room : (c : Sized) → rowWidth * start c .args .used ≤ length (start c .args .words .now)
@@ -46,16 +46,16 @@ alphabet-fits-requires : tie.Need-alphabet-fits-requires
 alphabet-fits-requires c κs = search needs
 
 returns : tie.Need-returns
-returns c = let s = c .before .before .before .before .before .before .before in (no-alphabet (s .args .words .now) (s .args .counts .now) (s .args .used) (sym (c .before .alphabet-fits .ensures) ∙ not-true _ (c .if1 .taken)), λ f. absurd (true≢false (sym f)))
+returns c = let s = c .before .before .before .before .before in (no-alphabet (s .args .words .now) (s .args .counts .now) (s .args .used) (sym (c .before .alphabet-fits .ensures) ∙ not-true _ (c .if1 .taken)), λ f. absurd (true≢false (sym f)))
 
 returns-2 : tie.Need-returns-2
-returns-2 c = let s = c .before .before .before .before .before .before .before .before in (no-rows (s .args .words .now) (s .args .counts .now) (s .args .used) (alphabet (c .before)) (c .if2 .taken), λ f. absurd (true≢false (sym f)))
+returns-2 c = let s = c .before .before .before .before .before .before in (no-rows (s .args .words .now) (s .args .counts .now) (s .args .used) (alphabet (c .before)) (c .if2 .taken), λ f. absurd (true≢false (sym f)))
 
 mul-if3 : tie.Need-mul-if3
 mul-if3 c = search needs
 
 returns-3 : tie.Need-returns-3
-returns-3 c = let s = c .before .before .before .before .before .before .before .before .before in (few-rows (s .args .words .now) (s .args .counts .now) (s .args .used) (alphabet (c .before .before)) (some (c .before)) (c .if3 .taken), λ f. absurd (true≢false (sym f)))
+returns-3 c = let s = c .before .before .before .before .before .before .before in (few-rows (s .args .words .now) (s .args .counts .now) (s .args .used) (alphabet (c .before .before)) (some (c .before)) (c .if3 .taken), λ f. absurd (true≢false (sym f)))
 
 is-hole-requires : tie.Need-is-hole-requires
 is-hole-requires c κs = search needs
@@ -68,27 +68,21 @@ returns-4 c =
 
 rows-pass-requires : tie.Need-rows-pass-requires
 rows-pass-requires c κs =
-    let d = c .before .before .before .before in
+    let d = c .before in
     let p = start (d .before .before) .pre in
     (begun d, p .1)
 
 same-length : tie.Need-same-length
 same-length c = search needs
 
-same-length-2 : tie.Need-same-length-2
-same-length-2 c = search needs
-
-same-length-3 : tie.Need-same-length-3
-same-length-3 c = search needs
-
 returns-5 : tie.Need-returns-5
 returns-5 c =
-    let d = c .before .before .before .before .before .before .before .before .before .before .before in
+    let d = c .before .before .before .before in
     let t = d .before .before in
     let s = start t in
     let e = rows-decide (s .args .words .now) (s .args .counts .now) (s .args .used) (alphabet (t .before .before)) (some (t .before)) (room t) (hole d) in
-    let m = c .before .before .before .before .before .before .rows-pass .ensures in
-    (m .0 ∙ e, λ f. ready (s .args .words .now) (s .args .counts .now) (s .args .used) (s .pre .0) (sym e ∙ sym (m .0) ∙ f) (omega (arith, m .1 .1, s .pre .1 .holes-long)) (m .1 .0 f))
+    let m = c .before .before .rows-pass .ensures in
+    (m .0 ∙ e, λ f. ready (s .args .words .now) (s .args .counts .now) (s .args .used) (s .pre .0) (sym e ∙ sym (m .0) ∙ f) (m .1 f))
 
 pub t1-spec : {M : Type 1} → statement M
 t1-spec =
@@ -103,6 +97,4 @@ t1-spec =
     returns-4
     rows-pass-requires
     same-length
-    same-length-2
-    same-length-3
     returns-5)

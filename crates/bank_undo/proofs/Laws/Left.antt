@@ -14,10 +14,9 @@ use Rattle.model.specs.Entry.{storeOf, nodesIn, answersIn, rowWords, wordsOf}
 use Rattle.model.specs.Facts.{Good}
 use Rattle.model.proofs.Laws.Lent.{FourPlaces, rowWords-same, length-nodesIn, length-answersIn}
 use Rattle.bank.specs.Rows.{symbolIn, answerIn, kidIn, placesIn, withAnswer}
-use Rattle.bank.specs.Index.{bucketOf, bucketAt}
 use Rattle.bank.specs.Ready.{Holed, Ready, withRows}
 use Rattle.bank.proofs.Laws.Words.{used-of, node-in, answer-in, length-withRows, store-withRows, answers-withRows, behind-withRows}
-use Rattle.bank.proofs.Laws.Chains.{by-equal, indexed-same}
+use Rattle.bank.proofs.Laws.Trees.{by-equal, indexed-same}
 use Rattle.bank_undo.specs.Left.{Left}
 
 -- words that are left are those of the definition
@@ -122,13 +121,9 @@ module _ (ws ns : List ℕ) (n i v : ℕ) (l : i < n) (h : rowWidth * n ≤ leng
         behind = ap (λ (k : ℕ). drop (rowWidth * k) (withAnswer ws i v)) u ∙ behind-answer ∙ ap (λ (k : ℕ). drop (rowWidth * k) ws) (sym u);
       }
 
-  same-bucket : (mix : List ℕ) (z j : ℕ) → bucketAt mix z (withAnswer ws i v) j ≡ bucketAt mix z ws j
-  unfolding bucketAt
-  same-bucket mix z j = λ t. bucketOf mix z (same-symbol j t) (same-kid j 0 (omega arith) t) (same-kid j 1 (omega arith) t) (same-kid j 2 (omega arith) t) (same-kid j 3 (omega arith) t)
-
   -- the index and the marks do not look at answers
-  pub ready-answered : {hs head next mix : List ℕ} → Ready ws ns n hs head next mix → Ready (withAnswer ws i v) ns n hs head next mix
-  ready-answered {hs = hs} {mix = mix} r =
+  pub ready-answered : {ix : List ℕ} → Ready ws ns n ix → Ready (withAnswer ws i v) ns n ix
+  ready-answered {ix = ix} r =
       record {
         good = subst Good (sym answered-store) (r .good);
         lent = subst (λ (k : ℕ). k / rowWidth ≤ mostRows) (sym long) (r .lent);
@@ -136,13 +131,9 @@ module _ (ws ns : List ℕ) (n i v : ℕ) (l : i < n) (h : rowWidth * n ≤ leng
           some = r .finding .some;
           few = r .finding .few;
           room = omega (arith, long);
-          mixing = r .finding .mixing;
-          some-heads = r .finding .some-heads;
-          few-heads = r .finding .few-heads;
-          next-long = omega (arith, long, r .finding .next-long);
-          indexed = indexed-same (withAnswer ws i v) (λ j b. same-bucket mix _ j) (r .finding .indexed);
+          roomy = record { some = r .finding .roomy .some; few = r .finding .roomy .few; long = omega (arith, long, r .finding .roomy .long) };
+          indexed = indexed-same (withAnswer ws i v) (λ j b. same-symbol j) (λ j b. same-places j) (r .finding .indexed);
           no-twins = λ a b z p q e f. r .finding .no-twins a b z p q (sym (same-symbol a) ∙ e ∙ same-symbol b) (sym (same-places a) ∙ f ∙ same-places b);
         };
-        holes-long = omega (arith, long, r .holes-long);
-        holed = subst (λ (x : Store). Holed x hs n) (sym answered-store) (r .holed);
+        holed = subst (λ (x : Store). Holed x ix n) (sym answered-store) (r .holed);
       }

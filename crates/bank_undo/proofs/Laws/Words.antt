@@ -11,7 +11,7 @@ use lib.ListN.{length, getD, set, length-set}
 use lib.Seq.{getD-take, getD-set-same, getD-set-other, ext-getD}
 use Rattle.model.specs.Limits.{rowWidth}
 use Rattle.bank.specs.Ready.{Kept}
-use Rattle.bank.proofs.Laws.Chains.{by-equal}
+use Rattle.bank.proofs.Laws.Trees.{by-equal}
 use Rattle.bank_undo.specs.Saved.{SavedTo, Saved, BackTo, PutBack}
 
 pub save-none : (ws : List ℕ) (n : ℕ) (vs : List ℕ) → length ws ≤ rowWidth * n + length vs → SavedTo ws n (rowWidth * n) vs

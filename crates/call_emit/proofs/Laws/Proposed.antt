@@ -24,8 +24,8 @@ use Rattle.sound.specs.Working.{Arrays, Working, preparedFit, judgedFit}
 use Rattle.sound.proofs.Laws.Judged.{ruled, hypothesis-is, sound-parts}
 use Rattle.call_emit.specs.Proposal.{Flat}
 
-module _ {ws : List ℕ} (l : Lists) {holes head next mix table places reps : List ℕ} (a : Arrays (l .s) (l .states) (l .t) (l .rules) (l .c) (l .contexts))
-    (w : Working ws (take (l .letters) (l .counts)) (l .used) (l .s) (l .states) (l .t) (l .rules) (l .c) (l .contexts) holes head next mix table places reps)
+module _ {ws : List ℕ} (l : Lists) {index table places reps : List ℕ} (a : Arrays (l .s) (l .states) (l .t) (l .rules) (l .c) (l .contexts))
+    (w : Working ws (take (l .letters) (l .counts)) (l .used) (l .s) (l .states) (l .t) (l .rules) (l .c) (l .contexts) index table places reps)
     (sound : isSound (tablesOf ws l) ≡ true) (idle : l .asked ≡ 0) where
   abbrev X : Tables
   X = tablesOf ws l

@@ -8,7 +8,7 @@ use lib.ListN.{length, getD, set, take, drop, length-set, length-drop, length-ma
 use lib.Seq.{length-take-le, getD-take, getD-drop, getD-set-same, getD-set-other, ext-getD}
 use Rattle.model.specs.Base.{placeOf}
 use Rattle.model.specs.Store.{Store, symbolAt, kidsAt}
-use Rattle.bank.proofs.Laws.Chains.{by-equal}
+use Rattle.bank.proofs.Laws.Trees.{by-equal}
 use Rattle.table_verdict.specs.Rules.{ruleBy}
 use Rattle.list.specs.Flat.{flatWidth, flatRule, ruleWidth}
 

@@ -17,7 +17,7 @@ use Rattle.bank.proofs.Laws.Words.{used-of}
 use Rattle.table_verdict.specs.Rules.{Ruled}
 use Rattle.table_verdict.proofs.Laws.Words.{row-known}
 
-module _ {ws ns : List ℕ} {u : ℕ} {holes head next mix reps : List ℕ} (r : Ready ws ns u holes head next mix) (s : List ℕ) (q : ℕ) (t : List ℕ) (n : ℕ)
+module _ {ws ns : List ℕ} {u : ℕ} {index reps : List ℕ} (r : Ready ws ns u index) (s : List ℕ) (q : ℕ) (t : List ℕ) (n : ℕ)
     (d : Ruled (storeOf ws ns u) (take q s) (take n t) reps) (within : n ≤ length t) (k : ℕ) (h : k < n) where
   row-in : In (getD t k 0) (take n t)
   row-in =

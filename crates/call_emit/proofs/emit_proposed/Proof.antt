@@ -50,37 +50,37 @@ cast-rules c = search needs
 
 write-finals-requires : tie.Need-write-finals-requires
 write-finals-requires c κs =
-    let s : Start = c .before .before .before .before .before .before .before .before .before .before .before .before .before .before .before in
+    let s : Start = c .before .before .before .before .before .before .before .before .before .before .before .before .before in
     (s .pre .4 .ready .finding .room, arrays s .s-long, arrays s .few-s, reps-used (s .args .lists) (arrays s) (s .pre .4) (s .pre .2) (s .pre .3), refl)
 
 array-share-prefix-counts : tie.Need-array-share-prefix-counts
-array-share-prefix-counts c = letters-within (c .before .before .before .before .before .before .before .before .before .before .before .before .before .before .before .before)
+array-share-prefix-counts c = letters-within (c .before .before .before .before .before .before .before .before .before .before .before .before .before .before)
 
 slice-aggregate-write-rules : tie.Need-slice-aggregate-write-rules
-slice-aggregate-write-rules c = sym (counts-long (c .before .before .before .before .before .before .before .before .before .before .before .before .before .before .before .before .before))
+slice-aggregate-write-rules c = sym (counts-long (c .before .before .before .before .before .before .before .before .before .before .before .before .before .before .before))
 
 write-rules-requires : tie.Need-write-rules-requires
 write-rules-requires c κs =
-    let s : Start = c .before .before .before .before .before .before .before .before .before .before .before .before .before .before .before .before .before .before .before .before in
+    let s : Start = c .before .before .before .before .before .before .before .before .before .before .before .before .before .before .before .before .before .before in
     (s .pre .4 .ready, rules-hold (s .args .lists) (arrays s) (s .pre .4) (s .pre .2) (s .pre .3), arrays s .s-long, arrays s .few-s, arrays s .t-long, arrays s .few-t, refl)
 
 array-share-prefix-counts-2 : tie.Need-array-share-prefix-counts-2
-array-share-prefix-counts-2 c = letters-within (c .before .before .before .before .before .before .before .before .before .before .before .before .before .before .before .before .before .before .before .before .before)
+array-share-prefix-counts-2 c = letters-within (c .before .before .before .before .before .before .before .before .before .before .before .before .before .before .before .before .before .before .before)
 
 slice-aggregate-write-listed : tie.Need-slice-aggregate-write-listed
-slice-aggregate-write-listed c = sym (counts-long (c .before .before .before .before .before .before .before .before .before .before .before .before .before .before .before .before .before .before .before .before .before .before))
+slice-aggregate-write-listed c = sym (counts-long (c .before .before .before .before .before .before .before .before .before .before .before .before .before .before .before .before .before .before .before .before))
 
 array-share-prefix-finals : tie.Need-array-share-prefix-finals
 array-share-prefix-finals c =
     omega (
       arith,
       c .before .before .before .before .before .before .write-finals .ensures .1,
-      arrays (c .before .before .before .before .before .before .before .before .before .before .before .before .before .before .before .before .before .before .before .before .before .before) .few-s,
+      arrays (c .before .before .before .before .before .before .before .before .before .before .before .before .before .before .before .before .before .before .before .before) .few-s,
     )
 
 slice-aggregate-write-listed-2 : tie.Need-slice-aggregate-write-listed-2
 slice-aggregate-write-listed-2 c =
-    let s : Start = c .before .before .before .before .before .before .before .before .before .before .before .before .before .before .before .before .before .before .before .before .before .before .before in
+    let s : Start = c .before .before .before .before .before .before .before .before .before .before .before .before .before .before .before .before .before .before .before .before .before in
     let w = c .before .before .before .before .before .before .before .write-finals in
     sym (length-take-le (s .args .lists .states) _ (omega (arith, w .ensures .1, arrays s .few-s)))
 
@@ -92,21 +92,21 @@ array-share-prefix-flat c =
     omega (
       arith,
       c .before .before .write-rules .ensures .long,
-      arrays (c .before .before .before .before .before .before .before .before .before .before .before .before .before .before .before .before .before .before .before .before .before .before .before) .few-t,
+      arrays (c .before .before .before .before .before .before .before .before .before .before .before .before .before .before .before .before .before .before .before .before .before) .few-t,
     )
 
 slice-aggregate-write-listed-3 : tie.Need-slice-aggregate-write-listed-3
 slice-aggregate-write-listed-3 c =
-    let s : Start = c .before .before .before .before .before .before .before .before .before .before .before .before .before .before .before .before .before .before .before .before .before .before .before .before in
+    let s : Start = c .before .before .before .before .before .before .before .before .before .before .before .before .before .before .before .before .before .before .before .before .before .before in
     let w = c .before .before .before .write-rules in
     sym (length-take-le (ruleWidth * s .args .lists .rules) _ (omega (arith, w .ensures .long, arrays s .few-t)))
 
 write-listed-requires : tie.Need-write-listed-requires
 write-listed-requires c κs =
-    let s : Start = c .before .before .before .before .before .before .before .before .before .before .before .before .before .before .before .before .before .before .before .before .before .before .before .before .before in
+    let s : Start = c .before .before .before .before .before .before .before .before .before .before .before .before .before .before .before .before .before .before .before .before .before .before .before in
     let f = c .before .before .before .before .before .before .before .before .before .write-finals in
     let w = c .before .before .before .before .write-rules in
-    parts-short (take (s .args .lists .letters) (s .args .lists .counts)) (f .last .1 .1 .1 .1 .0) (w .last .1 .1 .1 .1 .1 .1 .1 .1 .1 .1 .1 .1 .0) (s .args .lists .states) (s .args .lists .rules)
+    parts-short (take (s .args .lists .letters) (s .args .lists .counts)) (f .last .1 .1 .1 .1 .0) (w .last .1 .1 .1 .1 .1 .1 .1 .1 .1 .0) (s .args .lists .states) (s .args .lists .rules)
     (omega (arith, counts-long s, few-letters s)) (f .ensures .1) (arrays s .few-s) (w .ensures .long) (arrays s .few-t)
 
 same-length : tie.Need-same-length
@@ -114,7 +114,7 @@ same-length c = search needs
 
 returns : tie.Need-returns
 returns c =
-    let s : Start = c .before .before .before .before .before .before .before .before .before .before .before .before .before .before .before .before .before .before .before .before .before .before .before .before .before .before .before .before in
+    let s : Start = c .before .before .before .before .before .before .before .before .before .before .before .before .before .before .before .before .before .before .before .before .before .before .before .before .before .before in
     let f = c .before .before .before .before .before .before .before .before .before .before .before .before .write-finals in
     let w = c .before .before .before .before .before .before .before .write-rules in
     let r = c .before .before .write-listed in

@@ -20,25 +20,19 @@ slice-aggregate-lists-sound-2 c = search needs
 slice-aggregate-lists-sound-3 : tie.Need-slice-aggregate-lists-sound-3
 slice-aggregate-lists-sound-3 c = search needs
 
-slice-aggregate-lists-sound-4 : tie.Need-slice-aggregate-lists-sound-4
-slice-aggregate-lists-sound-4 c = search needs
-
-slice-aggregate-lists-sound-5 : tie.Need-slice-aggregate-lists-sound-5
-slice-aggregate-lists-sound-5 c = search needs
-
 lists-sound-requires : tie.Need-lists-sound-requires
 lists-sound-requires c κs =
-    let s = c .before .before .before .before .before .before .before .before .before in
+    let s = c .before .before .before .before .before .before in
     let f = listsFit-facts (s .args .lists) (s .pre .1) in
-    (s .pre .0, s .pre .1, room-for mostRows (words-few (s .args .words .now) (s .pre .0)) refl (omega arith) (omega arith) refl refl (omega (arith, f .rules)) refl refl)
+    (s .pre .0, s .pre .1, room-for mostRows (words-few (s .args .words .now) (s .pre .0)) (omega arith) (omega arith) refl (omega (arith, f .rules)) refl refl)
 
 refuse-requires : tie.Need-refuse-requires
 refuse-requires c κs = search needs
 
 returns : tie.Need-returns
 returns c =
-    let s = c .before .before .before .before .before .before .before .before .before .before .before .before .before .before .before .before .before in
-    let g = c .before .before .before .before .before .before .before .lists-sound in
+    let s = c .before .before .before .before .before .before .before .before .before .before .before .before in
+    let g = c .before .before .before .before .before .lists-sound in
     refusal (s .args .words .now) (s .args .lists) (s .args .out .now) 30
     (unsound-refused (s .args .words .now) (s .args .lists) (s .args .out .now) (s .pre .0) (s .pre .1) (sym (g .ensures .0) ∙ not-true (g .result) (c .before .if1 .taken)))
     (c .refuse .result) (c .refuse .ensures)
@@ -48,8 +42,8 @@ refuse-requires-2 c κs = search needs
 
 returns-2 : tie.Need-returns-2
 returns-2 c =
-    let s = c .before .before .before .before .before .before .before .before .before .before .before .before .before .before .before .before .before .before .before in
-    let g = c .before .before .before .before .before .before .before .before .before .lists-sound in
+    let s = c .before .before .before .before .before .before .before .before .before .before .before .before .before .before in
+    let g = c .before .before .before .before .before .before .before .lists-sound in
     refusal (s .args .words .now) (s .args .lists) (s .args .out .now) 31
     (asking-refused (s .args .words .now) (s .args .lists) (s .args .out .now) (s .pre .0) (s .pre .1) (sym (g .ensures .0) ∙ not-false (g .result) (c .before .before .before .if1 .left))
     (c .before .if2 .taken)) (c .refuse2 .result) (c .refuse2 .ensures)
@@ -63,18 +57,12 @@ slice-aggregate-emit-proposed-2 c = search needs
 slice-aggregate-emit-proposed-3 : tie.Need-slice-aggregate-emit-proposed-3
 slice-aggregate-emit-proposed-3 c = search needs
 
-slice-aggregate-emit-proposed-4 : tie.Need-slice-aggregate-emit-proposed-4
-slice-aggregate-emit-proposed-4 c = search needs
-
-slice-aggregate-emit-proposed-5 : tie.Need-slice-aggregate-emit-proposed-5
-slice-aggregate-emit-proposed-5 c = search needs
-
 emit-proposed-requires : tie.Need-emit-proposed-requires
 emit-proposed-requires c κs =
-    let s = c .before .before .before .before .before .before .before .before .before .before .before .before .before .before .before .before .before .before .before .before .before .before .before .before .before .before in
-    let g = c .before .before .before .before .before .before .before .before .before .before .before .before .before .before .before .before .lists-sound in
-    let e = not-false (g .result) (c .before .before .before .before .before .before .before .before .before .before .if1 .left) in
-    (s .pre .0, s .pre .1, sym (g .ensures .0) ∙ e, c .before .before .before .before .before .before .before .before .if2 .left, g .ensures .1 e)
+    let s = c .before .before .before .before .before .before .before .before .before .before .before .before .before .before .before .before .before .before in
+    let g = c .before .before .before .before .before .before .before .before .before .before .before .lists-sound in
+    let e = not-false (g .result) (c .before .before .before .before .before .before .before .if1 .left) in
+    (s .pre .0, s .pre .1, sym (g .ensures .0) ∙ e, c .before .before .before .before .before .if2 .left, g .ensures .1 e)
 
 same-length : tie.Need-same-length
 same-length c = search needs
@@ -89,8 +77,6 @@ emit-within-spec =
     slice-aggregate-lists-sound
     slice-aggregate-lists-sound-2
     slice-aggregate-lists-sound-3
-    slice-aggregate-lists-sound-4
-    slice-aggregate-lists-sound-5
     lists-sound-requires
     refuse-requires
     returns
@@ -99,8 +85,6 @@ emit-within-spec =
     slice-aggregate-emit-proposed
     slice-aggregate-emit-proposed-2
     slice-aggregate-emit-proposed-3
-    slice-aggregate-emit-proposed-4
-    slice-aggregate-emit-proposed-5
     emit-proposed-requires
     same-length
     returns-3)

@@ -22,10 +22,10 @@ use Rattle.bank.proofs.rows.symbol_of.Reads as symbol-of-reads
 use Rattle.run_lists.proofs.place_of.Reads as place-of-reads
 
 abbrev Inv-loop : tie.InvT-loop
-Inv-loop words counts used holes head next mix s states t rules reps k row symbol count bytes₀ i₀ bytes i = RuleTo (storeOf words counts used) (take states s) (getD t k 0) bytes i × (count ≡ length (kidsAt (storeOf words counts used) (getD t k 0)))
+Inv-loop words counts used index s states t rules reps k row symbol count bytes₀ i₀ bytes i = RuleTo (storeOf words counts used) (take states s) (getD t k 0) bytes i × (count ≡ length (kidsAt (storeOf words counts used) (getD t k 0)))
 
 abbrev μ-loop : tie.MeasureT-loop
-μ-loop words counts used holes head next mix s states t rules reps k row symbol count bytes₀ i₀ bytes i = count - i
+μ-loop words counts used index s states t rules reps k row symbol count bytes₀ i₀ bytes i = count - i
 
 abbrev Start : Type 0
 Start = lts.Start (symbol-of-reads.Asked, symbol-of-reads.Learnt, kid-of-reads.Asked, kid-of-reads.Learnt, place-of-reads.Asked, place-of-reads.Learnt) reads.Pre reads.Post Inv-loop μ-loop
@@ -53,7 +53,7 @@ abbrev Turn : Type 0
 Turn = lts.In-loop (symbol-of-reads.Asked, symbol-of-reads.Learnt, kid-of-reads.Asked, kid-of-reads.Learnt, place-of-reads.Asked, place-of-reads.Learnt) reads.Pre reads.Post Inv-loop μ-loop
 
 abbrev start : Turn → Start
-start t = t .before .before .before .before .before .before .before .before .before .before .before
+start t = t .before .before .before .before .before .before .before .before .before
 
 turning : (t : Turn) → t .before .loop .i < length (kidsAt (store (start t)) (row (start t)))
 turning t = omega (arith, t .loop-test .taken, t .before .loop .inv .1)
@@ -80,28 +80,28 @@ state : (c : Placed) →
 state c = c .place-of .ensures ∙ ap (λ (j : ℕ). placeOf j 0 (states (start (turn c)))) (kid (c .before .before))
 
 mul-place-of : tie.Need-mul-place-of Inv-loop μ-loop
-mul-place-of c = let s : Start = c .before .before .before .before .before .before in omega (arith, s .pre .6, s .pre .5)
+mul-place-of c = let s : Start = c .before .before .before .before in omega (arith, s .pre .6, s .pre .5)
 
 element-copy-out-place-of : tie.Need-element-copy-out-place-of Inv-loop μ-loop
-element-copy-out-place-of c = let s : Start = c .before .before .before .before .before .before in omega (arith, s .pre .6, s .pre .5)
+element-copy-out-place-of c = let s : Start = c .before .before .before .before in omega (arith, s .pre .6, s .pre .5)
 
 symbol-of-requires : tie.Need-symbol-of-requires Inv-loop μ-loop
-symbol-of-requires c κs = let s : Start = c .before .before .before .before .before .before .before in row-within (s .pre .0) (row s) (used s)
+symbol-of-requires c κs = let s : Start = c .before .before .before .before .before in row-within (s .pre .0) (row s) (used s)
 
 cast-count : tie.Need-cast-count Inv-loop μ-loop
 cast-count c = search needs
 
 shared-slice-read-count : tie.Need-shared-slice-read-count Inv-loop μ-loop
 shared-slice-read-count c =
-    let s : Start = c .before .before .before .before .before .before .before .before .before in
+    let s : Start = c .before .before .before .before .before .before .before in
     omega (arith, c .before .symbol-of .ensures, row-known (s .pre .0) (row s) (used s) (some s))
 
 cast-count-2 : tie.Need-cast-count-2 Inv-loop μ-loop
-cast-count-2 c = omega (arith, c .shared-slice-known7 .given (c .before .symbol-of .result))
+cast-count-2 c = omega (arith, c .shared-slice-known5 .given (c .before .symbol-of .result))
 
 cast-bytes : tie.Need-cast-bytes Inv-loop μ-loop
 cast-bytes c =
-    let s : Start = c .before .before .before .before .before .before .before .before .before in
+    let s : Start = c .before .before .before .before .before .before .before in
     omega (
       arith,
       c .before .symbol-of .ensures,
@@ -113,7 +113,7 @@ array-write-bytes c = search needs
 
 loop-holds : tie.Need-loop-holds Inv-loop μ-loop
 loop-holds c =
-    let s : Start = c .before .before .before .before .before .before .before .before .before in
+    let s : Start = c .before .before .before .before .before .before .before in
     let e = c .before .symbol-of .ensures in (
       rule-start (store s) (states s) (row s) (c .before .symbol-of .result) (e ∙ row-symbol (s .pre .0) (row s) (used s)),
       ap (λ (a : ℕ). getD (s .args .counts .now) a 0) e ∙ row-count (s .pre .0) (row s) (used s) (some s),
@@ -134,7 +134,7 @@ cast-kid c =
 
 place-of-requires : tie.Need-place-of-requires Inv-loop μ-loop
 place-of-requires c κs =
-    let s : Start = c .before .before .before .before .before .before .before .before .before .before .before .before .before in
+    let s : Start = c .before .before .before .before .before .before .before .before .before .before .before in
     omega (arith, s .pre .2, s .pre .3)
 
 cast-bytes-2 : tie.Need-cast-bytes-2 Inv-loop μ-loop
@@ -169,22 +169,22 @@ cast-place-of c = search needs
 
 mul-place-of-2 : tie.Need-mul-place-of-2 Inv-loop μ-loop
 mul-place-of-2 c =
-    let s : Start = c .before .before .before .before .before .before .before .before .before .before .before .before .before in
+    let s : Start = c .before .before .before .before .before .before .before .before .before .before .before in
     omega (arith, used s, s .pre .0 .finding .few)
 
 shared-slice-read-place-of : tie.Need-shared-slice-read-place-of Inv-loop μ-loop
 shared-slice-read-place-of c =
-    let s : Start = c .before .before .before .before .before .before .before .before .before .before .before .before .before .before in
+    let s : Start = c .before .before .before .before .before .before .before .before .before .before .before .before in
     omega (arith, used s, reps-long (s .pre .0) (s .pre .1))
 
 place-of-requires-2 : tie.Need-place-of-requires-2 Inv-loop μ-loop
 place-of-requires-2 c κs =
-    let s : Start = c .before .before .before .before .before .before .before .before .before .before .before .before .before .before in
+    let s : Start = c .before .before .before .before .before .before .before .before .before .before .before .before in
     omega (arith, s .pre .2, s .pre .3)
 
 cast-bytes-3 : tie.Need-cast-bytes-3 Inv-loop μ-loop
 cast-bytes-3 c =
-    let s : Start = c .before .before .before .before .before .before .before .before .before .before .before .before .before .before .before in
+    let s : Start = c .before .before .before .before .before .before .before .before .before .before .before .before .before in
     omega (
       arith,
       c .place-of2 .ensures,
@@ -196,7 +196,7 @@ array-write-bytes-3 c = search needs
 
 returns : tie.Need-returns Inv-loop μ-loop
 returns c =
-    let s : Start = c .before .before .before .before .before .before .before .before .before .before .before .before .before .before .before in
+    let s : Start = c .before .before .before .before .before .before .before .before .before .before .before .before .before in
     let l = c .before .before .before .before .before .loop in
     let few-kids = row-few (s .pre .0) (row s) (used s) (some s) in
     let count = ap (λ (a : ℕ). getD (s .args .counts .now) a 0) (sym (row-symbol (s .pre .0) (row s) (used s))) ∙ row-count (s .pre .0) (row s) (used s) (some s) in

@@ -12,20 +12,20 @@ use Rattle.call_emit.proofs.write_rules.Statement.{statement}
 use Rattle.call_emit.proofs.write_rules.Tie as tie
 
 abbrev Inv-loop : tie.InvT-loop
-Inv-loop words counts used holes head next mix s states t rules reps flat₀ k₀ flat k = (k ≤ rules) × Flat (storeOf words counts used) (take states s) t reps k flat
+Inv-loop words counts used index s states t rules reps flat₀ k₀ flat k = (k ≤ rules) × Flat (storeOf words counts used) (take states s) t reps k flat
 
 abbrev μ-loop : tie.MeasureT-loop
-μ-loop words counts used holes head next mix s states t rules reps flat₀ k₀ flat k = rules - k
+μ-loop words counts used index s states t rules reps flat₀ k₀ flat k = rules - k
 
 loop-holds : tie.Need-loop-holds Inv-loop μ-loop
 loop-holds c =
-    let s = c .before .before .before .before .before .before in
+    let s = c .before .before .before .before in
     let x = storeOf (s .args .words .now) (s .args .counts .now) (s .args .used) in
     (omega arith, flat-none x (take (s .args .states) (s .args .s .now)) (s .args .t .now) (s .args .reps .now) (s .args .flat .now) (s .pre .6))
 
 rule-bytes-requires : tie.Need-rule-bytes-requires Inv-loop μ-loop
 rule-bytes-requires c κs =
-    let s = c .before .before .before .before .before .before .before .before in
+    let s = c .before .before .before .before .before .before in
     (s .pre .0, s .pre .1, s .pre .2, s .pre .3, s .pre .4, s .pre .5, c .loop-test .taken)
 
 mul-put-six : tie.Need-mul-put-six Inv-loop μ-loop
@@ -34,7 +34,7 @@ mul-put-six c = search needs
 put-six-requires : tie.Need-put-six-requires Inv-loop μ-loop
 put-six-requires c κs =
     let t = c .before .before in
-    let s = t .before .before .before .before .before .before .before .before in
+    let s = t .before .before .before .before .before .before in
     (t .before .loop .inv .1 .long, omega (arith, t .loop-test .taken, s .pre .5))
 
 add-k : tie.Need-add-k Inv-loop μ-loop
@@ -46,7 +46,7 @@ loop-less c = search needs
 loop-again : tie.Need-loop-again Inv-loop μ-loop
 loop-again c =
     let t = c .before .before .before in
-    let s = t .before .before .before .before .before .before .before .before in
+    let s = t .before .before .before .before .before .before in
     let r = c .before .before .rule-bytes in (
       omega (arith, t .loop-test .taken),
       flat-rule (storeOf (s .args .words .now) (s .args .counts .now) (s .args .used)) (take (s .args .states) (s .args .s .now)) (s .args .t .now) (s .args .reps .now) _
@@ -55,7 +55,7 @@ loop-again c =
 
 returns : tie.Need-returns Inv-loop μ-loop
 returns c =
-    let s = c .before .before .before .before .before .before .before .before in
+    let s = c .before .before .before .before .before .before in
     let l = c .before .loop in
     let e : l .k ≡ s .args .rules = omega (arith, c .loop-test .left, l .inv .0) in
     record { long = l .inv .1 .long; rule = λ k h. l .inv .1 .rule k (omega (arith, e, h)) }

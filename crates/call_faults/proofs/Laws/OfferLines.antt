@@ -21,7 +21,7 @@ use Rattle.model.proofs.Laws.Tests.{and-left, and-right}
 use Rattle.model.proofs.Laws.Rows.{found}
 use Rattle.model.proofs.Laws.ReflectTable.{idle-of, known-back}
 use Rattle.bank.specs.Ready.{Ready}
-use Rattle.bank.proofs.Laws.Chains.{by-equal}
+use Rattle.bank.proofs.Laws.Trees.{by-equal}
 use Rattle.bank.proofs.Laws.Words.{used-of}
 use Rattle.table_verdict.specs.Rules.{hypothesis, Ruled}
 use Rattle.sound.specs.Working.{Arrays, Working, preparedFit, judgedFit}
@@ -119,12 +119,12 @@ known-within x s (a ∷ xs) is h =
     either-within (eqb (findRow x a ks) 0) 0 (knownFrom x xs (findRow x a ks ∷ drop (countOf x a) is)) (used x) s
     (known-within x s xs (findRow x a ks ∷ drop (countOf x a) is) (find-within x s a ks))
 
-pub known-row-within : (ws ns : List ℕ) (n : ℕ) {hs he ne mx : List ℕ} → Ready ws ns n hs he ne mx → (xs : List ℕ) → knownRow (storeOf ws ns n) xs < n
+pub known-row-within : (ws ns : List ℕ) (n : ℕ) {ix : List ℕ} → Ready ws ns n ix → (xs : List ℕ) → knownRow (storeOf ws ns n) xs < n
 known-row-within ws ns n r xs = omega (arith, known-within (storeOf ws ns n) (r .good .start) xs [] (r .good .start), used-of ws ns n)
 
 -- SOUND TABLES with no question open: their rules, their hypothesis, and its verdict
-module _ (ws : List ℕ) (l : Lists) {holes head next mix table places reps : List ℕ} (a : Arrays (l .s) (l .states) (l .t) (l .rules) (l .c) (l .contexts))
-    (w : Working ws (countsIn l) (l .used) (l .s) (l .states) (l .t) (l .rules) (l .c) (l .contexts) holes head next mix table places reps) (e : isSound (tablesOf ws l) ≡ true)
+module _ (ws : List ℕ) (l : Lists) {index table places reps : List ℕ} (a : Arrays (l .s) (l .states) (l .t) (l .rules) (l .c) (l .contexts))
+    (w : Working ws (countsIn l) (l .used) (l .s) (l .states) (l .t) (l .rules) (l .c) (l .contexts) index table places reps) (e : isSound (tablesOf ws l) ≡ true)
     (z : l .asked ≡ 0) where
   abbrev tested : Tables
   tested = tablesOf ws l

@@ -53,7 +53,7 @@ abbrev Answered : Type 0
 Answered = lts.After-answer-of claims reads.Pre reads.Post
 
 abbrev start : Fitting → Start
-start c = c .before .before .before .before .before .before .before .before .before
+start c = c .before .before .before .before .before .before .before
 
 abbrev fitting : Differs → Fitting
 fitting c = c .before .before
@@ -88,7 +88,7 @@ input-fault-requires : tie.Need-input-fault-requires
 input-fault-requires c κs = search needs
 
 returns : tie.Need-returns
-returns c = let s = c .before .before .before .before .before .before .before .before .before in c .before .input-fault .ensures .given (c .if1 .taken) (s .args .words .now)
+returns c = let s = c .before .before .before .before .before .before .before in c .before .input-fault .ensures .given (c .if1 .taken) (s .args .words .now)
 
 verdict-is-requires : tie.Need-verdict-is-requires
 verdict-is-requires c κs = let s = start c in (s .pre .1, s .pre .2, s .pre .3, tested c)
@@ -104,13 +104,13 @@ cast-letters c = search needs
 
 array-share-prefix-counts : tie.Need-array-share-prefix-counts
 array-share-prefix-counts c =
-    let s : Start = c .before .before .before .before .before .before .before .before .before .before .before .before .before in
+    let s : Start = c .before .before .before .before .before .before .before .before .before .before .before in
     let e : length (s .args .lists .counts) ≡ mostSymbols = search needs in
     omega (arith, listsFit-facts (s .args .lists) (s .pre .1) .letters)
 
 slice-aggregate-known-row : tie.Need-slice-aggregate-known-row
 slice-aggregate-known-row c =
-    let s : Start = c .before .before .before .before .before .before .before .before .before .before .before .before .before .before in
+    let s : Start = c .before .before .before .before .before .before .before .before .before .before .before .before in
     let e : length (s .args .lists .counts) ≡ mostSymbols = search needs in
     sym (length-take-le (s .args .lists .letters) (s .args .lists .counts) (omega (arith, listsFit-facts (s .args .lists) (s .pre .1) .letters)))
 
@@ -122,7 +122,7 @@ known-row-requires c κs =
 
 answer-of-requires : tie.Need-answer-of-requires
 answer-of-requires c κs =
-    let s : Start = c .before .before .before .before .before .before .before .before .before .before .before .before .before .before .before in
+    let s : Start = c .before .before .before .before .before .before .before .before .before .before .before .before .before in
     omega (arith, within s, c .known-row .ensures, s .pre .3 .ready .finding .room)
 
 returns-3 : tie.Need-returns-3

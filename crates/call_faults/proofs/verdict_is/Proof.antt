@@ -37,13 +37,13 @@ cast-letters c = search needs
 
 array-share-prefix-counts : tie.Need-array-share-prefix-counts
 array-share-prefix-counts c =
-    let s : Start = c .before .before .before .before .before .before .before .before .before .before .before in
+    let s : Start = c .before .before .before .before .before .before .before .before .before in
     let e : length (s .args .lists .counts) ≡ mostSymbols = search needs in
     omega (arith, listsFit-facts (s .args .lists) (s .pre .0) .letters)
 
 slice-aggregate-accepts-list : tie.Need-slice-aggregate-accepts-list
 slice-aggregate-accepts-list c =
-    let s : Start = c .before .before .before .before .before .before .before .before .before .before .before .before in
+    let s : Start = c .before .before .before .before .before .before .before .before .before .before in
     let e : length (s .args .lists .counts) ≡ mostSymbols = search needs in
     sym (length-take-le (s .args .lists .letters) (s .args .lists .counts) (omega (arith, listsFit-facts (s .args .lists) (s .pre .0) .letters)))
 
@@ -55,14 +55,14 @@ cast-accepts-list-2 c = search needs
 
 accepts-list-requires : tie.Need-accepts-list-requires
 accepts-list-requires c κs =
-    let s : Start = c .before .before .before .before .before .before .before .before .before .before .before .before .before .before .before .before in
+    let s : Start = c .before .before .before .before .before .before .before .before .before .before .before .before .before .before in
     let q = s .pre .3 in
     let p = recordFault-parses (countsIn (s .args .lists)) (s .args .symbols .now) (q .faultless) in
     (s .pre .2 .ready, offer-ruled (s .args .words .now) (s .args .lists) (arrays s) (s .pre .2) (s .pre .1) (q .idle), p .0, p .2)
 
 returns : tie.Need-returns
 returns c =
-    let s : Start = c .before .before .before .before .before .before .before .before .before .before .before .before .before .before .before .before .before in
+    let s : Start = c .before .before .before .before .before .before .before .before .before .before .before .before .before .before .before in
     let q = s .pre .3 in
     verdict-told (s .args .words .now) (s .args .lists) (arrays s) (s .pre .2) (s .pre .1) (q .idle) (s .args .symbols .now) (s .args .mark) (c .accepts-list .result) (q .mark) (c .accepts-list .ensures)
 

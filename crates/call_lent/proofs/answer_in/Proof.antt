@@ -28,26 +28,36 @@ same-length-3 c = search needs
 same-length-4 : tie.Need-same-length-4
 same-length-4 c = search needs
 
+returns : tie.Need-returns
+returns c =
+    let s = c .before .before .before .before .before .before .before .before .before .before .before .before .before .before .before .before .before .before .before in
+    let z = c .before .before .before .before .before .before .before .before .lists-sound in
+    called-unsound (s .args .words .now) (s .args .lists) (answers (s .args .mark)) (c .refuse .result) (s .pre .0) (s .pre .1) (told-unsound (s .args .words .now) (s .args .lists) (z .result) (z .ensures .0) (c .before .if1 .taken)) (c .refuse .ensures .0) (c .refuse .ensures .1)
+
+refuse-requires-2 : tie.Need-refuse-requires-2
+refuse-requires-2 c κs = search needs
+
 same-length-5 : tie.Need-same-length-5
 same-length-5 c = search needs
 
 same-length-6 : tie.Need-same-length-6
 same-length-6 c = search needs
 
-returns : tie.Need-returns
-returns c =
-    let s = c .before .before .before .before .before .before .before .before .before .before .before .before .before .before .before .before .before .before .before .before .before .before .before .before .before .before .before .before in
-    let z = c .before .before .before .before .before .before .before .before .before .before .before .before .lists-sound in
-    called-unsound (s .args .words .now) (s .args .lists) (answers (s .args .mark)) (c .refuse .result) (s .pre .0) (s .pre .1) (told-unsound (s .args .words .now) (s .args .lists) (z .result) (z .ensures .0) (c .before .if1 .taken)) (c .refuse .ensures .0) (c .refuse .ensures .1)
-
-refuse-requires-2 : tie.Need-refuse-requires-2
-refuse-requires-2 c κs = search needs
-
 same-length-7 : tie.Need-same-length-7
 same-length-7 c = search needs
 
 same-length-8 : tie.Need-same-length-8
 same-length-8 c = search needs
+
+returns-2 : tie.Need-returns-2
+returns-2 c =
+    let s = c .before .before .before .before .before .before .before .before .before .before .before .before .before .before .before .before .before .before .before .before .before in
+    let z = c .before .before .before .before .before .before .before .before .before .before .lists-sound in
+    called-fault (s .args .words .now) (s .args .lists) (answers (s .args .mark)) (c .refuse2 .result) (s .pre .0) (s .pre .1) (told-sound (s .args .words .now) (s .args .lists) (z .result) (z .ensures .0) (c .before .before .before .if1 .left)) 31
+    (unasked-fault (tablesOf (s .args .words .now) (s .args .lists)) (s .args .mark) (c .before .if2 .taken)) (λ e. absurd (omega (arith, e))) (c .refuse2 .ensures .0) (c .refuse2 .ensures .1)
+
+refuse-requires-3 : tie.Need-refuse-requires-3
+refuse-requires-3 c κs = search needs
 
 same-length-9 : tie.Need-same-length-9
 same-length-9 c = search needs
@@ -61,15 +71,19 @@ same-length-11 c = search needs
 same-length-12 : tie.Need-same-length-12
 same-length-12 c = search needs
 
-returns-2 : tie.Need-returns-2
-returns-2 c =
-    let s = c .before .before .before .before .before .before .before .before .before .before .before .before .before .before .before .before .before .before .before .before .before .before .before .before .before .before .before .before .before .before in
-    let z = c .before .before .before .before .before .before .before .before .before .before .before .before .before .before .lists-sound in
-    called-fault (s .args .words .now) (s .args .lists) (answers (s .args .mark)) (c .refuse2 .result) (s .pre .0) (s .pre .1) (told-sound (s .args .words .now) (s .args .lists) (z .result) (z .ensures .0) (c .before .before .before .if1 .left)) 31
-    (unasked-fault (tablesOf (s .args .words .now) (s .args .lists)) (s .args .mark) (c .before .if2 .taken)) (λ e. absurd (omega (arith, e))) (c .refuse2 .ensures .0) (c .refuse2 .ensures .1)
+returns-3 : tie.Need-returns-3
+returns-3 c =
+    let s = c .before .before .before .before .before .before .before .before .before .before .before .before .before .before .before .before .before .before .before .before .before .before in
+    let z = c .before .before .before .before .before .before .before .before .before .before .before .lists-sound in
+    called-fault (s .args .words .now) (s .args .lists) (answers (s .args .mark)) (c .refuse3 .result) (s .pre .0) (s .pre .1) (told-sound (s .args .words .now) (s .args .lists) (z .result) (z .ensures .0) (c .before .before .before .before .if1 .left)) 16
+    (mark-fault (tablesOf (s .args .words .now) (s .args .lists)) (s .args .mark) (c .before .before .if2 .left) (c .before .if3 .taken)) (λ e. absurd (omega (arith, e))) (c .refuse3 .ensures .0) (c .refuse3 .ensures .1)
 
-refuse-requires-3 : tie.Need-refuse-requires-3
-refuse-requires-3 c κs = search needs
+take-answer-requires : tie.Need-take-answer-requires
+take-answer-requires c κs =
+    let s = c .before .before .before .before .before .before .before .before .before .before .before .before .before .before .before .before .before .before .before .before .before .before .before .before .before .before .before in
+    let z = c .before .before .before .before .before .before .before .before .before .before .before .before .before .before .before .before .lists-sound in
+    let d = c .before .before .before .before .before .before .before .before .before .if1 .left in
+    (s .pre .0, s .pre .1, told-sound (s .args .words .now) (s .args .lists) (z .result) (z .ensures .0) d, c .before .before .before .before .before .before .before .if2 .left, c .before .before .before .before .before .before .if3 .left, z .ensures .1 (not-false (z .result) d), s .pre .2, omega (arith, z .kept .1 .1 .1 .0, s .pre .4))
 
 same-length-13 : tie.Need-same-length-13
 same-length-13 c = search needs
@@ -78,51 +92,13 @@ same-length-14 : tie.Need-same-length-14
 same-length-14 c = search needs
 
 same-length-15 : tie.Need-same-length-15
-same-length-15 c = search needs
+same-length-15 c = c .before .before .before .before .before .before .before .before .take-answer .kept .1 .1 .1 .1 .0 ∙ c .before .before .before .before .before .before .before .before .before .before .before .before .before .before .before .before .before .before .before .before .before .before .before .before .before .lists-sound .kept .1 .1 .0
 
 same-length-16 : tie.Need-same-length-16
-same-length-16 c = search needs
+same-length-16 c = c .before .before .before .before .before .before .before .before .take-answer .kept .1 .1 .1 .1 .1 .0 ∙ c .before .before .before .before .before .before .before .before .before .before .before .before .before .before .before .before .before .before .before .before .before .before .before .before .before .lists-sound .kept .1 .1 .1 .0
 
 same-length-17 : tie.Need-same-length-17
 same-length-17 c = search needs
-
-same-length-18 : tie.Need-same-length-18
-same-length-18 c = search needs
-
-returns-3 : tie.Need-returns-3
-returns-3 c =
-    let s = c .before .before .before .before .before .before .before .before .before .before .before .before .before .before .before .before .before .before .before .before .before .before .before .before .before .before .before .before .before .before .before in
-    let z = c .before .before .before .before .before .before .before .before .before .before .before .before .before .before .before .lists-sound in
-    called-fault (s .args .words .now) (s .args .lists) (answers (s .args .mark)) (c .refuse3 .result) (s .pre .0) (s .pre .1) (told-sound (s .args .words .now) (s .args .lists) (z .result) (z .ensures .0) (c .before .before .before .before .if1 .left)) 16
-    (mark-fault (tablesOf (s .args .words .now) (s .args .lists)) (s .args .mark) (c .before .before .if2 .left) (c .before .if3 .taken)) (λ e. absurd (omega (arith, e))) (c .refuse3 .ensures .0) (c .refuse3 .ensures .1)
-
-take-answer-requires : tie.Need-take-answer-requires
-take-answer-requires c κs =
-    let s = c .before .before .before .before .before .before .before .before .before .before .before .before .before .before .before .before .before .before .before .before .before .before .before .before .before .before .before .before .before .before .before .before .before .before .before .before .before .before .before in
-    let z = c .before .before .before .before .before .before .before .before .before .before .before .before .before .before .before .before .before .before .before .before .before .before .before .lists-sound in
-    let d = c .before .before .before .before .before .before .before .before .before .before .before .before .if1 .left in
-    (s .pre .0, s .pre .1, told-sound (s .args .words .now) (s .args .lists) (z .result) (z .ensures .0) d, c .before .before .before .before .before .before .before .before .before .before .if2 .left, c .before .before .before .before .before .before .before .before .before .if3 .left, z .ensures .1 (not-false (z .result) d), s .pre .2, omega (arith, z .kept .1 .1 .1 .1 .1 .1 .0, s .pre .4))
-
-same-length-19 : tie.Need-same-length-19
-same-length-19 c = search needs
-
-same-length-20 : tie.Need-same-length-20
-same-length-20 c = search needs
-
-same-length-21 : tie.Need-same-length-21
-same-length-21 c = c .before .before .before .before .before .before .before .before .before .before .before .before .take-answer .kept .1 .1 .1 .1 .0 ∙ c .before .before .before .before .before .before .before .before .before .before .before .before .before .before .before .before .before .before .before .before .before .before .before .before .before .before .before .before .before .before .before .before .before .before .before .before .lists-sound .kept .1 .1 .0
-
-same-length-22 : tie.Need-same-length-22
-same-length-22 c = c .before .before .before .before .before .before .before .before .before .before .before .before .take-answer .kept .1 .1 .1 .1 .1 .0 ∙ c .before .before .before .before .before .before .before .before .before .before .before .before .before .before .before .before .before .before .before .before .before .before .before .before .before .before .before .before .before .before .before .before .before .before .before .before .lists-sound .kept .1 .1 .1 .0
-
-same-length-23 : tie.Need-same-length-23
-same-length-23 c = c .before .before .before .before .before .before .before .before .before .before .before .before .take-answer .kept .1 .1 .1 .1 .1 .1 .0 ∙ c .before .before .before .before .before .before .before .before .before .before .before .before .before .before .before .before .before .before .before .before .before .before .before .before .before .before .before .before .before .before .before .before .before .before .before .before .lists-sound .kept .1 .1 .1 .1 .0
-
-same-length-24 : tie.Need-same-length-24
-same-length-24 c = c .before .before .before .before .before .before .before .before .before .before .before .before .take-answer .kept .1 .1 .1 .1 .1 .1 .1 .1 .0 ∙ c .before .before .before .before .before .before .before .before .before .before .before .before .before .before .before .before .before .before .before .before .before .before .before .before .before .before .before .before .before .before .before .before .before .before .before .before .lists-sound .kept .1 .1 .1 .1 .1 .1 .0
-
-same-length-25 : tie.Need-same-length-25
-same-length-25 c = c .before .before .before .before .before .before .before .before .before .before .before .before .before .before .before .before .before .before .before .before .before .before .before .before .before .before .before .before .before .before .before .before .before .before .before .before .lists-sound .kept .1 .1 .1 .1 .1 .1 .1 .1 .0
 
 returns-4 : tie.Need-returns-4
 returns-4 c = search needs
@@ -137,31 +113,23 @@ answer-in-spec =
     same-length-2
     same-length-3
     same-length-4
-    same-length-5
-    same-length-6
     returns
     refuse-requires-2
+    same-length-5
+    same-length-6
     same-length-7
     same-length-8
+    returns-2
+    refuse-requires-3
     same-length-9
     same-length-10
     same-length-11
     same-length-12
-    returns-2
-    refuse-requires-3
+    returns-3
+    take-answer-requires
     same-length-13
     same-length-14
     same-length-15
     same-length-16
     same-length-17
-    same-length-18
-    returns-3
-    take-answer-requires
-    same-length-19
-    same-length-20
-    same-length-21
-    same-length-22
-    same-length-23
-    same-length-24
-    same-length-25
     returns-4)

@@ -34,14 +34,14 @@ same-length-4 c = search needs
 same-length-5 : tie.Need-same-length-5
 same-length-5 c = search needs
 
+returns : tie.Need-returns
+returns c = subst (λ (k : Said). CallAs (c .before .before .before .before .before .before .before .before .before .before .before .before .before .before .before .before .before .before .before .before .before .before .before .before .before .before .args .words .now) (c .before .before .before .before .before .before .before .before .before .before .before .before .before .before .before .before .before .before .before .before .before .before .before .before .before .before .args .lists) (callOf k (c .before .before .before .before .before .before .before .before .before .before .before .before .before .before .before .before .before .before .before .before .before .before .before .before .before .before .args .symbols .now)) (c .before .before .before .before .before .before .before .before .before .before .answer-in .result) (c .before .before .before .before .before .before .before .before .before .before .answer-in .last .0)) (sym (c .before .before .before .before .before .before .before .before .before .before .before .before .before .before .before .before .before .before .said .given .1)) (c .before .before .before .before .before .before .before .before .before .before .answer-in .ensures)
+
 same-length-6 : tie.Need-same-length-6
 same-length-6 c = search needs
 
 same-length-7 : tie.Need-same-length-7
 same-length-7 c = search needs
-
-returns : tie.Need-returns
-returns c = subst (λ (k : Said). CallAs (c .before .before .before .before .before .before .before .before .before .before .before .before .before .before .before .before .before .before .before .before .before .before .before .before .before .before .before .before .before .before .before .before .before .before .before .args .words .now) (c .before .before .before .before .before .before .before .before .before .before .before .before .before .before .before .before .before .before .before .before .before .before .before .before .before .before .before .before .before .before .before .before .before .before .before .args .lists) (callOf k (c .before .before .before .before .before .before .before .before .before .before .before .before .before .before .before .before .before .before .before .before .before .before .before .before .before .before .before .before .before .before .before .before .before .before .before .args .symbols .now)) (c .before .before .before .before .before .before .before .before .before .before .before .before .before .before .answer-in .result) (c .before .before .before .before .before .before .before .before .before .before .before .before .before .before .answer-in .last .0)) (sym (c .before .before .before .before .before .before .before .before .before .before .before .before .before .before .before .before .before .before .before .before .before .before .before .before .before .said .given .1)) (c .before .before .before .before .before .before .before .before .before .before .before .before .before .before .answer-in .ensures)
 
 same-length-8 : tie.Need-same-length-8
 same-length-8 c = search needs
@@ -52,20 +52,8 @@ same-length-9 c = search needs
 same-length-10 : tie.Need-same-length-10
 same-length-10 c = search needs
 
-same-length-11 : tie.Need-same-length-11
-same-length-11 c = search needs
-
-same-length-12 : tie.Need-same-length-12
-same-length-12 c = search needs
-
-same-length-13 : tie.Need-same-length-13
-same-length-13 c = search needs
-
-same-length-14 : tie.Need-same-length-14
-same-length-14 c = search needs
-
 returns-2 : tie.Need-returns-2
-returns-2 c = subst (λ (k : Said). CallAs (c .before .before .before .before .before .before .before .before .before .before .before .before .before .before .before .before .before .before .before .before .before .before .before .before .before .before .before .before .before .before .before .before .before .before .before .args .words .now) (c .before .before .before .before .before .before .before .before .before .before .before .before .before .before .before .before .before .before .before .before .before .before .before .before .before .before .before .before .before .before .before .before .before .before .before .args .lists) (callOf k (c .before .before .before .before .before .before .before .before .before .before .before .before .before .before .before .before .before .before .before .before .before .before .before .before .before .before .before .before .before .before .before .before .before .before .before .args .symbols .now)) (c .before .before .before .before .before .before .before .before .before .before .before .before .before .before .offer-in .result) (c .before .before .before .before .before .before .before .before .before .before .before .before .before .before .offer-in .last .0)) (sym (c .before .before .before .before .before .before .before .before .before .before .before .before .before .before .before .before .before .before .before .before .before .before .before .before .before .said2 .given .1)) (c .before .before .before .before .before .before .before .before .before .before .before .before .before .before .offer-in .ensures)
+returns-2 c = subst (λ (k : Said). CallAs (c .before .before .before .before .before .before .before .before .before .before .before .before .before .before .before .before .before .before .before .before .before .before .before .before .before .before .args .words .now) (c .before .before .before .before .before .before .before .before .before .before .before .before .before .before .before .before .before .before .before .before .before .before .before .before .before .before .args .lists) (callOf k (c .before .before .before .before .before .before .before .before .before .before .before .before .before .before .before .before .before .before .before .before .before .before .before .before .before .before .args .symbols .now)) (c .before .before .before .before .before .before .before .before .before .before .offer-in .result) (c .before .before .before .before .before .before .before .before .before .before .offer-in .last .0)) (sym (c .before .before .before .before .before .before .before .before .before .before .before .before .before .before .before .before .before .before .said2 .given .1)) (c .before .before .before .before .before .before .before .before .before .before .offer-in .ensures)
 
 pub call-in-spec : {M : Type 1} → statement M
 call-in-spec =
@@ -80,14 +68,10 @@ call-in-spec =
     same-length-3
     same-length-4
     same-length-5
+    returns
     same-length-6
     same-length-7
-    returns
     same-length-8
     same-length-9
     same-length-10
-    same-length-11
-    same-length-12
-    same-length-13
-    same-length-14
     returns-2)

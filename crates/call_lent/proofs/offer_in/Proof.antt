@@ -26,80 +26,62 @@ same-length-3 c = search needs
 same-length-4 : tie.Need-same-length-4
 same-length-4 c = search needs
 
-same-length-5 : tie.Need-same-length-5
-same-length-5 c = search needs
-
-same-length-6 : tie.Need-same-length-6
-same-length-6 c = search needs
-
 returns : tie.Need-returns
 returns c =
-    let s = c .before .before .before .before .before .before .before .before .before .before .before .before .before .before .before .before .before .before .before .before .before .before .before .before .before .before .before .before .before in
+    let s = c .before .before .before .before .before .before .before .before .before .before .before .before .before .before .before .before .before .before .before .before in
     called-unsound (s .args .words .now) (s .args .lists) (offers (s .args .symbols .now) (s .args .mark)) (c .refuse .result) (s .pre .0) (s .pre .1)
-    (sym (c .before .before .before .before .before .before .before .before .before .before .before .before .lists-sound .ensures .0) ∙ not-true (c .before .before .before .before .before .before .before .before .before .before .before .before .lists-sound .result) (c .before .if1 .taken)) (c .refuse .ensures .0) (c .refuse .ensures .1)
+    (sym (c .before .before .before .before .before .before .before .before .lists-sound .ensures .0) ∙ not-true (c .before .before .before .before .before .before .before .before .lists-sound .result) (c .before .if1 .taken)) (c .refuse .ensures .0) (c .refuse .ensures .1)
 
 fault-of-requires : tie.Need-fault-of-requires
 fault-of-requires c κs =
-    let s = c .before .before .before .before .before .before .before .before .before .before .before .before .before .before .before .before .before .before .before .before .before .before .before .before .before .before .before .before .before .before .before .before .before .before .before .before in
-    let w = c .before .before .before .before .before .before .before .before .before .before .before .before .before .before .before .before .before .before .before .lists-sound in
-    let t = not-false (w .result) (c .before .before .before .before .before .before .before .before .if1 .left) in
+    let s = c .before .before .before .before .before .before .before .before .before .before .before .before .before .before .before .before .before .before .before .before .before .before .before .before in
+    let w = c .before .before .before .before .before .before .before .before .before .before .before .before .lists-sound in
+    let t = not-false (w .result) (c .before .before .before .before .before .if1 .left) in
     (s .pre .0, s .pre .1, sym (w .ensures .0) ∙ t, w .ensures .1 t)
 
 refuse-requires-2 : tie.Need-refuse-requires-2
 refuse-requires-2 c κs = search needs
 
+same-length-5 : tie.Need-same-length-5
+same-length-5 c = search needs
+
+same-length-6 : tie.Need-same-length-6
+same-length-6 c = c .before .before .before .before .before .before .before .before .before .before .before .before .before .before .before .lists-sound .kept .1 .1 .0
+
 same-length-7 : tie.Need-same-length-7
 same-length-7 c = search needs
 
 same-length-8 : tie.Need-same-length-8
-same-length-8 c = c .before .before .before .before .before .before .before .before .before .before .before .before .before .before .before .before .before .before .before .before .before .before .lists-sound .kept .1 .1 .0
-
-same-length-9 : tie.Need-same-length-9
-same-length-9 c = c .before .before .before .before .before .before .before .before .before .before .before .before .before .before .before .before .before .before .before .before .before .before .lists-sound .kept .1 .1 .1 .0
-
-same-length-10 : tie.Need-same-length-10
-same-length-10 c = c .before .before .before .before .before .before .before .before .before .before .before .before .before .before .before .before .before .before .before .before .before .before .lists-sound .kept .1 .1 .1 .1 .0
-
-same-length-11 : tie.Need-same-length-11
-same-length-11 c = search needs
-
-same-length-12 : tie.Need-same-length-12
-same-length-12 c = search needs
+same-length-8 c = search needs
 
 returns-2 : tie.Need-returns-2
 returns-2 c =
-    let s = c .before .before .before .before .before .before .before .before .before .before .before .before .before .before .before .before .before .before .before .before .before .before .before .before .before .before .before .before .before .before .before .before .before .before .before .before .before .before .before in
-    let w = c .before .before .before .before .before .before .before .before .before .before .before .before .before .before .before .before .before .before .before .before .before .before .lists-sound in
+    let s = c .before .before .before .before .before .before .before .before .before .before .before .before .before .before .before .before .before .before .before .before .before .before .before .before .before .before .before in
+    let w = c .before .before .before .before .before .before .before .before .before .before .before .before .before .before .before .lists-sound in
     called-fault (s .args .words .now) (s .args .lists) (offers (s .args .symbols .now) (s .args .mark)) (c .refuse2 .result) (s .pre .0) (s .pre .1)
-    (sym (w .ensures .0) ∙ not-false (w .result) (c .before .before .before .before .before .before .before .before .before .before .before .if1 .left)) (c .before .before .fault-of .result) (sym (c .before .before .fault-of .ensures)) (c .before .if2 .taken) (c .refuse2 .ensures .0) (c .refuse2 .ensures .1)
+    (sym (w .ensures .0) ∙ not-false (w .result) (c .before .before .before .before .before .before .before .before .if1 .left)) (c .before .before .fault-of .result) (sym (c .before .before .fault-of .ensures)) (c .before .if2 .taken) (c .refuse2 .ensures .0) (c .refuse2 .ensures .1)
 
 take-offer-requires : tie.Need-take-offer-requires
 take-offer-requires c κs =
-    let s = c .before .before .before .before .before .before .before .before .before .before .before .before .before .before .before .before .before .before .before .before .before .before .before .before .before .before .before .before .before .before .before .before .before .before .before .before .before .before .before .before .before .before .before .before .before .before .before in
-    let w = c .before .before .before .before .before .before .before .before .before .before .before .before .before .before .before .before .before .before .before .before .before .before .before .before .before .before .before .before .before .before .lists-sound in
-    let t = not-false (w .result) (c .before .before .before .before .before .before .before .before .before .before .before .before .before .before .before .before .before .before .before .if1 .left) in
-    (s .pre .0, s .pre .1, sym (w .ensures .0) ∙ t, sym (c .before .before .before .before .before .before .before .before .before .before .fault-of .ensures) ∙ c .before .before .before .before .before .before .before .before .before .if2 .left, w .ensures .1 t, s .pre .2, omega (arith, w .kept .1 .1 .1 .1 .1 .1 .0, s .pre .4))
+    let s = c .before .before .before .before .before .before .before .before .before .before .before .before .before .before .before .before .before .before .before .before .before .before .before .before .before .before .before .before .before .before .before .before in
+    let w = c .before .before .before .before .before .before .before .before .before .before .before .before .before .before .before .before .before .before .before .before .lists-sound in
+    let t = not-false (w .result) (c .before .before .before .before .before .before .before .before .before .before .before .before .before .if1 .left) in
+    (s .pre .0, s .pre .1, sym (w .ensures .0) ∙ t, sym (c .before .before .before .before .before .before .before .fault-of .ensures) ∙ c .before .before .before .before .before .before .if2 .left, w .ensures .1 t, s .pre .2, omega (arith, w .kept .1 .1 .1 .0, s .pre .4))
+
+same-length-9 : tie.Need-same-length-9
+same-length-9 c = search needs
+
+same-length-10 : tie.Need-same-length-10
+same-length-10 c = search needs
+
+same-length-11 : tie.Need-same-length-11
+same-length-11 c = c .before .before .before .before .before .before .before .before .take-offer .kept .1 .1 .1 .1 .1 .0 ∙ c .before .before .before .before .before .before .before .before .before .before .before .before .before .before .before .before .before .before .before .before .before .before .before .before .before .before .before .before .before .lists-sound .kept .1 .1 .0
+
+same-length-12 : tie.Need-same-length-12
+same-length-12 c = c .before .before .before .before .before .before .before .before .take-offer .kept .1 .1 .1 .1 .1 .1 .0 ∙ c .before .before .before .before .before .before .before .before .before .before .before .before .before .before .before .before .before .before .before .before .before .before .before .before .before .before .before .before .before .lists-sound .kept .1 .1 .1 .0
 
 same-length-13 : tie.Need-same-length-13
-same-length-13 c = search needs
-
-same-length-14 : tie.Need-same-length-14
-same-length-14 c = search needs
-
-same-length-15 : tie.Need-same-length-15
-same-length-15 c = c .before .before .before .before .before .before .before .before .before .before .before .before .take-offer .kept .1 .1 .1 .1 .1 .0 ∙ c .before .before .before .before .before .before .before .before .before .before .before .before .before .before .before .before .before .before .before .before .before .before .before .before .before .before .before .before .before .before .before .before .before .before .before .before .before .before .before .before .before .before .before .lists-sound .kept .1 .1 .0
-
-same-length-16 : tie.Need-same-length-16
-same-length-16 c = c .before .before .before .before .before .before .before .before .before .before .before .before .take-offer .kept .1 .1 .1 .1 .1 .1 .0 ∙ c .before .before .before .before .before .before .before .before .before .before .before .before .before .before .before .before .before .before .before .before .before .before .before .before .before .before .before .before .before .before .before .before .before .before .before .before .before .before .before .before .before .before .before .lists-sound .kept .1 .1 .1 .0
-
-same-length-17 : tie.Need-same-length-17
-same-length-17 c = c .before .before .before .before .before .before .before .before .before .before .before .before .take-offer .kept .1 .1 .1 .1 .1 .1 .1 .0 ∙ c .before .before .before .before .before .before .before .before .before .before .before .before .before .before .before .before .before .before .before .before .before .before .before .before .before .before .before .before .before .before .before .before .before .before .before .before .before .before .before .before .before .before .before .lists-sound .kept .1 .1 .1 .1 .0
-
-same-length-18 : tie.Need-same-length-18
-same-length-18 c = c .before .before .before .before .before .before .before .before .before .before .before .before .take-offer .kept .1 .1 .1 .1 .1 .1 .1 .1 .1 .0 ∙ c .before .before .before .before .before .before .before .before .before .before .before .before .before .before .before .before .before .before .before .before .before .before .before .before .before .before .before .before .before .before .before .before .before .before .before .before .before .before .before .before .before .before .before .lists-sound .kept .1 .1 .1 .1 .1 .1 .0
-
-same-length-19 : tie.Need-same-length-19
-same-length-19 c = c .before .before .before .before .before .before .before .before .before .before .before .before .before .before .before .before .before .before .before .before .before .before .before .before .before .before .before .before .before .before .before .before .before .before .before .before .before .before .before .before .before .before .before .lists-sound .kept .1 .1 .1 .1 .1 .1 .1 .1 .0
+same-length-13 c = c .before .before .before .before .before .before .before .before .before .before .before .before .before .before .before .before .before .before .before .before .before .before .before .before .before .before .before .before .before .lists-sound .kept .1 .1 .1 .1 .1 .0
 
 returns-3 : tie.Need-returns-3
 returns-3 c = search needs
@@ -114,24 +96,18 @@ offer-in-spec =
     same-length-2
     same-length-3
     same-length-4
-    same-length-5
-    same-length-6
     returns
     fault-of-requires
     refuse-requires-2
+    same-length-5
+    same-length-6
     same-length-7
     same-length-8
+    returns-2
+    take-offer-requires
     same-length-9
     same-length-10
     same-length-11
     same-length-12
-    returns-2
-    take-offer-requires
     same-length-13
-    same-length-14
-    same-length-15
-    same-length-16
-    same-length-17
-    same-length-18
-    same-length-19
     returns-3)

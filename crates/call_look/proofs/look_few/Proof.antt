@@ -18,24 +18,18 @@ slice-aggregate-lists-sound-2 c = search needs
 slice-aggregate-lists-sound-3 : tie.Need-slice-aggregate-lists-sound-3
 slice-aggregate-lists-sound-3 c = search needs
 
-slice-aggregate-lists-sound-4 : tie.Need-slice-aggregate-lists-sound-4
-slice-aggregate-lists-sound-4 c = search needs
-
-slice-aggregate-lists-sound-5 : tie.Need-slice-aggregate-lists-sound-5
-slice-aggregate-lists-sound-5 c = search needs
-
 lists-sound-requires : tie.Need-lists-sound-requires
 lists-sound-requires c κs =
-    let s = c .before .before .before .before .before .before .before .before in
-    (s .pre .0, s .pre .1, room-for smallRows (s .pre .2) refl (omega arith) (omega arith) refl refl (omega (arith, s .pre .3)) refl refl)
+    let s = c .before .before .before .before .before in
+    (s .pre .0, s .pre .1, room-for smallRows (s .pre .2) (omega arith) (omega arith) refl (omega (arith, s .pre .3)) refl refl)
 
 refusal-requires : tie.Need-refusal-requires
 refusal-requires c κs = search needs
 
 returns : tie.Need-returns
 returns c =
-    let s = c .before .before .before .before .before .before .before .before .before .before .before .before .before .before .before .before in
-    let z = c .before .before .before .before .before .before .before .lists-sound in
+    let s = c .before .before .before .before .before .before .before .before .before .before .before in
+    let z = c .before .before .before .before .before .lists-sound in
     c .refusal .ensures ∙ unsound-refused (s .args .words .now) (s .args .lists) (s .pre .0) (s .pre .1) (sym (z .ensures .0) ∙ not-true (z .result) (c .before .if1 .taken))
 
 told-requires : tie.Need-told-requires
@@ -43,8 +37,8 @@ told-requires c κs = search needs
 
 returns-2 : tie.Need-returns-2
 returns-2 c =
-    let s = c .before .before .before .before .before .before .before .before .before .before .before .before .before .before .before .before in
-    let z = c .before .before .before .before .before .before .before .lists-sound in
+    let s = c .before .before .before .before .before .before .before .before .before .before .before in
+    let z = c .before .before .before .before .before .lists-sound in
     c .told .ensures ∙ looked (s .args .words .now) (s .args .lists) (s .pre .0) (s .pre .1) (sym (z .ensures .0) ∙ not-false (z .result) (c .before .if1 .left))
 
 pub look-few-spec : {M : Type 1} → statement M
@@ -54,8 +48,6 @@ look-few-spec =
     slice-aggregate-lists-sound
     slice-aggregate-lists-sound-2
     slice-aggregate-lists-sound-3
-    slice-aggregate-lists-sound-4
-    slice-aggregate-lists-sound-5
     lists-sound-requires
     refusal-requires
     returns

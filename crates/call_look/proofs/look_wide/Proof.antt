@@ -19,25 +19,19 @@ slice-aggregate-lists-sound-2 c = search needs
 slice-aggregate-lists-sound-3 : tie.Need-slice-aggregate-lists-sound-3
 slice-aggregate-lists-sound-3 c = search needs
 
-slice-aggregate-lists-sound-4 : tie.Need-slice-aggregate-lists-sound-4
-slice-aggregate-lists-sound-4 c = search needs
-
-slice-aggregate-lists-sound-5 : tie.Need-slice-aggregate-lists-sound-5
-slice-aggregate-lists-sound-5 c = search needs
-
 lists-sound-requires : tie.Need-lists-sound-requires
 lists-sound-requires c κs =
-    let s = c .before .before .before .before .before .before .before .before in
+    let s = c .before .before .before .before .before in
     let f = listsFit-facts (s .args .lists) (s .pre .1) in
-    (s .pre .0, s .pre .1, room-for mostRows (words-few (s .args .words .now) (s .pre .0)) refl (omega arith) (omega arith) refl refl (omega (arith, f .rules)) refl refl)
+    (s .pre .0, s .pre .1, room-for mostRows (words-few (s .args .words .now) (s .pre .0)) (omega arith) (omega arith) refl (omega (arith, f .rules)) refl refl)
 
 refusal-requires : tie.Need-refusal-requires
 refusal-requires c κs = search needs
 
 returns : tie.Need-returns
 returns c =
-    let s = c .before .before .before .before .before .before .before .before .before .before .before .before .before .before .before .before in
-    let z = c .before .before .before .before .before .before .before .lists-sound in
+    let s = c .before .before .before .before .before .before .before .before .before .before .before in
+    let z = c .before .before .before .before .before .lists-sound in
     c .refusal .ensures ∙ unsound-refused (s .args .words .now) (s .args .lists) (s .pre .0) (s .pre .1) (sym (z .ensures .0) ∙ not-true (z .result) (c .before .if1 .taken))
 
 told-requires : tie.Need-told-requires
@@ -45,8 +39,8 @@ told-requires c κs = search needs
 
 returns-2 : tie.Need-returns-2
 returns-2 c =
-    let s = c .before .before .before .before .before .before .before .before .before .before .before .before .before .before .before .before in
-    let z = c .before .before .before .before .before .before .before .lists-sound in
+    let s = c .before .before .before .before .before .before .before .before .before .before .before in
+    let z = c .before .before .before .before .before .lists-sound in
     c .told .ensures ∙ looked (s .args .words .now) (s .args .lists) (s .pre .0) (s .pre .1) (sym (z .ensures .0) ∙ not-false (z .result) (c .before .if1 .left))
 
 pub look-wide-spec : {M : Type 1} → statement M
@@ -56,8 +50,6 @@ look-wide-spec =
     slice-aggregate-lists-sound
     slice-aggregate-lists-sound-2
     slice-aggregate-lists-sound-3
-    slice-aggregate-lists-sound-4
-    slice-aggregate-lists-sound-5
     lists-sound-requires
     refusal-requires
     returns

@@ -164,17 +164,17 @@ module _ (ws : List ℕ) (l : Lists) (m : ℕ) (fit : listsFit l ≡ true) (soun
       go (inl h) = omega (arith, h, c-long)
       go (inr h) = let d = sound-facts X sound .nearly .tidy in omega (arith, h, c-long, d .few-s, d .few-t)
 
-  module _ {holes head next mix table places reps : List ℕ} (arrays : InArrays l)
-      (w : Working ws (countsIn l) (l .used) (l .s) (l .states) (l .t) (l .rules) (l .c) (l .contexts) holes head next mix table places reps) where
+  module _ {index table places reps : List ℕ} (arrays : InArrays l)
+      (w : Working ws (countsIn l) (l .used) (l .s) (l .states) (l .t) (l .rules) (l .c) (l .contexts) index table places reps) where
     its-reps : Whole X → RepsOf (answersOf (X .store) (X .answers) (X .c)) (X .s) (X .t) reps
     its-reps k =
         reps-tied (w .observed) (l .s) (l .states) places (w .placed) (arrays .states) (omega (arith, w .placing .long, w .placing .few)) (arrays .rules)
         (w .reps-by (missing-tied (w .observed) (arrays .rules) ∙ known-back X (k .known)))
 
-    pub stepping-answered : (vs : List ℕ) (g : Lists) → vs ≡ withAnswer ws (l .asked) (m + 1) → g ≡ closed l → Stepping vs g holes head next mix
-    stepping-answered vs g e f = subst (λ (us : List ℕ). Stepping us g holes head next mix) (sym e) (subst (λ (k : Lists). Stepping (withAnswer ws (l .asked) (m + 1)) k holes head next mix) (sym f) at)
+    pub stepping-answered : (vs : List ℕ) (g : Lists) → vs ≡ withAnswer ws (l .asked) (m + 1) → g ≡ closed l → Stepping vs g index
+    stepping-answered vs g e f = subst (λ (us : List ℕ). Stepping us g index) (sym e) (subst (λ (k : Lists). Stepping (withAnswer ws (l .asked) (m + 1)) k index) (sym f) at)
       where
-        at : Stepping (withAnswer ws (l .asked) (m + 1)) (closed l) holes head next mix
+        at : Stepping (withAnswer ws (l .asked) (m + 1)) (closed l) index
         at =
             record {
               ready = ready-answered ws (countsIn l) (l .used) (l .asked) (m + 1) asked-used (sound-within ws l sound) (w .ready);

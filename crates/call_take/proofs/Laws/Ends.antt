@@ -15,7 +15,7 @@ use Rattle.model.specs.Entry.{listsOf}
 use Rattle.model.specs.declared.Lists.{Lists}
 use Rattle.bank.specs.Rows.{answerIn, withAnswer}
 use Rattle.bank.specs.Ready.{Kept}
-use Rattle.bank.proofs.Laws.Chains.{by-equal}
+use Rattle.bank.proofs.Laws.Trees.{by-equal}
 use Rattle.bank.proofs.Laws.Words.{word-kept}
 use Rattle.bank_undo.specs.Left.{Left}
 use Rattle.step_end.specs.declared.finish.Stepped.{Stepped}

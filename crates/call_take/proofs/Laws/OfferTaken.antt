@@ -22,7 +22,7 @@ use Rattle.model.proofs.Laws.Settle.{blank-is}
 use Rattle.model.proofs.Laws.Step.{Offering, StepOk, by-hand, held-advance, mark-some, mark-small}
 use Rattle.model.proofs.Laws.Turn.{answers-same}
 use Rattle.model.proofs.Laws.Unchanged.{full-of, stored-whole}
-use Rattle.bank.proofs.Laws.Chains.{by-equal}
+use Rattle.bank.proofs.Laws.Trees.{by-equal}
 use Rattle.table_verdict.proofs.Laws.Tied.{RepsOf}
 use Rattle.step_search.specs.Spots.{Handling}
 

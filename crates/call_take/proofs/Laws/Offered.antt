@@ -52,25 +52,25 @@ use Rattle.call_take.proofs.Laws.OfferTaken.{taken-whole, taken-fits, t
 use Rattle.call_take.proofs.Laws.Ends.{Ends, ends-short, EndsLeft, ends-left, kept-back}
 
 -- WHAT IS GIVEN: sound tables in lists that fit, what the soundness test worked out, an offer that no line refuses
-pub record Given (ws : List ℕ) (l : Lists) (xs : List ℕ) (m : ℕ) (holes head next mix table places reps : List ℕ) : Type 0 where
+pub record Given (ws : List ℕ) (l : Lists) (xs : List ℕ) (m : ℕ) (index table places reps : List ℕ) : Type 0 where
   pub size : sizeFits ws ≡ true
   pub fit : listsFit l ≡ true
   pub sound : isSound (tablesOf ws l) ≡ true
   pub free : offerFault (tablesOf ws l) xs m ≡ 0
-  pub working : Working ws (countsIn l) (l .used) (l .s) (l .states) (l .t) (l .rules) (l .c) (l .contexts) holes head next mix table places reps
+  pub working : Working ws (countsIn l) (l .used) (l .s) (l .states) (l .t) (l .rules) (l .c) (l .contexts) index table places reps
   pub counts-long : length (l .counts) ≡ mostSymbols
   pub arrays : Arrays (l .s) (l .states) (l .t) (l .rules) (l .c) (l .contexts)
 
 -- THE RECORD STORED as row j of the v rows then used
-pub record StoredAt (ws ns : List ℕ) (u : ℕ) (xs : List ℕ) (j v : ℕ) (us hs he ne mx : List ℕ) : Type 0 where
+pub record StoredAt (ws ns : List ℕ) (u : ℕ) (xs : List ℕ) (j v : ℕ) (us ix : List ℕ) : Type 0 where
   pub y : Store
   pub is : storeFrom (storeOf ws ns u) xs [] ≡ built j y
   pub ext : Extends (storeOf ws ns u) y
   pub good : Good y
   pub row : IsRecord y j
-  pub stands : Stage ws ns u j y v us hs he ne mx
+  pub stands : Stage ws ns u j y v us ix
 
-module _ {ws : List ℕ} {l : Lists} {xs : List ℕ} {m : ℕ} {holes head next mix table places reps : List ℕ} (t : Given ws l xs m holes head next mix table places reps) where
+module _ {ws : List ℕ} {l : Lists} {xs : List ℕ} {m : ℕ} {index table places reps : List ℕ} (t : Given ws l xs m index table places reps) where
   abbrev X : Tables
   X = tablesOf ws l
 
@@ -93,34 +93,34 @@ module _ {ws : List ℕ} {l : Lists} {xs : List ℕ} {m : ℕ} {holes head next 
   rows-held = t .working .ready .finding .room
 
   -- ROWS RAN OUT
-  pub offer-full : {us hs he ne : List ℕ} → Comes ws (countsIn l) (l .used) (storeFrom (storeOf ws (countsIn l) (l .used)) xs []) Grown.Full us hs he ne mix →
+  pub offer-full : {us ix : List ℕ} → Comes ws (countsIn l) (l .used) (storeFrom (storeOf ws (countsIn l) (l .used)) xs []) Grown.Full us ix →
       (endOf (offered X xs m) ≡ refuses 34) × Kept ws (l .used) us
-  offer-full {us} {hs} {he} {ne} = go (storeFrom (storeOf ws (countsIn l) (l .used)) xs [])
+  offer-full {us} {ix} = go (storeFrom (storeOf ws (countsIn l) (l .used)) xs [])
     where
-      go : (b : Built) → Comes ws (countsIn l) (l .used) b Grown.Full us hs he ne mix → (endOf (takenBy X m b) ≡ refuses 34) × Kept ws (l .used) us
+      go : (b : Built) → Comes ws (countsIn l) (l .used) b Grown.Full us ix → (endOf (takenBy X m b) ≡ refuses 34) × Kept ws (l .used) us
       go full d = (refl, d .came .1)
       go (built i y) d = absurd (let e = d .came .0 in let z : _≡_ {A = ℕ} 0 1 = cc in omega arith)
 
-  pub full-size : {us hs he ne : List ℕ} → Comes ws (countsIn l) (l .used) (storeFrom (storeOf ws (countsIn l) (l .used)) xs []) Grown.Full us hs he ne mix → length us ≡ length ws
+  pub full-size : {us ix : List ℕ} → Comes ws (countsIn l) (l .used) (storeFrom (storeOf ws (countsIn l) (l .used)) xs []) Grown.Full us ix → length us ≡ length ws
   full-size d = offer-full d .1 .same-size
 
-  pub full-held : {us hs he ne : List ℕ} → Comes ws (countsIn l) (l .used) (storeFrom (storeOf ws (countsIn l) (l .used)) xs []) Grown.Full us hs he ne mix → rowWidth * l .used ≤ length us
+  pub full-held : {us ix : List ℕ} → Comes ws (countsIn l) (l .used) (storeFrom (storeOf ws (countsIn l) (l .used)) xs []) Grown.Full us ix → rowWidth * l .used ≤ length us
   full-held d = omega (arith, rows-held, offer-full d .1 .same-size)
 
-  pub full-called : {us hs he ne vs after : List ℕ} {r : Done} → Comes ws (countsIn l) (l .used) (storeFrom (storeOf ws (countsIn l) (l .used)) xs []) Grown.Full us hs he ne mix →
+  pub full-called : {us ix vs after : List ℕ} {r : Done} → Comes ws (countsIn l) (l .used) (storeFrom (storeOf ws (countsIn l) (l .used)) xs []) Grown.Full us ix →
       Saved ws (l .used) vs → PutBack us (l .used) vs after → r .seen ≡ refused 34 → r .lists ≡ l → CallAs ws l (offers xs m) r after
-  full-called {us} {hs} {he} {ne} {vs} {after} {r} d s p a b =
+  full-called {us} {ix} {vs} {after} {r} d s p a b =
       let k = offer-full d in
       subst (λ (zs : List ℕ). CallAs ws l (offers xs m) r zs) (sym (undone ws (l .used) vs us after s (k .1) p))
       (called-short ws l (offers xs m) r (t .size) (t .fit) (t .sound) (t .free) 34 (k .0) a b)
 
   -- STORED
-  pub offer-stored : {j v : ℕ} {us hs he ne : List ℕ} → Comes ws (countsIn l) (l .used) (storeFrom (storeOf ws (countsIn l) (l .used)) xs []) (grownRow j v) us hs he ne mix →
-      StoredAt ws (countsIn l) (l .used) xs j v us hs he ne mix
-  offer-stored {j} {v} {us} {hs} {he} {ne} d = go (storeFrom (storeOf ws (countsIn l) (l .used)) xs []) refl d
+  pub offer-stored : {j v : ℕ} {us ix : List ℕ} → Comes ws (countsIn l) (l .used) (storeFrom (storeOf ws (countsIn l) (l .used)) xs []) (grownRow j v) us ix →
+      StoredAt ws (countsIn l) (l .used) xs j v us ix
+  offer-stored {j} {v} {us} {ix} d = go (storeFrom (storeOf ws (countsIn l) (l .used)) xs []) refl d
     where
-      go : (b : Built) → storeFrom (storeOf ws (countsIn l) (l .used)) xs [] ≡ b → Comes ws (countsIn l) (l .used) b (grownRow j v) us hs he ne mix →
-          StoredAt ws (countsIn l) (l .used) xs j v us hs he ne mix
+      go : (b : Built) → storeFrom (storeOf ws (countsIn l) (l .used)) xs [] ≡ b → Comes ws (countsIn l) (l .used) b (grownRow j v) us ix →
+          StoredAt ws (countsIn l) (l .used) xs j v us ix
       go full e c = absurd (not-full c)
       go (built k y) e c =
           let put = stored xs (storeOf ws (countsIn l) (l .used)) (t .working .ready .good) 0 [] each-nil refl (brought .parsed) k y e in
@@ -128,7 +128,7 @@ module _ {ws : List ℕ} {l : Lists} {xs : List ℕ} {m : ℕ} {holes head next 
           let p = sym (s .0) in
           record { y = y; is = e ∙ ap (λ (i : ℕ). built i y) p; ext = put .ext; good = put .good; row = subst (IsRecord y) p (put .is-record); stands = s .1 }
 
-  module _ {j v : ℕ} {us hs he ne : List ℕ} (q : StoredAt ws (countsIn l) (l .used) xs j v us hs he ne mix) where
+  module _ {j v : ℕ} {us ix : List ℕ} (q : StoredAt ws (countsIn l) (l .used) xs j v us ix) where
     abbrev y : Store
     y = q .y
 
@@ -177,11 +177,11 @@ module _ {ws : List ℕ} {l : Lists} {xs : List ℕ} {m : ℕ} {holes head next 
         let w = listsFit-facts l (t .fit) in
         let a : l .letters ≡ length (y .counts) = sym f-letters ∙ ap length (sym (q .ext .counts)) in
         let b : l .counts ≡ over (y .counts) (l .counts) = sym (over-take (l .letters) (l .counts) (omega (arith, t .counts-long, w .letters))) ∙ ap (λ (ns : List ℕ). over ns (l .counts)) (sym (q .ext .counts)) in
-        let hs : l .states ≤ length (l .s) = omega (arith, t .arrays .s-long, w .states) in
+        let ix : l .states ≤ length (l .s) = omega (arith, t .arrays .s-long, w .states) in
         let ht : l .rules ≤ length (l .t) = omega (arith, t .arrays .t-long, w .rules) in
         let hc : l .contexts ≤ length (l .c) = omega (arith, t .arrays .c-long, w .contexts) in
-        let c = sym (length-take-le (l .states) (l .s) hs) in
-        let d = sym (over-take (l .states) (l .s) hs) in
+        let c = sym (length-take-le (l .states) (l .s) ix) in
+        let d = sym (over-take (l .states) (l .s) ix) in
         let e = sym (length-take-le (l .rules) (l .t) ht) in
         let f = sym (over-take (l .rules) (l .t) ht) in
         let g = sym (length-take-le (l .contexts) (l .c) hc) in
@@ -208,18 +208,18 @@ module _ {ws : List ℕ} {l : Lists} {xs : List ℕ} {m : ℕ} {holes head next 
       whole-now : Whole Z
       whole-now = taken-whole X whole xs m brought j y (q .is)
 
-      ready-now : Ready us' (countsIn l') (l' .used) hs he ne mix
+      ready-now : Ready us' (countsIn l') (l' .used) ix
       ready-now =
-          let a : Ready (withAnswer us j (m + 1)) (countsIn l) v hs he ne mix = ready-answered us (countsIn l) v j (m + 1) j-within v-room (q .stands .ready) in
-          let b : Ready us' (countsIn l) v hs he ne mix = subst (λ (zs : List ℕ). Ready zs (countsIn l) v hs he ne mix) (sym set-to) a in
-          subst (λ (k : Lists). Ready us' (countsIn k) (k .used) hs he ne mix) (sym up) b
+          let a : Ready (withAnswer us j (m + 1)) (countsIn l) v ix = ready-answered us (countsIn l) v j (m + 1) j-within v-room (q .stands .ready) in
+          let b : Ready us' (countsIn l) v ix = subst (λ (zs : List ℕ). Ready zs (countsIn l) v ix) (sym set-to) a in
+          subst (λ (k : Lists). Ready us' (countsIn k) (k .used) ix) (sym up) b
 
       fit-now : listsFit l' ≡ true
       fit-now =
           let w = listsFit-facts l (t .fit) in
           ap listsFit up ∙ listsFit-true (takenUp l j v) (record { letters = w .letters; states = w .states; rules = w .rules; contexts = w .contexts; accepted = omega arith })
 
-      pub offer-stepping : Stepping us' l' hs he ne mix
+      pub offer-stepping : Stepping us' l' ix
       offer-stepping = record { ready = ready-now; orderly = subst Orderly (sym back) (core-orderly Z (whole-now .core)); fit = fit-now }
 
       few-contexts : (length (X .c) ≤ 1) ⊎ (length (X .c) ≤ size X) → l .contexts < mostContexts

@@ -20,7 +20,7 @@ add-set-answer c = search needs
 
 set-answer-requires : tie.Need-set-answer-requires
 set-answer-requires c κs =
-    let s = c .before .before .before .before .before .before .before .before .before .before .before .before .before in
+    let s = c .before .before .before .before .before .before .before .before .before .before .before in
     asked-within (s .args .words .now) (s .args .lists) (s .args .mark) (s .pre .1) (s .pre .2) (s .pre .3) (s .pre .4)
 
 closed-requires : tie.Need-closed-requires
@@ -28,12 +28,12 @@ closed-requires c κs = search needs
 
 advance-requires : tie.Need-advance-requires
 advance-requires c κs =
-    let s = c .before .before .before .before .before .before .before .before .before .before .before .before .before .before .before .before .before .before .before .before .before .before in
+    let s = c .before .before .before .before .before .before .before .before .before .before .before .before .before .before .before .before .before .before in
     let ws = s .args .words .now in
     let l = s .args .lists in
     let w = s .pre .5 in
-    let e = c .before .before .before .before .before .before .before .before .set-answer .ensures in
-    let k = c .before .before .before .before .before .closed in
+    let e = c .before .before .before .before .before .before .set-answer .ensures in
+    let k = c .before .before .before .closed in
     let f = k .ensures in
     let a : length (l .counts) ≡ mostSymbols = length-unmapped ℕ (l .counts) mostSymbols (s .good .1 .0 .1 .1 .1 .0 .1 .0 .1) in
     let b : length (l .s) ≡ mostStates = length-unmapped ℕ (l .s) mostStates (s .good .1 .0 .1 .1 .1 .1 .1 .1 .1 .0 .1 .0 .1) in
@@ -50,82 +50,70 @@ advance-requires c κs =
 
 restore-requires : tie.Need-restore-requires
 restore-requires c κs =
-    let s = c .before .before .before .before .before .before .before .before .before .before .before .before .before .before .before .before .before .before .before .before .before .before .before .before .before .before .before .before .before .before .before .before .before .before .before .before in
-    let v = c .before .before .before .before .before .before .before .before .before .before .before .before .before .advance in
-    let e = c .before .before .before .before .before .before .before .before .before .before .before .before .before .before .before .before .before .before .before .before .before .before .set-answer .ensures in
-    let f = c .before .before .before .before .before .before .before .before .before .before .before .before .before .before .before .before .before .before .before .closed .ensures in
+    let s = c .before .before .before .before .before .before .before .before .before .before .before .before .before .before .before .before .before .before .before .before .before .before .before .before .before .before .before .before in
+    let v = c .before .before .before .before .before .before .before .before .before .advance in
+    let e = c .before .before .before .before .before .before .before .before .before .before .before .before .before .before .before .before .set-answer .ensures in
+    let f = c .before .before .before .before .before .before .before .before .before .before .before .before .before .closed .ensures in
     let d = c .before .before .if1 .taken in
-    (short-within (s .args .words .now) (s .args .lists) (s .args .mark) (s .pre .0) (s .pre .1) (s .pre .2) (s .pre .3) (s .pre .4) e f (v .result) (v .last .0) (v .ensures) d, omega (arith, short-length (s .args .words .now) (s .args .lists) (s .args .mark) (s .pre .0) (s .pre .1) (s .pre .2) (s .pre .3) (s .pre .4) e f (v .result) (v .last .0) (v .ensures) d, c .before .before .before .before .before .before .before .before .before .before .before .before .before .before .before .before .before .before .before .before .before .before .before .before .before .before .save .ensures .long))
+    (short-within (s .args .words .now) (s .args .lists) (s .args .mark) (s .pre .0) (s .pre .1) (s .pre .2) (s .pre .3) (s .pre .4) e f (v .result) (v .last .0) (v .ensures) d, omega (arith, short-length (s .args .words .now) (s .args .lists) (s .args .mark) (s .pre .0) (s .pre .1) (s .pre .2) (s .pre .3) (s .pre .4) e f (v .result) (v .last .0) (v .ensures) d, c .before .before .before .before .before .before .before .before .before .before .before .before .before .before .before .before .before .before .before .before .save .ensures .long))
 
 set-answer-requires-2 : tie.Need-set-answer-requires-2
 set-answer-requires-2 c κs =
-    let s = c .before .before .before .before .before .before .before .before .before .before .before .before .before .before .before .before .before .before .before .before .before .before .before .before .before .before .before .before .before .before .before .before .before .before .before .before .before .before .before .before in
-    let v = c .before .before .before .before .before .before .before .before .before .before .before .before .before .before .before .before .before .advance in
-    let e = c .before .before .before .before .before .before .before .before .before .before .before .before .before .before .before .before .before .before .before .before .before .before .before .before .before .before .set-answer .ensures in
-    let f = c .before .before .before .before .before .before .before .before .before .before .before .before .before .before .before .before .before .before .before .before .before .before .before .closed .ensures in
-    asked-within-back (s .args .words .now) (s .args .lists) (s .args .mark) (s .pre .0) (s .pre .1) (s .pre .2) (s .pre .3) (s .pre .4) e f (v .result) (v .last .0) (v .ensures) (c .before .before .before .before .before .before .if1 .taken) _ (c .before .before .before .restore .last .0) (c .before .before .before .before .before .before .before .before .before .before .before .before .before .before .before .before .before .before .before .before .before .before .before .before .before .before .before .before .before .before .save .ensures) (c .before .before .before .restore .ensures)
+    let s = c .before .before .before .before .before .before .before .before .before .before .before .before .before .before .before .before .before .before .before .before .before .before .before .before .before .before .before .before .before .before .before .before in
+    let v = c .before .before .before .before .before .before .before .before .before .before .before .before .before .advance in
+    let e = c .before .before .before .before .before .before .before .before .before .before .before .before .before .before .before .before .before .before .before .before .set-answer .ensures in
+    let f = c .before .before .before .before .before .before .before .before .before .before .before .before .before .before .before .before .before .closed .ensures in
+    asked-within-back (s .args .words .now) (s .args .lists) (s .args .mark) (s .pre .0) (s .pre .1) (s .pre .2) (s .pre .3) (s .pre .4) e f (v .result) (v .last .0) (v .ensures) (c .before .before .before .before .before .before .if1 .taken) _ (c .before .before .before .restore .last .0) (c .before .before .before .before .before .before .before .before .before .before .before .before .before .before .before .before .before .before .before .before .before .before .before .before .save .ensures) (c .before .before .before .restore .ensures)
 
 refuse-requires : tie.Need-refuse-requires
 refuse-requires c κs = search needs
 
 same-length : tie.Need-same-length
-same-length c = c .before .before .before .set-answer2 .kept .0 ∙ c .before .before .before .before .before .before .before .restore .kept .0 ∙ c .before .before .before .before .before .before .before .before .before .before .before .before .before .before .before .before .before .before .before .before .before .advance .kept .0 ∙ c .before .before .before .before .before .before .before .before .before .before .before .before .before .before .before .before .before .before .before .before .before .before .before .before .before .before .before .before .before .before .set-answer .kept .0
+same-length c = c .before .before .before .set-answer2 .kept .0 ∙ c .before .before .before .before .before .before .before .restore .kept .0 ∙ c .before .before .before .before .before .before .before .before .before .before .before .before .before .before .before .before .before .advance .kept .0 ∙ c .before .before .before .before .before .before .before .before .before .before .before .before .before .before .before .before .before .before .before .before .before .before .before .before .set-answer .kept .0
 
 same-length-2 : tie.Need-same-length-2
-same-length-2 c = c .before .before .before .before .before .before .before .before .before .before .before .before .before .before .before .before .before .before .before .before .before .before .before .before .before .before .before .before .before .before .before .before .before .before .save .kept .1 .1 .0
+same-length-2 c = c .before .before .before .before .before .before .before .before .before .before .before .before .before .before .before .before .before .before .before .before .before .before .before .before .before .before .before .before .save .kept .1 .1 .0
 
 same-length-3 : tie.Need-same-length-3
-same-length-3 c = c .before .before .before .before .before .before .before .before .before .before .before .before .before .before .before .before .before .before .before .before .before .advance .kept .1 .1 .0
+same-length-3 c = c .before .before .before .before .before .before .before .before .before .before .before .before .before .before .before .before .before .advance .kept .1 .1 .0
 
 same-length-4 : tie.Need-same-length-4
 same-length-4 c = search needs
+
+returns : tie.Need-returns
+returns c =
+    let s = c .before .before .before .before .before .before .before .before .before .before .before .before .before .before .before .before .before .before .before .before .before .before .before .before .before .before .before .before .before .before .before .before .before .before .before .before in
+    let v = c .before .before .before .before .before .before .before .before .before .before .before .before .before .before .before .before .before .advance in
+    let e = c .before .before .before .before .before .before .before .before .before .before .before .before .before .before .before .before .before .before .before .before .before .before .before .before .set-answer .ensures in
+    let f = c .before .before .before .before .before .before .before .before .before .before .before .before .before .before .before .before .before .before .before .before .before .closed .ensures in
+    answer-short (s .args .words .now) (s .args .lists) (s .args .mark) (s .pre .0) (s .pre .1) (s .pre .2) (s .pre .3) (s .pre .4) e f (v .result) (v .last .0) (v .ensures) (c .before .before .before .before .before .before .before .before .before .before .if1 .taken) _ (c .before .before .before .before .before .before .before .restore .last .0) (c .before .before .before .before .before .before .before .before .before .before .before .before .before .before .before .before .before .before .before .before .before .before .before .before .before .before .before .before .save .ensures) (c .before .before .before .before .before .before .before .restore .ensures) _ (c .before .before .before .set-answer2 .ensures) (c .refuse .result) (c .refuse .ensures .0) (c .refuse .ensures .1)
+
+told-requires : tie.Need-told-requires
+told-requires c κs =
+    let s = c .before .before .before .before .before .before .before .before .before .before .before .before .before .before .before .before .before .before .before .before .before .before .before .before .before .before .before .before in
+    let v = c .before .before .before .before .before .before .before .before .before .advance in
+    let e = c .before .before .before .before .before .before .before .before .before .before .before .before .before .before .before .before .set-answer .ensures in
+    let f = c .before .before .before .before .before .before .before .before .before .before .before .before .before .closed .ensures in
+    left-fit (s .args .words .now) (s .args .lists) (s .args .mark) (s .pre .0) (s .pre .1) (s .pre .2) (s .pre .3) (s .pre .4) e f (v .result) (v .last .0) (v .ensures) (c .before .before .if1 .left)
 
 same-length-5 : tie.Need-same-length-5
 same-length-5 c = search needs
 
 same-length-6 : tie.Need-same-length-6
-same-length-6 c = search needs
-
-returns : tie.Need-returns
-returns c =
-    let s = c .before .before .before .before .before .before .before .before .before .before .before .before .before .before .before .before .before .before .before .before .before .before .before .before .before .before .before .before .before .before .before .before .before .before .before .before .before .before .before .before .before .before .before .before in
-    let v = c .before .before .before .before .before .before .before .before .before .before .before .before .before .before .before .before .before .before .before .before .before .advance in
-    let e = c .before .before .before .before .before .before .before .before .before .before .before .before .before .before .before .before .before .before .before .before .before .before .before .before .before .before .before .before .before .before .set-answer .ensures in
-    let f = c .before .before .before .before .before .before .before .before .before .before .before .before .before .before .before .before .before .before .before .before .before .before .before .before .before .before .before .closed .ensures in
-    answer-short (s .args .words .now) (s .args .lists) (s .args .mark) (s .pre .0) (s .pre .1) (s .pre .2) (s .pre .3) (s .pre .4) e f (v .result) (v .last .0) (v .ensures) (c .before .before .before .before .before .before .before .before .before .before .if1 .taken) _ (c .before .before .before .before .before .before .before .restore .last .0) (c .before .before .before .before .before .before .before .before .before .before .before .before .before .before .before .before .before .before .before .before .before .before .before .before .before .before .before .before .before .before .before .before .before .before .save .ensures) (c .before .before .before .before .before .before .before .restore .ensures) _ (c .before .before .before .set-answer2 .ensures) (c .refuse .result) (c .refuse .ensures .0) (c .refuse .ensures .1)
-
-told-requires : tie.Need-told-requires
-told-requires c κs =
-    let s = c .before .before .before .before .before .before .before .before .before .before .before .before .before .before .before .before .before .before .before .before .before .before .before .before .before .before .before .before .before .before .before .before .before .before .before .before in
-    let v = c .before .before .before .before .before .before .before .before .before .before .before .before .before .advance in
-    let e = c .before .before .before .before .before .before .before .before .before .before .before .before .before .before .before .before .before .before .before .before .before .before .set-answer .ensures in
-    let f = c .before .before .before .before .before .before .before .before .before .before .before .before .before .before .before .before .before .before .before .closed .ensures in
-    left-fit (s .args .words .now) (s .args .lists) (s .args .mark) (s .pre .0) (s .pre .1) (s .pre .2) (s .pre .3) (s .pre .4) e f (v .result) (v .last .0) (v .ensures) (c .before .before .if1 .left)
+same-length-6 c = c .before .before .before .before .before .before .before .before .before .before .before .before .before .before .before .before .before .before .before .before .before .save .kept .1 .1 .0
 
 same-length-7 : tie.Need-same-length-7
 same-length-7 c = search needs
 
 same-length-8 : tie.Need-same-length-8
-same-length-8 c = c .before .before .before .before .before .before .before .before .before .before .before .before .before .before .before .before .before .before .before .before .before .before .before .before .before .before .before .save .kept .1 .1 .0
-
-same-length-9 : tie.Need-same-length-9
-same-length-9 c = search needs
-
-same-length-10 : tie.Need-same-length-10
-same-length-10 c = search needs
-
-same-length-11 : tie.Need-same-length-11
-same-length-11 c = search needs
-
-same-length-12 : tie.Need-same-length-12
-same-length-12 c = search needs
+same-length-8 c = search needs
 
 returns-2 : tie.Need-returns-2
 returns-2 c =
-    let s = c .before .before .before .before .before .before .before .before .before .before .before .before .before .before .before .before .before .before .before .before .before .before .before .before .before .before .before .before .before .before .before .before .before .before .before .before .before in
-    let v = c .before .before .before .before .before .before .before .before .before .before .before .before .before .before .advance in
-    let e = c .before .before .before .before .before .before .before .before .before .before .before .before .before .before .before .before .before .before .before .before .before .before .before .set-answer .ensures in
-    let f = c .before .before .before .before .before .before .before .before .before .before .before .before .before .before .before .before .before .before .before .before .closed .ensures in
+    let s = c .before .before .before .before .before .before .before .before .before .before .before .before .before .before .before .before .before .before .before .before .before .before .before .before .before .before .before .before .before in
+    let v = c .before .before .before .before .before .before .before .before .before .before .advance in
+    let e = c .before .before .before .before .before .before .before .before .before .before .before .before .before .before .before .before .before .set-answer .ensures in
+    let f = c .before .before .before .before .before .before .before .before .before .before .before .before .before .before .closed .ensures in
     answer-left (s .args .words .now) (s .args .lists) (s .args .mark) (s .pre .0) (s .pre .1) (s .pre .2) (s .pre .3) (s .pre .4) e f (v .result) (v .last .0) (v .ensures) (c .before .before .before .if1 .left) _ (c .told .ensures) refl
 
 pub take-answer-spec : {M : Type 1} → statement M
@@ -144,14 +132,10 @@ take-answer-spec =
     same-length-2
     same-length-3
     same-length-4
-    same-length-5
-    same-length-6
     returns
     told-requires
+    same-length-5
+    same-length-6
     same-length-7
     same-length-8
-    same-length-9
-    same-length-10
-    same-length-11
-    same-length-12
     returns-2)

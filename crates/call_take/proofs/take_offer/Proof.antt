@@ -85,7 +85,7 @@ abbrev Advanced : Type 0
 Advanced = lts.After-in-hand claims reads.Pre reads.Post
 
 given : (s : Start) →
-    Given (s .args .words .now) (s .args .lists) (s .args .symbols .now) (s .args .mark) (s .args .holes .now) (s .args .head .now) (s .args .next .now) (s .args .mix .now) (s .args .table .now)
+    Given (s .args .words .now) (s .args .lists) (s .args .symbols .now) (s .args .mark) (s .args .index .now) (s .args .table .now)
     (s .args .places .now) (s .args .reps .now)
 given s =
     let f = listsFit-facts (s .args .lists) (s .pre .1) in
@@ -107,16 +107,16 @@ given s =
     }
 
 abbrev begun : Stored → Start
-begun c = c .before .before .before .before .before .before .before .before .before .before .before .before .before .before .before .before .before .before .before .before .before
+begun c = c .before .before .before .before .before .before .before .before .before .before .before .before .before .before .before .before .before
 
 -- how storing ended
 came : (c : Stored) →
     Comes (begun c .args .words .now) (countsIn (begun c .args .lists)) (begun c .args .lists .used)
-    (storeFrom (storeOf (begun c .args .words .now) (countsIn (begun c .args .lists)) (begun c .args .lists .used)) (begun c .args .symbols .now) []) (c .store .result) (c .store .last .0) (c .store .last .1 .1 .1 .0) (c .store .last .1 .1 .1 .1 .0) (c .store .last .1 .1 .1 .1 .1 .0) (begun c .args .mix .now)
+    (storeFrom (storeOf (begun c .args .words .now) (countsIn (begun c .args .lists)) (begun c .args .lists .used)) (begun c .args .symbols .now) []) (c .store .result) (c .store .last .0) (c .store .last .1 .1 .1 .0)
 came c = record { came = c .store .ensures }
 
 abbrev storing : AtRow → Stored
-storing c = c .before .before .before .before .before .before .before .before .before .before
+storing c = c .before .before .before .before .before .before
 
 abbrev first : AtRow → Start
 first c = begun (storing c)
@@ -129,24 +129,24 @@ count c = c .row .given .0 .1 .0
 
 stored : (c : AtRow) →
     StoredAt (first c .args .words .now) (countsIn (first c .args .lists)) (first c .args .lists .used) (first c .args .symbols .now) (row c) (count c)
-    (storing c .store .last .0) (storing c .store .last .1 .1 .1 .0) (storing c .store .last .1 .1 .1 .1 .0) (storing c .store .last .1 .1 .1 .1 .1 .0) (first c .args .mix .now)
+    (storing c .store .last .0) (storing c .store .last .1 .1 .1 .0)
 stored c = offer-stored (given (first c)) (comes-as (c .row .given .1) (came (storing c)))
 
 -- how the step ended
 abbrev at-row : Advanced → AtRow
-at-row c = c .before .before .before .before .before .before .before .before .before .before .before .before .before .before
+at-row c = c .before .before .before .before .before .before .before .before .before .before .before .before
 
 abbrev marking : Advanced → Marked
-marking c = c .before .before .before .before .before .before .before .before .before
+marking c = c .before .before .before .before .before .before .before
 
 abbrev taking : Advanced → Taken
-taking c = c .before .before .before .before .before .before
+taking c = c .before .before .before .before
 
 abbrev reading : Advanced → Reading
-reading c = c .before .before .before .before .before .before .before .before .before .before .before
+reading c = c .before .before .before .before .before .before .before .before .before
 
 abbrev saving : Advanced → Saving
-saving c = c .before .before .before .before .before .before .before .before .before .before .before .before .before .before .before .before .before .before .before .before .before .before .before .before .before .before .before .before .before .before .before .before
+saving c = c .before .before .before .before .before .before .before .before .before .before .before .before .before .before .before .before .before .before .before .before .before .before .before .before
 
 ended : (c : Advanced) →
     Ends (marking c .set-answer .last .0) (taking c .taken-up .result) (advance (tablesOf (marking c .set-answer .last .0) (taking c .taken-up .result))) (c .in-hand .result) (c .in-hand .last .0)
@@ -154,7 +154,7 @@ ended c = record { ended = c .in-hand .ensures }
 
 -- the answer set back after a shortage
 abbrev short-of : Reset → Advanced
-short-of c = c .before .before .before .before .before .before .before .before .before .before .before .before .before
+short-of c = c .before .before .before .before .before .before .before .before .before
 
 shortage : (c : Reset) → short-of c .in-hand .result .number ≡ 0 → ⊥
 shortage c = c .before .before .if1 .taken
@@ -167,19 +167,19 @@ save-requires c κs = search needs
 
 array-share-prefix-counts : tie.Need-array-share-prefix-counts
 array-share-prefix-counts c =
-    let s = c .before .before .before .before .before .before .before .before .before .before .before .before .before .before .before .before in
+    let s = c .before .before .before .before .before .before .before .before .before .before .before .before .before .before in
     let e : length (s .args .lists .counts) ≡ mostSymbols = search needs in
     omega (arith, listsFit-facts (s .args .lists) (s .pre .1) .letters)
 
 slice-aggregate-store : tie.Need-slice-aggregate-store
 slice-aggregate-store c =
-    let s = c .before .before .before .before .before .before .before .before .before .before .before .before .before .before .before .before .before in
+    let s = c .before .before .before .before .before .before .before .before .before .before .before .before .before .before .before in
     let e : length (s .args .lists .counts) ≡ mostSymbols = search needs in
     sym (length-take-le (s .args .lists .letters) (s .args .lists .counts) (omega (arith, listsFit-facts (s .args .lists) (s .pre .1) .letters)))
 
 store-requires : tie.Need-store-requires
 store-requires c κs =
-    let s = c .before .before .before .before .before .before .before .before .before .before .before .before .before .before .before .before .before .before .before .before in
+    let s = c .before .before .before .before .before .before .before .before .before .before .before .before .before .before .before .before in
     let o = offering (tablesOf (s .args .words .now) (s .args .lists)) (s .args .symbols .now) (s .args .mark) (s .pre .3) in
     (s .pre .4 .ready, o .parsed, recordFault-parses (countsIn (s .args .lists)) (s .args .symbols .now) (o .fits) .2)
 
@@ -188,9 +188,9 @@ enum-told c = search needs
 
 restore-requires : tie.Need-restore-requires
 restore-requires c κs =
-    let f : Stored = c .before .before .before .before .before .before .before .before .before .before .before .before in
+    let f : Stored = c .before .before .before .before .before .before .before .before in
     let d = comes-as (c .before .before .enum-told .given .1) (came f) in
-    (full-held (given (begun f)) d, omega (arith, full-size (given (begun f)) d, c .before .before .before .before .before .before .before .before .before .before .before .before .before .before .before .before .before .before .before .before .save .ensures .long))
+    (full-held (given (begun f)) d, omega (arith, full-size (given (begun f)) d, c .before .before .before .before .before .before .before .before .before .before .before .before .before .before .save .ensures .long))
 
 refuse-requires : tie.Need-refuse-requires
 refuse-requires c κs = search needs
@@ -202,7 +202,7 @@ answer-of-requires : tie.Need-answer-of-requires
 answer-of-requires c κs = let a : AtRow = c .before .before in row-within (given (first a)) (stored a)
 
 add-set-answer : tie.Need-add-set-answer
-add-set-answer c = omega (arith, c .before .before .before .before .before .before .before .before .before .before .before .before .before .before .before .before .before .before .before .before .before .before .before .before .before .before .before .before .before .before .before .before .before .before .before .fits .mark)
+add-set-answer c = omega (arith, c .before .before .before .before .before .before .before .before .before .before .before .before .before .before .before .before .before .before .before .before .before .before .before .before .before .before .before .fits .mark)
 
 set-answer-requires : tie.Need-set-answer-requires
 set-answer-requires c κs = let a : AtRow = c .before .before .before .before in row-within (given (first a)) (stored a)
@@ -212,15 +212,15 @@ taken-up-requires c κs = search needs
 
 in-hand-requires : tie.Need-in-hand-requires
 in-hand-requires c κs =
-    let a : AtRow = c .before .before .before .before .before .before .before .before .before .before .before .before .before in
+    let a : AtRow = c .before .before .before .before .before .before .before .before .before .before .before in
     let g = given (first a) in
-    let p = c .before .before .before .before .before .before .before .before .set-answer .ensures in
-    let u = c .before .before .before .before .before .taken-up .ensures in
-    (offer-stepping g (stored a) p u, omega (arith, ap (λ (o : Lists). o .rules) u, c .before .before .before .before .before .before .before .before .before .before .before .before .before .before .before .before .before .before .before .before .before .before .before .before .before .before .before .before .before .before .before .before .before .before .before .before .before .before .before .before .before .before .before .before .pre .6), offer-in-hand g (stored a) p u, (λ z. omega (arith, z, offer-in-hand g (stored a) p u .fits .record-row .some)))
+    let p = c .before .before .before .before .before .before .set-answer .ensures in
+    let u = c .before .before .before .taken-up .ensures in
+    (offer-stepping g (stored a) p u, omega (arith, ap (λ (o : Lists). o .rules) u, c .before .before .before .before .before .before .before .before .before .before .before .before .before .before .before .before .before .before .before .before .before .before .before .before .before .before .before .before .before .before .before .before .before .before .pre .6), offer-in-hand g (stored a) p u, (λ z. omega (arith, z, offer-in-hand g (stored a) p u .fits .record-row .some)))
 
 set-answer-requires-2 : tie.Need-set-answer-requires-2
 set-answer-requires-2 c κs =
-    let d : Advanced = c .before .before .before .before .before .before .before .before .before .before .before .before in
+    let d : Advanced = c .before .before .before .before .before .before .before .before in
     let a = at-row d in
     short-within (given (first a)) (stored a) (marking d .set-answer .ensures) (taking d .taken-up .ensures) (ended d) (c .before .if1 .taken)
 
@@ -240,22 +240,16 @@ refuse-requires-2 : tie.Need-refuse-requires-2
 refuse-requires-2 c κs = search needs
 
 same-length : tie.Need-same-length
-same-length c = c .before .before .before .restore2 .kept .0 ∙ c .before .before .before .before .before .before .before .before .set-answer2 .kept .0 ∙ c .before .before .before .before .before .before .before .before .before .before .before .before .before .before .before .before .before .before .before .before .before .in-hand .kept .0 ∙ c .before .before .before .before .before .before .before .before .before .before .before .before .before .before .before .before .before .before .before .before .before .before .before .before .before .before .before .before .before .before .set-answer .kept .0 ∙ c .before .before .before .before .before .before .before .before .before .before .before .before .before .before .before .before .before .before .before .before .before .before .before .before .before .before .before .before .before .before .before .before .before .before .before .before .before .before .before .before .before .before .before .before .before .store .kept .0
+same-length c = c .before .before .before .restore2 .kept .0 ∙ c .before .before .before .before .before .before .before .before .set-answer2 .kept .0 ∙ c .before .before .before .before .before .before .before .before .before .before .before .before .before .before .before .before .before .in-hand .kept .0 ∙ c .before .before .before .before .before .before .before .before .before .before .before .before .before .before .before .before .before .before .before .before .before .before .before .before .set-answer .kept .0 ∙ c .before .before .before .before .before .before .before .before .before .before .before .before .before .before .before .before .before .before .before .before .before .before .before .before .before .before .before .before .before .before .before .before .before .before .before .store .kept .0
 
 same-length-2 : tie.Need-same-length-2
-same-length-2 c = c .before .before .before .before .before .before .before .before .before .before .before .before .before .before .before .before .before .before .before .before .before .before .before .before .before .before .before .before .before .before .before .before .before .before .before .before .before .before .before .before .before .before .before .before .before .before .before .before .before .before .before .before .before .save .kept .1 .1 .0
+same-length-2 c = c .before .before .before .before .before .before .before .before .before .before .before .before .before .before .before .before .before .before .before .before .before .before .before .before .before .before .before .before .before .before .before .before .before .before .before .before .before .before .before .before .before .save .kept .1 .1 .0
 
 same-length-3 : tie.Need-same-length-3
-same-length-3 c = c .before .before .before .before .before .before .before .before .before .before .before .before .before .before .before .before .before .before .before .before .before .in-hand .kept .1 .1 .0 ∙ c .before .before .before .before .before .before .before .before .before .before .before .before .before .before .before .before .before .before .before .before .before .before .before .before .before .before .before .before .before .before .before .before .before .before .before .before .before .before .before .before .before .before .before .before .before .store .kept .1 .1 .1 .0
+same-length-3 c = c .before .before .before .before .before .before .before .before .before .before .before .before .before .before .before .before .before .in-hand .kept .1 .1 .0 ∙ c .before .before .before .before .before .before .before .before .before .before .before .before .before .before .before .before .before .before .before .before .before .before .before .before .before .before .before .before .before .before .before .before .before .before .before .store .kept .1 .1 .1 .0
 
 same-length-4 : tie.Need-same-length-4
-same-length-4 c = c .before .before .before .before .before .before .before .before .before .before .before .before .before .before .before .before .before .before .before .before .before .in-hand .kept .1 .1 .1 .0 ∙ c .before .before .before .before .before .before .before .before .before .before .before .before .before .before .before .before .before .before .before .before .before .before .before .before .before .before .before .before .before .before .before .before .before .before .before .before .before .before .before .before .before .before .before .before .before .store .kept .1 .1 .1 .1 .0
-
-same-length-5 : tie.Need-same-length-5
-same-length-5 c = c .before .before .before .before .before .before .before .before .before .before .before .before .before .before .before .before .before .before .before .before .before .in-hand .kept .1 .1 .1 .1 .0 ∙ c .before .before .before .before .before .before .before .before .before .before .before .before .before .before .before .before .before .before .before .before .before .before .before .before .before .before .before .before .before .before .before .before .before .before .before .before .before .before .before .before .before .before .before .before .before .store .kept .1 .1 .1 .1 .1 .0
-
-same-length-6 : tie.Need-same-length-6
-same-length-6 c = search needs
+same-length-4 c = search needs
 
 returns : tie.Need-returns
 returns c =
@@ -267,51 +261,39 @@ returns c =
 
 told-requires : tie.Need-told-requires
 told-requires c κs =
-    let d : Advanced = c .before .before .before .before .before .before .before .before .before .before .before .before .before in
+    let d : Advanced = c .before .before .before .before .before .before .before .before .before in
     let a = at-row d in
     left-fit (given (first a)) (stored a) (marking d .set-answer .ensures) (taking d .taken-up .ensures) (ended d) (c .before .before .if1 .left)
+
+same-length-5 : tie.Need-same-length-5
+same-length-5 c = search needs
+
+same-length-6 : tie.Need-same-length-6
+same-length-6 c = c .before .before .before .before .before .before .before .before .before .before .before .before .before .before .before .before .before .before .save .kept .1 .1 .0
 
 same-length-7 : tie.Need-same-length-7
 same-length-7 c = search needs
 
+returns-2 : tie.Need-returns-2
+returns-2 c =
+    let f : Stored = c .before .before .before .before .before .before .before .before .before .before .before .before in
+    full-called (given (begun f)) (comes-as (c .before .before .before .before .before .before .enum-told .given .1) (came f)) (c .before .before .before .before .before .before .before .before .before .before .before .before .before .before .before .before .before .before .save .ensures) (c .before .before .before .restore .ensures) (c .refuse .ensures .0) (c .refuse .ensures .1)
+
 same-length-8 : tie.Need-same-length-8
-same-length-8 c = c .before .before .before .before .before .before .before .before .before .before .before .before .before .before .before .before .before .before .before .before .before .before .before .before .save .kept .1 .1 .0
+same-length-8 c = c .before .before .before .before .before .before .before .before .before .before .in-hand .kept .0 ∙ c .before .before .before .before .before .before .before .before .before .before .before .before .before .before .before .before .before .set-answer .kept .0 ∙ c .before .before .before .before .before .before .before .before .before .before .before .before .before .before .before .before .before .before .before .before .before .before .before .before .before .before .before .before .store .kept .0
 
 same-length-9 : tie.Need-same-length-9
-same-length-9 c = search needs
+same-length-9 c = c .before .before .before .before .before .before .before .before .before .before .before .before .before .before .before .before .before .before .before .before .before .before .before .before .before .before .before .before .before .before .before .before .before .before .save .kept .1 .1 .0
 
 same-length-10 : tie.Need-same-length-10
-same-length-10 c = search needs
+same-length-10 c = c .before .before .before .before .before .before .before .before .before .before .in-hand .kept .1 .1 .0 ∙ c .before .before .before .before .before .before .before .before .before .before .before .before .before .before .before .before .before .before .before .before .before .before .before .before .before .before .before .before .store .kept .1 .1 .1 .0
 
 same-length-11 : tie.Need-same-length-11
 same-length-11 c = search needs
 
-returns-2 : tie.Need-returns-2
-returns-2 c =
-    let f : Stored = c .before .before .before .before .before .before .before .before .before .before .before .before .before .before .before .before in
-    full-called (given (begun f)) (comes-as (c .before .before .before .before .before .before .enum-told .given .1) (came f)) (c .before .before .before .before .before .before .before .before .before .before .before .before .before .before .before .before .before .before .before .before .before .before .before .before .save .ensures) (c .before .before .before .restore .ensures) (c .refuse .ensures .0) (c .refuse .ensures .1)
-
-same-length-12 : tie.Need-same-length-12
-same-length-12 c = c .before .before .before .before .before .before .before .before .before .before .before .before .before .before .in-hand .kept .0 ∙ c .before .before .before .before .before .before .before .before .before .before .before .before .before .before .before .before .before .before .before .before .before .before .before .set-answer .kept .0 ∙ c .before .before .before .before .before .before .before .before .before .before .before .before .before .before .before .before .before .before .before .before .before .before .before .before .before .before .before .before .before .before .before .before .before .before .before .before .before .before .store .kept .0
-
-same-length-13 : tie.Need-same-length-13
-same-length-13 c = c .before .before .before .before .before .before .before .before .before .before .before .before .before .before .before .before .before .before .before .before .before .before .before .before .before .before .before .before .before .before .before .before .before .before .before .before .before .before .before .before .before .before .before .before .before .before .save .kept .1 .1 .0
-
-same-length-14 : tie.Need-same-length-14
-same-length-14 c = c .before .before .before .before .before .before .before .before .before .before .before .before .before .before .in-hand .kept .1 .1 .0 ∙ c .before .before .before .before .before .before .before .before .before .before .before .before .before .before .before .before .before .before .before .before .before .before .before .before .before .before .before .before .before .before .before .before .before .before .before .before .before .before .store .kept .1 .1 .1 .0
-
-same-length-15 : tie.Need-same-length-15
-same-length-15 c = c .before .before .before .before .before .before .before .before .before .before .before .before .before .before .in-hand .kept .1 .1 .1 .0 ∙ c .before .before .before .before .before .before .before .before .before .before .before .before .before .before .before .before .before .before .before .before .before .before .before .before .before .before .before .before .before .before .before .before .before .before .before .before .before .before .store .kept .1 .1 .1 .1 .0
-
-same-length-16 : tie.Need-same-length-16
-same-length-16 c = c .before .before .before .before .before .before .before .before .before .before .before .before .before .before .in-hand .kept .1 .1 .1 .1 .0 ∙ c .before .before .before .before .before .before .before .before .before .before .before .before .before .before .before .before .before .before .before .before .before .before .before .before .before .before .before .before .before .before .before .before .before .before .before .before .before .before .store .kept .1 .1 .1 .1 .1 .0
-
-same-length-17 : tie.Need-same-length-17
-same-length-17 c = search needs
-
 returns-3 : tie.Need-returns-3
 returns-3 c =
-    let d : Advanced = c .before .before .before .before .before .before .before .before .before .before .before .before .before .before in
+    let d : Advanced = c .before .before .before .before .before .before .before .before .before .before in
     let a = at-row d in
     left-called (given (first a)) (stored a) (marking d .set-answer .ensures) (taking d .taken-up .ensures) (ended d) (c .before .before .before .if1 .left) (c .told .ensures) refl
 
@@ -340,20 +322,14 @@ take-offer-spec =
     same-length-2
     same-length-3
     same-length-4
-    same-length-5
-    same-length-6
     returns
     told-requires
+    same-length-5
+    same-length-6
     same-length-7
+    returns-2
     same-length-8
     same-length-9
     same-length-10
     same-length-11
-    returns-2
-    same-length-12
-    same-length-13
-    same-length-14
-    same-length-15
-    same-length-16
-    same-length-17
     returns-3)

@@ -31,7 +31,7 @@ module _ (ws : List ℕ) (n : ℕ) (b : Built) (r : Reply) (ws' : List ℕ) wher
   said-before s t e p q = subst (λ (a : Bool). SaidIf (a && t) ws n b r ws') (sym e) (p, q)
 
 -- WHAT ADDING CAME TO, as numbers
-pub comes-said : {ws ns : List ℕ} {n : ℕ} {b : Built} {g : Grown} {r : Reply} {ws' hs he ne m : List ℕ} → r ≡ saidOf g → Comes ws ns n b g ws' hs he ne m → Said ws n b r ws'
+pub comes-said : {ws ns : List ℕ} {n : ℕ} {b : Built} {g : Grown} {r : Reply} {ws' ix : List ℕ} → r ≡ saidOf g → Comes ws ns n b g ws' ix → Said ws n b r ws'
 comes-said {b = full} e c = (e ∙ ap saidOf (c .came .0), c .came .1)
 comes-said {b = built j y} e c = (e ∙ ap saidOf (c .came .0), c .came .1)
 
@@ -65,8 +65,8 @@ module _ (ws ns : List ℕ) (n c i : ℕ) where
           said-not ws n (fill (storeOf ws ns n) (framesOf (storeOf ws ns n) c) i) r ws (isFillable (storeOf ws ns n) c i)
           (context ∙ le-ltb i (used (storeOf ws ns n)) (omega arith)) p refl
 
-      pub filled : i < n → {g : Grown} {r : Reply} {ws' hs' he' ne' m : List ℕ} → r ≡ saidOf g →
-          Comes ws ns n (fill (storeOf ws ns n) (framesOf (storeOf ws ns n) c) i) g ws' hs' he' ne' m → FilledReady ws ns n c i r ws'
+      pub filled : i < n → {g : Grown} {r : Reply} {ws' ix' : List ℕ} → r ≡ saidOf g →
+          Comes ws ns n (fill (storeOf ws ns n) (framesOf (storeOf ws ns n) c) i) g ws' ix' → FilledReady ws ns n c i r ws'
       filled q {r = r} {ws' = ws'} p k =
           let u = used-of ws ns n in
           said-so ws n (fill (storeOf ws ns n) (framesOf (storeOf ws ns n) c) i) r ws' (isFillable (storeOf ws ns n) c i)
@@ -87,8 +87,8 @@ module _ (ws ns : List ℕ) (n : ℕ) (xs : List ℕ) where
   pub at-fault : (recordFault ns xs ≡ 0 → ⊥) → {r : Reply} → r ≡ said 2 0 0 → StoredReady ws ns n xs r ws
   at-fault e {r} p = said-not ws n (storeFrom (storeOf ws ns n) xs []) r ws (isListed ns xs) (ne-eqb (recordFault ns xs) 0 e) p refl
 
-  pub stored : recordFault ns xs ≡ 0 → {g : Grown} {r : Reply} {ws' hs he ne m : List ℕ} → r ≡ saidOf g →
-      Comes ws ns n (storeFrom (storeOf ws ns n) xs []) g ws' hs he ne m → StoredReady ws ns n xs r ws'
+  pub stored : recordFault ns xs ≡ 0 → {g : Grown} {r : Reply} {ws' ix : List ℕ} → r ≡ saidOf g →
+      Comes ws ns n (storeFrom (storeOf ws ns n) xs []) g ws' ix → StoredReady ws ns n xs r ws'
   stored e {r = r} {ws' = ws'} p k =
       said-so ws n (storeFrom (storeOf ws ns n) xs []) r ws' (isListed ns xs) (eq-eqb (recordFault ns xs) 0 e) (comes-said p k)
 

@@ -12,7 +12,7 @@ use Rattle.probe.proofs.filled.Tie as tie
 
 -- past each test
 abbrev start : tie.Else1 → tie.Start
-start c = c .before .before .before .before .before .before
+start c = c .before .before .before .before
 
 abbrev tested : tie.After-has-hole → tie.Else1
 tested c = c .before .before
@@ -30,7 +30,7 @@ refused-requires c κs = search needs
 
 returns : tie.Need-returns
 returns c =
-    let s = c .before .before .before .before .before .before .before in
+    let s = c .before .before .before .before .before in
     past-context (s .args .words .now) (s .args .counts .now) (s .args .used) (s .args .context) (s .args .with) (c .before .if1 .taken) (c .refused .ensures)
 
 has-hole-requires : tie.Need-has-hole-requires
@@ -62,7 +62,7 @@ returns-3 c =
 
 fill-context-requires : tie.Need-fill-context-requires
 fill-context-requires c κs =
-    let e = c .before .before .before .before in
+    let e = c .before .before in
     let d = e .before in
     let s = start (tested (d .before)) in
     (s .pre, tested (d .before) .if1 .left, holed d, e .if3 .left)
@@ -76,16 +76,10 @@ same-length-3 c = search needs
 same-length-4 : tie.Need-same-length-4
 same-length-4 c = search needs
 
-same-length-5 : tie.Need-same-length-5
-same-length-5 c = search needs
-
-same-length-6 : tie.Need-same-length-6
-same-length-6 c = search needs
-
 returns-4 : tie.Need-returns-4
 returns-4 c =
-    let f = c .before .before .before .before .before .before .before .before .before in
-    let e = c .before .before .before .before .before .before .before .before .before .before .before .before .before .before in
+    let f = c .before .before .before .before .before in
+    let e = c .before .before .before .before .before .before .before .before in
     let d = e .before in
     let s = start (tested (d .before)) in
     filled-law (s .args .words .now) (s .args .counts .now) (s .args .used) (s .args .context) (s .args .with) (tested (d .before) .if1 .left) (holed d) (e .if3 .left) (c .reply-of .ensures) (record { came = f .fill-context .ensures })
@@ -107,6 +101,4 @@ filled-spec =
     reply-of-requires
     same-length-3
     same-length-4
-    same-length-5
-    same-length-6
     returns-4)

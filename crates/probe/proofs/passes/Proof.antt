@@ -10,7 +10,7 @@ use Rattle.probe.proofs.Laws.Sizes.{not-sized, sized}
 use Rattle.probe.proofs.passes.Statement.{statement}
 use Rattle.probe.proofs.passes.Tie as tie
 
-fits : (c : tie.Else1) → sizeFits (c .before .before .before .before .before .before .before .args .words .now) ≡ true
+fits : (c : tie.Else1) → sizeFits (c .before .before .before .before .before .args .words .now) ≡ true
 fits c = sym (c .before .size-fits .ensures) ∙ not-false _ (c .if1 .left)
 
 size-fits-requires : tie.Need-size-fits-requires
@@ -18,31 +18,25 @@ size-fits-requires c κs = search needs
 
 returns : tie.Need-returns
 returns c =
-    let s = c .before .before .before .before .before .before .before in
+    let s = c .before .before .before .before .before in
     (not-sized (s .args .words .now) (s .args .counts .now) (s .args .used) (sym (c .before .size-fits .ensures) ∙ not-true _ (c .if1 .taken)), λ f. absurd (true≢false (sym f)))
 
 t1-requires : tie.Need-t1-requires
 t1-requires c κs =
-    let d = c .before .before .before .before in
-    let s = d .before .before .before .before .before .before .before in
+    let d = c .before in
+    let s = d .before .before .before .before .before in
     let p = s .pre in
     let w = sizeFits-facts (s .args .words .now) (fits d) in
-    (fits d, record { holes-long = omega (arith, p .0, w .whole, w .most); some-heads = omega (arith, p .1); few-heads = omega (arith, p .1); next-long = omega (arith, p .2, w .whole, w .most) }, p .3)
+    (fits d, record { some = omega (arith, p); few = omega (arith, p); long = omega (arith, p, w .whole, w .most) })
 
 same-length : tie.Need-same-length
 same-length c = search needs
 
-same-length-2 : tie.Need-same-length-2
-same-length-2 c = search needs
-
-same-length-3 : tie.Need-same-length-3
-same-length-3 c = search needs
-
 returns-2 : tie.Need-returns-2
 returns-2 c =
-    let d = c .before .before .before .before .before .before .before .before .before .before .before in
-    let s = d .before .before .before .before .before .before .before in
-    (c .before .before .before .before .before .before .t1 .ensures .0 ∙ sized (s .args .words .now) (s .args .counts .now) (s .args .used) (fits d), c .before .before .before .before .before .before .t1 .ensures .1)
+    let d = c .before .before .before .before in
+    let s = d .before .before .before .before .before in
+    (c .before .before .t1 .ensures .0 ∙ sized (s .args .words .now) (s .args .counts .now) (s .args .used) (fits d), c .before .before .t1 .ensures .1)
 
 pub passes-spec : {M : Type 1} → statement M
 passes-spec =
@@ -52,6 +46,4 @@ passes-spec =
     returns
     t1-requires
     same-length
-    same-length-2
-    same-length-3
     returns-2)

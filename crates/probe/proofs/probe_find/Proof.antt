@@ -11,47 +11,37 @@ use Rattle.probe.proofs.probe_find.Tie as tie
 
 -- T1 and its marks, past the test
 abbrev start : tie.After-passes → tie.Start
-start c = c .before .before .before .before .before .before .before
+start c = c .before .before .before .before
 
-passed : (c : tie.Else1) → isPassed (start (c .before .before .before .before) .args .words .now) (start (c .before .before .before .before) .args .counts .now) (start (c .before .before .before .before) .args .used) ≡ true
-passed c = sym (c .before .before .before .before .passes .ensures .0) ∙ not-false _ (c .if1 .left)
+passed : (c : tie.Else1) → isPassed (start (c .before .before) .args .words .now) (start (c .before .before) .args .counts .now) (start (c .before .before) .args .used) ≡ true
+passed c = sym (c .before .before .passes .ensures .0) ∙ not-false _ (c .if1 .left)
 
 ready : (c : tie.Else1) →
-    Ready (start (c .before .before .before .before) .args .words .now) (start (c .before .before .before .before) .args .counts .now) (start (c .before .before .before .before) .args .used) (c .before .before .before .before .passes .last .1 .1 .1 .0) (c .before .before .before .before .passes .last .1 .1 .1 .1 .0)
-    (c .before .before .before .before .passes .last .1 .1 .1 .1 .1 .0) (c .before .before .before .before .passes .last .1 .1 .1 .1 .1 .1 .0)
-ready c = c .before .before .before .before .passes .ensures .1 (not-false _ (c .if1 .left))
+    Ready (start (c .before .before) .args .words .now) (start (c .before .before) .args .counts .now) (start (c .before .before) .args .used) (c .before .before .passes .last .1 .1 .1 .0)
+ready c = c .before .before .passes .ensures .1 (not-false _ (c .if1 .left))
 
-failed : (c : tie.Then1) → isPassed (start (c .before .before .before .before) .args .words .now) (start (c .before .before .before .before) .args .counts .now) (start (c .before .before .before .before) .args .used) ≡ false
-failed c = sym (c .before .before .before .before .passes .ensures .0) ∙ not-true _ (c .if1 .taken)
+failed : (c : tie.Then1) → isPassed (start (c .before .before) .args .words .now) (start (c .before .before) .args .counts .now) (start (c .before .before) .args .used) ≡ false
+failed c = sym (c .before .before .passes .ensures .0) ∙ not-true _ (c .if1 .taken)
 
 slice-aggregate-passes : tie.Need-slice-aggregate-passes
 slice-aggregate-passes c = search needs
-
-slice-aggregate-passes-2 : tie.Need-slice-aggregate-passes-2
-slice-aggregate-passes-2 c = search needs
-
-slice-aggregate-passes-3 : tie.Need-slice-aggregate-passes-3
-slice-aggregate-passes-3 c = search needs
 
 passes-requires : tie.Need-passes-requires
 passes-requires c κs = search needs
 
 returns : tie.Need-returns
-returns c = number-not _ (isPassed (start (c .before .before .before .before) .args .words .now) (start (c .before .before .before .before) .args .counts .now) (start (c .before .before .before .before) .args .used)) (failed c)
+returns c = number-not _ (isPassed (start (c .before .before) .args .words .now) (start (c .before .before) .args .counts .now) (start (c .before .before) .args .used)) (failed c)
 
 slice-aggregate-find : tie.Need-slice-aggregate-find
 slice-aggregate-find c = search needs
 
-slice-aggregate-find-2 : tie.Need-slice-aggregate-find-2
-slice-aggregate-find-2 c = search needs
-
 find-requires : tie.Need-find-requires
-find-requires c κs = ready (c .before .before .before) .finding
+find-requires c κs = ready (c .before) .finding
 
 returns-2 : tie.Need-returns-2
 returns-2 c =
-    let d = c .before .before .before .before in
-    let s = start (d .before .before .before .before) in
+    let d = c .before .before in
+    let s = start (d .before .before) in
     number-so _ (isPassed (s .args .words .now) (s .args .counts .now) (s .args .used)) (passed d) (c .find .result .0) (c .find .ensures)
 
 pub probe-find-spec : {M : Type 1} → statement M
@@ -59,11 +49,8 @@ probe-find-spec =
     tie.close
     (tie.spec
     slice-aggregate-passes
-    slice-aggregate-passes-2
-    slice-aggregate-passes-3
     passes-requires
     returns
     slice-aggregate-find
-    slice-aggregate-find-2
     find-requires
     returns-2)

@@ -14,38 +14,31 @@ use Rattle.probe.proofs.probe_known.Tie as tie
 
 -- T1 and its marks, past the test
 abbrev start : tie.After-passes → tie.Start
-start c = c .before .before .before .before .before .before .before .before
+start c = c .before .before .before .before .before
 
-passed : (c : tie.Else1) → isPassed (start (c .before .before .before .before) .args .words .now) (start (c .before .before .before .before) .args .counts .now) (start (c .before .before .before .before) .args .used) ≡ true
-passed c = sym (c .before .before .before .before .passes .ensures .0) ∙ not-false _ (c .if1 .left)
+passed : (c : tie.Else1) → isPassed (start (c .before .before) .args .words .now) (start (c .before .before) .args .counts .now) (start (c .before .before) .args .used) ≡ true
+passed c = sym (c .before .before .passes .ensures .0) ∙ not-false _ (c .if1 .left)
 
 ready : (c : tie.Else1) →
-    Ready (start (c .before .before .before .before) .args .words .now) (start (c .before .before .before .before) .args .counts .now) (start (c .before .before .before .before) .args .used) (c .before .before .before .before .passes .last .1 .1 .1 .0) (c .before .before .before .before .passes .last .1 .1 .1 .1 .0)
-    (c .before .before .before .before .passes .last .1 .1 .1 .1 .1 .0) (c .before .before .before .before .passes .last .1 .1 .1 .1 .1 .1 .0)
-ready c = c .before .before .before .before .passes .ensures .1 (not-false _ (c .if1 .left))
+    Ready (start (c .before .before) .args .words .now) (start (c .before .before) .args .counts .now) (start (c .before .before) .args .used) (c .before .before .passes .last .1 .1 .1 .0)
+ready c = c .before .before .passes .ensures .1 (not-false _ (c .if1 .left))
 
-failed : (c : tie.Then1) → isPassed (start (c .before .before .before .before) .args .words .now) (start (c .before .before .before .before) .args .counts .now) (start (c .before .before .before .before) .args .used) ≡ false
-failed c = sym (c .before .before .before .before .passes .ensures .0) ∙ not-true _ (c .if1 .taken)
+failed : (c : tie.Then1) → isPassed (start (c .before .before) .args .words .now) (start (c .before .before) .args .counts .now) (start (c .before .before) .args .used) ≡ false
+failed c = sym (c .before .before .passes .ensures .0) ∙ not-true _ (c .if1 .taken)
 
 -- the record, past its test
-faultless : (c : tie.Else2) → recordFault (start (c .before .before .before .before .before .before) .args .counts .now) (start (c .before .before .before .before .before .before) .args .symbols .now) ≡ 0
+faultless : (c : tie.Else2) → recordFault (start (c .before .before .before .before) .args .counts .now) (start (c .before .before .before .before) .args .symbols .now) ≡ 0
 faultless c = sym (c .before .record-fault .ensures) ∙ c .if2 .left
 
 slice-aggregate-passes : tie.Need-slice-aggregate-passes
 slice-aggregate-passes c = search needs
-
-slice-aggregate-passes-2 : tie.Need-slice-aggregate-passes-2
-slice-aggregate-passes-2 c = search needs
-
-slice-aggregate-passes-3 : tie.Need-slice-aggregate-passes-3
-slice-aggregate-passes-3 c = search needs
 
 passes-requires : tie.Need-passes-requires
 passes-requires c κs = search needs
 
 returns : tie.Need-returns
 returns c =
-    let s = start (c .before .before .before .before) in
+    let s = start (c .before .before) in
     number-before _ (isPassed (s .args .words .now) (s .args .counts .now) (s .args .used)) (isListed (s .args .counts .now) (s .args .symbols .now)) (failed c)
 
 record-fault-requires : tie.Need-record-fault-requires
@@ -54,32 +47,26 @@ record-fault-requires c κs = search needs
 returns-2 : tie.Need-returns-2
 returns-2 c =
     let d = c .before .before in
-    let s = start (d .before .before .before .before) in
+    let s = start (d .before .before) in
     number-between _ (isPassed (s .args .words .now) (s .args .counts .now) (s .args .used)) (isListed (s .args .counts .now) (s .args .symbols .now)) (passed d)
     (ne-eqb (recordFault (s .args .counts .now) (s .args .symbols .now)) 0 (λ e. c .if2 .taken (c .before .record-fault .ensures ∙ e)))
 
 slice-aggregate-known-row : tie.Need-slice-aggregate-known-row
 slice-aggregate-known-row c = search needs
 
-slice-aggregate-known-row-2 : tie.Need-slice-aggregate-known-row-2
-slice-aggregate-known-row-2 c = search needs
-
-slice-aggregate-known-row-3 : tie.Need-slice-aggregate-known-row-3
-slice-aggregate-known-row-3 c = search needs
-
 known-row-requires : tie.Need-known-row-requires
 known-row-requires c κs =
-    let e = c .before .before .before .before in
+    let e = c .before in
     let d = e .before .before in
-    let s = start (d .before .before .before .before) in
+    let s = start (d .before .before) in
     let p = recordFault-parses (s .args .counts .now) (s .args .symbols .now) (faultless e) in
     (ready d, p .0, p .2)
 
 returns-3 : tie.Need-returns-3
 returns-3 c =
-    let e = c .before .before .before .before .before in
+    let e = c .before .before in
     let d = e .before .before in
-    let s = start (d .before .before .before .before) in
+    let s = start (d .before .before) in
     number-behind _ (isPassed (s .args .words .now) (s .args .counts .now) (s .args .used)) (isListed (s .args .counts .now) (s .args .symbols .now)) (passed d)
     (eq-eqb (recordFault (s .args .counts .now) (s .args .symbols .now)) 0 (faultless e)) (c .known-row .result .0) (c .known-row .ensures)
 
@@ -88,14 +75,10 @@ probe-known-spec =
     tie.close
     (tie.spec
     slice-aggregate-passes
-    slice-aggregate-passes-2
-    slice-aggregate-passes-3
     passes-requires
     returns
     record-fault-requires
     returns-2
     slice-aggregate-known-row
-    slice-aggregate-known-row-2
-    slice-aggregate-known-row-3
     known-row-requires
     returns-3)

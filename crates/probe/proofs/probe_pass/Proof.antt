@@ -12,27 +12,20 @@ use Rattle.probe.proofs.probe_pass.Tie as tie
 
 -- T1 and its marks, past the test
 abbrev start : tie.After-passes → tie.Start
-start c = c .before .before .before .before .before .before .before .before
+start c = c .before .before .before .before .before
 
-passed : (c : tie.Else1) → isPassed (start (c .before .before .before .before) .args .words .now) (start (c .before .before .before .before) .args .counts .now) (start (c .before .before .before .before) .args .used) ≡ true
-passed c = sym (c .before .before .before .before .passes .ensures .0) ∙ not-false _ (c .if1 .left)
+passed : (c : tie.Else1) → isPassed (start (c .before .before) .args .words .now) (start (c .before .before) .args .counts .now) (start (c .before .before) .args .used) ≡ true
+passed c = sym (c .before .before .passes .ensures .0) ∙ not-false _ (c .if1 .left)
 
 ready : (c : tie.Else1) →
-    Ready (start (c .before .before .before .before) .args .words .now) (start (c .before .before .before .before) .args .counts .now) (start (c .before .before .before .before) .args .used) (c .before .before .before .before .passes .last .1 .1 .1 .0) (c .before .before .before .before .passes .last .1 .1 .1 .1 .0)
-    (c .before .before .before .before .passes .last .1 .1 .1 .1 .1 .0) (c .before .before .before .before .passes .last .1 .1 .1 .1 .1 .1 .0)
-ready c = c .before .before .before .before .passes .ensures .1 (not-false _ (c .if1 .left))
+    Ready (start (c .before .before) .args .words .now) (start (c .before .before) .args .counts .now) (start (c .before .before) .args .used) (c .before .before .passes .last .1 .1 .1 .0)
+ready c = c .before .before .passes .ensures .1 (not-false _ (c .if1 .left))
 
-failed : (c : tie.Then1) → isPassed (start (c .before .before .before .before) .args .words .now) (start (c .before .before .before .before) .args .counts .now) (start (c .before .before .before .before) .args .used) ≡ false
-failed c = sym (c .before .before .before .before .passes .ensures .0) ∙ not-true _ (c .if1 .taken)
+failed : (c : tie.Then1) → isPassed (start (c .before .before) .args .words .now) (start (c .before .before) .args .counts .now) (start (c .before .before) .args .used) ≡ false
+failed c = sym (c .before .before .passes .ensures .0) ∙ not-true _ (c .if1 .taken)
 
 slice-aggregate-passes : tie.Need-slice-aggregate-passes
 slice-aggregate-passes c = search needs
-
-slice-aggregate-passes-2 : tie.Need-slice-aggregate-passes-2
-slice-aggregate-passes-2 c = search needs
-
-slice-aggregate-passes-3 : tie.Need-slice-aggregate-passes-3
-slice-aggregate-passes-3 c = search needs
 
 passes-requires : tie.Need-passes-requires
 passes-requires c κs = search needs
@@ -50,7 +43,7 @@ show-requires : tie.Need-show-requires
 show-requires c κs =
     let e = c .before .before in
     let r = ready (e .before) in
-    (omega (arith, r .holes-long, r .finding .room), e .if2 .left)
+    (omega (arith, r .finding .roomy .long, r .finding .room), e .if2 .left)
 
 same-length : tie.Need-same-length
 same-length c = search needs
@@ -66,8 +59,6 @@ probe-pass-spec =
     tie.close
     (tie.spec
     slice-aggregate-passes
-    slice-aggregate-passes-2
-    slice-aggregate-passes-3
     passes-requires
     returns
     returns-2

@@ -11,27 +11,20 @@ use Rattle.probe.proofs.probe_store.Tie as tie
 
 -- T1 and its marks, past the test
 abbrev start : tie.After-passes → tie.Start
-start c = c .before .before .before .before .before .before .before .before .before
+start c = c .before .before .before .before .before .before
 
-passed : (c : tie.Else1) → isPassed (start (c .before .before .before .before) .args .words .now) (start (c .before .before .before .before) .args .counts .now) (start (c .before .before .before .before) .args .used) ≡ true
-passed c = sym (c .before .before .before .before .passes .ensures .0) ∙ not-false _ (c .if1 .left)
+passed : (c : tie.Else1) → isPassed (start (c .before .before) .args .words .now) (start (c .before .before) .args .counts .now) (start (c .before .before) .args .used) ≡ true
+passed c = sym (c .before .before .passes .ensures .0) ∙ not-false _ (c .if1 .left)
 
 ready : (c : tie.Else1) →
-    Ready (start (c .before .before .before .before) .args .words .now) (start (c .before .before .before .before) .args .counts .now) (start (c .before .before .before .before) .args .used) (c .before .before .before .before .passes .last .1 .1 .1 .0) (c .before .before .before .before .passes .last .1 .1 .1 .1 .0)
-    (c .before .before .before .before .passes .last .1 .1 .1 .1 .1 .0) (c .before .before .before .before .passes .last .1 .1 .1 .1 .1 .1 .0)
-ready c = c .before .before .before .before .passes .ensures .1 (not-false _ (c .if1 .left))
+    Ready (start (c .before .before) .args .words .now) (start (c .before .before) .args .counts .now) (start (c .before .before) .args .used) (c .before .before .passes .last .1 .1 .1 .0)
+ready c = c .before .before .passes .ensures .1 (not-false _ (c .if1 .left))
 
-failed : (c : tie.Then1) → isPassed (start (c .before .before .before .before) .args .words .now) (start (c .before .before .before .before) .args .counts .now) (start (c .before .before .before .before) .args .used) ≡ false
-failed c = sym (c .before .before .before .before .passes .ensures .0) ∙ not-true _ (c .if1 .taken)
+failed : (c : tie.Then1) → isPassed (start (c .before .before) .args .words .now) (start (c .before .before) .args .counts .now) (start (c .before .before) .args .used) ≡ false
+failed c = sym (c .before .before .passes .ensures .0) ∙ not-true _ (c .if1 .taken)
 
 slice-aggregate-passes : tie.Need-slice-aggregate-passes
 slice-aggregate-passes c = search needs
-
-slice-aggregate-passes-2 : tie.Need-slice-aggregate-passes-2
-slice-aggregate-passes-2 c = search needs
-
-slice-aggregate-passes-3 : tie.Need-slice-aggregate-passes-3
-slice-aggregate-passes-3 c = search needs
 
 passes-requires : tie.Need-passes-requires
 passes-requires c κs = search needs
@@ -45,29 +38,23 @@ same-length c = search needs
 returns : tie.Need-returns
 returns c =
     let d = c .before in
-    let s = start (d .before .before .before .before) in
+    let s = start (d .before .before) in
     stored-not (s .args .words .now) (s .args .counts .now) (s .args .used) (s .args .symbols .now) (c .refused .result) (failed d) (c .refused .ensures)
 
 slice-aggregate-stored : tie.Need-slice-aggregate-stored
 slice-aggregate-stored c = search needs
 
-slice-aggregate-stored-2 : tie.Need-slice-aggregate-stored-2
-slice-aggregate-stored-2 c = search needs
-
-slice-aggregate-stored-3 : tie.Need-slice-aggregate-stored-3
-slice-aggregate-stored-3 c = search needs
-
 stored-requires : tie.Need-stored-requires
-stored-requires c κs = ready (c .before .before .before .before .before)
+stored-requires c κs = ready (c .before .before)
 
 same-length-2 : tie.Need-same-length-2
 same-length-2 c = search needs
 
 returns-2 : tie.Need-returns-2
 returns-2 c =
-    let f = c .before .before .before .before .before in
-    let d = f .before .before .before .before .before .before in
-    let s = start (d .before .before .before .before) in
+    let f = c .before .before .before in
+    let d = f .before .before .before in
+    let s = start (d .before .before) in
     stored-passed (s .args .words .now) (s .args .counts .now) (s .args .used) (s .args .symbols .now) (f .stored .result) (f .stored .last .0) (passed d) (f .stored .ensures)
 
 pub probe-store-spec : {M : Type 1} → statement M
@@ -75,15 +62,11 @@ probe-store-spec =
     tie.close
     (tie.spec
     slice-aggregate-passes
-    slice-aggregate-passes-2
-    slice-aggregate-passes-3
     passes-requires
     refused-requires
     same-length
     returns
     slice-aggregate-stored
-    slice-aggregate-stored-2
-    slice-aggregate-stored-3
     stored-requires
     same-length-2
     returns-2)

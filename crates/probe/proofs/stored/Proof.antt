@@ -8,7 +8,7 @@ use Rattle.probe.proofs.stored.Statement.{statement}
 use Rattle.probe.proofs.stored.Tie as tie
 
 abbrev start : tie.After-record-fault → tie.Start
-start c = c .before .before .before .before .before .before .before
+start c = c .before .before .before .before .before
 
 -- past the test
 faultless : (c : tie.Else1) → recordFault (start (c .before) .args .counts .now) (start (c .before) .args .symbols .now) ≡ 0
@@ -28,7 +28,7 @@ returns c =
 
 store-requires : tie.Need-store-requires
 store-requires c κs =
-    let d = c .before .before .before .before in
+    let d = c .before .before in
     let s = start (d .before) in
     let p = recordFault-parses (s .args .counts .now) (s .args .symbols .now) (faultless d) in
     (s .pre, p .0, p .2)
@@ -42,16 +42,10 @@ same-length c = search needs
 same-length-2 : tie.Need-same-length-2
 same-length-2 c = search needs
 
-same-length-3 : tie.Need-same-length-3
-same-length-3 c = search needs
-
-same-length-4 : tie.Need-same-length-4
-same-length-4 c = search needs
-
 returns-2 : tie.Need-returns-2
 returns-2 c =
-    let f = c .before .before .before .before .before .before .before .before .before in
-    let d = f .before .before .before .before .before in
+    let f = c .before .before .before .before .before in
+    let d = f .before .before .before in
     let s = start (d .before) in
     stored-law (s .args .words .now) (s .args .counts .now) (s .args .used) (s .args .symbols .now) (faultless d) (c .reply-of .ensures) (record { came = f .store .ensures })
 
@@ -66,6 +60,4 @@ stored-spec =
     reply-of-requires
     same-length
     same-length-2
-    same-length-3
-    same-length-4
     returns-2)

@@ -36,8 +36,8 @@ and-false : (a : Bool) → a && false ≡ false
 and-false true = refl
 and-false false = refl
 
-module _ {ws ns : List ℕ} {u : ℕ} {s : List ℕ} {q : ℕ} {t : List ℕ} {n : ℕ} {c : List ℕ} {m : ℕ} {holes head next mix table places reps : List ℕ} (a : Arrays s q t n c m)
-    (w : Working ws ns u s q t n c m holes head next mix table places reps) where
+module _ {ws ns : List ℕ} {u : ℕ} {s : List ℕ} {q : ℕ} {t : List ℕ} {n : ℕ} {c : List ℕ} {m : ℕ} {index table places reps : List ℕ} (a : Arrays s q t n c m)
+    (w : Working ws ns u s q t n c m index table places reps) where
   long-s : length (take q s) ≡ q
   long-s = length-take-le q s (omega (arith, a .s-long, a .few-s))
 
@@ -77,12 +77,12 @@ module _ {ws ns : List ℕ} {u : ℕ} {s : List ℕ} {q : ℕ} {t : List ℕ} {n
       λ i. few-is h o z b e i && ((d i && y i) && (e i || f i))
 
   -- T8
-  pub question-is : (h o z : ℕ) (b : Bool) → b ≡ isMissing (given ws ns u s q t n c m h o (eqb z 1)) → questionFits ws holes u h o z b ≡ isT8 (given ws ns u s q t n c m h o (eqb z 1))
-  question-is h o z b e = go (recordBy holes u o) refl
+  pub question-is : (h o z : ℕ) (b : Bool) → b ≡ isMissing (given ws ns u s q t n c m h o (eqb z 1)) → questionFits ws index u h o z b ≡ isT8 (given ws ns u s q t n c m h o (eqb z 1))
+  question-is h o z b e = go (recordBy index u o) refl
     where
-      go : (k : Bool) → recordBy holes u o ≡ k → questionFits ws holes u h o z b ≡ isT8 (given ws ns u s q t n c m h o (eqb z 1))
+      go : (k : Bool) → recordBy index u o ≡ k → questionFits ws index u h o z b ≡ isT8 (given ws ns u s q t n c m h o (eqb z 1))
       go true r =
-          let l = ltb-true o u (and-left (ltb o u) (not (holeBy holes o)) r) in
+          let l = ltb-true o u (and-left (ltb o u) (not (holeBy index o)) r) in
           let v = answer-in u o ws l in
           (λ i. cond (eqb o 0) (eqb h 0 && not (e i)) (record-ready (w .ready) o i && (eqb (sym v i) 0 && not (eqb z 1)))) ∙
           ap (cond (eqb o 0) (eqb h 0 && not (isMissing (given ws ns u s q t n c m h o (eqb z 1))))) (and-assoc (isRecord (storeOf ws ns u) o) (eqb (answerAt (answersIn u ws) o) 0) (not (eqb z 1)))
@@ -118,16 +118,16 @@ module _ {ws ns : List ℕ} {u : ℕ} {s : List ℕ} {q : ℕ} {t : List ℕ} {n
     abbrev verdict : Bool → Bool
     verdict y = eqb h 0 || y
 
-    pub hand-is : (b : Bool) → b ≡ isMissing (given ws ns u s q t n c m h o z) → handFits ws ns u s q t n reps holes h b ≡ isT7 (given ws ns u s q t n c m h o z)
+    pub hand-is : (b : Bool) → b ≡ isMissing (given ws ns u s q t n c m h o z) → handFits ws ns u s q t n reps index h b ≡ isT7 (given ws ns u s q t n c m h o z)
     hand-is true e =
-        ap (λ (y : Bool). verdict (recordBy holes u h && y)) (and-false (eqb (answerIn ws h) (cond (acceptsRow (hypothesis ws ns u s q t n reps) (storeOf ws ns u) h) 1 2))) ∙
-        ap verdict (and-false (recordBy holes u h)) ∙
+        ap (λ (y : Bool). verdict (recordBy index u h && y)) (and-false (eqb (answerIn ws h) (cond (acceptsRow (hypothesis ws ns u s q t n reps) (storeOf ws ns u) h) 1 2))) ∙
+        ap verdict (and-false (recordBy index u h)) ∙
         sym (ap (λ (y : Bool). verdict ((isRecord (storeOf ws ns u) h && verdictDiffers X h) && not y)) (sym e) ∙ ap verdict (and-false (isRecord (storeOf ws ns u) h && verdictDiffers X h)))
-    hand-is false e = go (recordBy holes u h) refl
+    hand-is false e = go (recordBy index u h) refl
       where
-        go : (k : Bool) → recordBy holes u h ≡ k → handFits ws ns u s q t n reps holes h false ≡ isT7 (given ws ns u s q t n c m h o z)
+        go : (k : Bool) → recordBy index u h ≡ k → handFits ws ns u s q t n reps index h false ≡ isT7 (given ws ns u s q t n c m h o z)
         go true r =
-            let l = ltb-true h u (and-left (ltb h u) (not (holeBy holes h)) r) in
+            let l = ltb-true h u (and-left (ltb h u) (not (holeBy index h)) r) in
             let v = answer-in u h ws l in
             (λ i. verdict (record-ready (w .ready) h i && (eqb (sym v i) (cond (acceptsRow (hypothesis-is (sym e) i) (storeOf ws ns u) h) 1 2) && not (e i)))) ∙
             ap verdict (and-assoc (isRecord (storeOf ws ns u) h) (verdictDiffers X h) (not (isMissing X)))

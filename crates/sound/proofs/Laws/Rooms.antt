@@ -7,8 +7,8 @@ use native.Mathlib.Omega.{arith}
 use lib.ListN.{length}
 use Rattle.model.specs.Limits.{rowWidth, mostRows, mostContexts, mostStates}
 use Rattle.model.specs.Entry.{sizeFits}
-use Rattle.bank.specs.Index.{mostBuckets}
 use Rattle.model.proofs.Laws.Lent.{sizeFits-facts}
+use Rattle.bank.specs.Index.{indexWidth}
 use Rattle.sound.specs.Working.{Room}
 
 -- the words of all rows, and no more, are lent
@@ -16,13 +16,12 @@ pub words-few : (ws : List ℕ) → sizeFits ws ≡ true → length ws ≤ rowWi
 words-few ws e = let w = sizeFits-facts ws e in omega (arith, w .whole, w .most)
 
 -- arrays for k rows
-pub room-for : {ws : List ℕ} {n : ℕ} {holes head next mix table places reps : List ℕ} (k : ℕ) → length ws ≤ rowWidth * k → length holes ≡ k → 0 < length head → length head ≤ mostBuckets →
-    length next ≡ k → length mix ≡ 5 → mostContexts * n ≤ length table → length places ≡ mostStates → length reps ≡ k → Room ws n holes head next mix table places reps
-room-for k l a b c d e f g h =
+pub room-for : {ws : List ℕ} {n : ℕ} {index table places reps : List ℕ} (k : ℕ) → length ws ≤ rowWidth * k → 0 < k → k ≤ mostRows → length index ≡ indexWidth * k → mostContexts * n ≤ length table →
+    length places ≡ mostStates → length reps ≡ k → Room ws n index table places reps
+room-for k l a b c d e f =
     record {
-      rows = record { holes-long = omega arith; some-heads = b; few-heads = c; next-long = omega arith };
-      mix-long = e;
-      table-long = f;
-      places-long = g;
+      rows = record { some = omega arith; few = omega arith; long = omega arith };
+      table-long = d;
+      places-long = e;
       reps-long = omega arith;
     }

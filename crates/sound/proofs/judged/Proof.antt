@@ -24,12 +24,12 @@ table : (s : tie.Start) → tableFits (s .args .table .now) (s .args .places .no
 table s = table-is (s .pre .0) (s .pre .1) (s .args .standing .hand) (s .args .standing .asked) (eqb (s .args .standing .accepted) 1) (s .args .missing) (missing s)
 
 -- past T4 to T6, and past T7
-table-true : (c : tie.Else1) → contextsFew (judging (c .before .before .before .before .before .before .before .before .before)) && (isT5 (judging (c .before .before .before .before .before .before .before .before .before)) && isT6 (judging (c .before .before .before .before .before .before .before .before .before))) ≡ true
-table-true c = sym (table (c .before .before .before .before .before .before .before .before .before)) ∙ sym (c .before .table-fits .ensures) ∙ not-false (c .before .table-fits .result) (c .if1 .left)
+table-true : (c : tie.Else1) → contextsFew (judging (c .before .before .before .before .before .before .before)) && (isT5 (judging (c .before .before .before .before .before .before .before)) && isT6 (judging (c .before .before .before .before .before .before .before))) ≡ true
+table-true c = sym (table (c .before .before .before .before .before .before .before)) ∙ sym (c .before .table-fits .ensures) ∙ not-false (c .before .table-fits .result) (c .if1 .left)
 
-hand-true : (c : tie.Else2) → isT7 (judging (c .before .before .before .before .before .before .before .before .before .before .before)) ≡ true
+hand-true : (c : tie.Else2) → isT7 (judging (c .before .before .before .before .before .before .before .before .before)) ≡ true
 hand-true c =
-    let s = c .before .before .before .before .before .before .before .before .before .before .before in
+    let s = c .before .before .before .before .before .before .before .before .before in
     sym (hand-is (s .pre .0) (s .pre .1) (s .pre .2) (s .args .standing .hand) (s .args .standing .asked) (eqb (s .args .standing .accepted) 1) (table-true (c .before .before)) (s .args .missing) (missing s)) ∙
     sym (c .before .hand-fits .ensures) ∙ not-false (c .before .hand-fits .result) (c .if2 .left)
 
@@ -37,25 +37,25 @@ table-fits-requires : tie.Need-table-fits-requires
 table-fits-requires c κs = search needs
 
 returns : tie.Need-returns
-returns c = stops _ _ (sym (table (c .before .before .before .before .before .before .before .before .before)) ∙ sym (c .before .table-fits .ensures) ∙ not-true (c .before .table-fits .result) (c .if1 .taken))
+returns c = stops _ _ (sym (table (c .before .before .before .before .before .before .before)) ∙ sym (c .before .table-fits .ensures) ∙ not-true (c .before .table-fits .result) (c .if1 .taken))
 
 hand-fits-requires : tie.Need-hand-fits-requires
 hand-fits-requires c κs =
-    let s = c .before .before .before .before .before .before .before .before .before in
+    let s = c .before .before .before .before .before .before .before in
     (s .pre .1 .ready, λ e. ruled (s .pre .0) (s .pre .1) (s .pre .2) (s .args .standing .hand) (s .args .standing .asked) (eqb (s .args .standing .accepted) 1) (table-true c) (sym (missing s) ∙ e))
 
 returns-2 : tie.Need-returns-2
 returns-2 c =
-    let s = c .before .before .before .before .before .before .before .before .before .before .before in
+    let s = c .before .before .before .before .before .before .before .before .before in
     let t = table-true (c .before .before) in
     stops _ _ (sym (hand-is (s .pre .0) (s .pre .1) (s .pre .2) (s .args .standing .hand) (s .args .standing .asked) (eqb (s .args .standing .accepted) 1) t (s .args .missing) (missing s)) ∙ sym (c .before .hand-fits .ensures) ∙ not-true (c .before .hand-fits .result) (c .if2 .taken)) ∙ goes-on _ _ t
 
 question-fits-requires : tie.Need-question-fits-requires
-question-fits-requires c κs = let r = c .before .before .before .before .before .before .before .before .before .before .before .pre .1 .ready in (omega (arith, r .holes-long, r .finding .room), r .finding .room)
+question-fits-requires c κs = let r = c .before .before .before .before .before .before .before .before .before .pre .1 .ready in (omega (arith, r .finding .roomy .long, r .finding .room), r .finding .room)
 
 returns-3 : tie.Need-returns-3
 returns-3 c =
-    let s = c .before .before .before .before .before .before .before .before .before .before .before .before in
+    let s = c .before .before .before .before .before .before .before .before .before .before in
     c .question-fits .ensures ∙ question-is (s .pre .0) (s .pre .1) (s .args .standing .hand) (s .args .standing .asked) (s .args .standing .accepted) (s .args .missing) (missing s) ∙ goes-on _ _ (hand-true (c .before)) ∙ goes-on _ _ (table-true (c .before .before .before))
 
 pub judged-spec : {M : Type 1} → statement M

@@ -15,66 +15,48 @@ t1-requires c κs = search needs
 same-length : tie.Need-same-length
 same-length c = search needs
 
-same-length-2 : tie.Need-same-length-2
-same-length-2 c = search needs
-
-same-length-3 : tie.Need-same-length-3
-same-length-3 c = search needs
-
 returns : tie.Need-returns
-returns c = (stops _ _ (sym (c .before .before .before .before .before .before .before .t1 .ensures .0) ∙ not-true (c .before .before .before .before .before .before .before .t1 .result) (c .if1 .taken)), λ e. absurd (true≢false (sym e)))
+returns c = (stops _ _ (sym (c .before .before .before .t1 .ensures .0) ∙ not-true (c .before .before .before .t1 .result) (c .if1 .taken)), λ e. absurd (true≢false (sym e)))
 
 roles-fit-requires : tie.Need-roles-fit-requires
 roles-fit-requires c κs =
-    let a = c .before .before .before .before .before .before .before .before .before .before .before .before .before .before .before .before .before .before .before .before .before .before .pre .1 in
-    (c .before .before .before .before .before .before .before .before .before .before .before .t1 .ensures .1 (not-false (c .before .before .before .before .before .before .before .before .before .before .before .t1 .result) (c .before .before .before .before .if1 .left)), a .s-long, a .few-s, a .t-long, a .few-t, a .c-long, a .few-c)
+    let a = c .before .before .before .before .before .before .before .before .before .before .pre .1 in
+    (c .before .before .before .before .t1 .ensures .1 (not-false (c .before .before .before .before .t1 .result) (c .before .if1 .left)), a .s-long, a .few-s, a .t-long, a .few-t, a .c-long, a .few-c)
 
-same-length-4 : tie.Need-same-length-4
-same-length-4 c = search needs
-
-same-length-5 : tie.Need-same-length-5
-same-length-5 c = search needs
-
-same-length-6 : tie.Need-same-length-6
-same-length-6 c = search needs
+same-length-2 : tie.Need-same-length-2
+same-length-2 c = search needs
 
 returns-2 : tie.Need-returns-2
 returns-2 c =
-    (sym (sym (c .before .roles-fit .ensures) ∙ not-true (c .before .roles-fit .result) (c .if2 .taken)) ∙ goes-on _ _ (sym (c .before .before .before .before .before .before .before .before .before .before .before .before .before .t1 .ensures .0) ∙ not-false (c .before .before .before .before .before .before .before .before .before .before .before .before .before .t1 .result) (c .before .before .before .before .before .before .if1 .left)), λ e. absurd (true≢false (sym e)))
+    (sym (sym (c .before .roles-fit .ensures) ∙ not-true (c .before .roles-fit .result) (c .if2 .taken)) ∙ goes-on _ _ (sym (c .before .before .before .before .before .before .t1 .ensures .0) ∙ not-false (c .before .before .before .before .before .before .t1 .result) (c .before .before .before .if1 .left)), λ e. absurd (true≢false (sym e)))
 
 observe-requires : tie.Need-observe-requires
 observe-requires c κs =
-    let s = c .before .before .before .before .before .before .before .before .before .before .before .before .before .before .before .before .before .before .before .before .before .before .before .before .before .before .before .before .before in
+    let s = c .before .before .before .before .before .before .before .before .before .before .before .before .before .before in
     let a = s .pre .1 in
-    let o = not-false (c .before .before .before .before .before .before .before .before .before .before .before .before .before .before .before .before .before .before .t1 .result) (c .before .before .before .before .before .before .before .before .before .before .before .if1 .left) in
-    let f = sym (c .before .before .before .before .before .before .roles-fit .ensures) ∙ not-false (c .before .before .before .before .before .before .roles-fit .result) (c .before .before .before .before .before .if2 .left) in (
-      c .before .before .before .before .before .before .before .before .before .before .before .before .before .before .before .before .before .before .t1 .ensures .1 o,
-      t1-answered (s .args .words .now) (s .args .counts .now) (s .args .used) (s .args .s .now) (s .args .states) (s .args .t .now) (s .args .rules) (s .args .c .now) (s .args .contexts) (sym (c .before .before .before .before .before .before .before .before .before .before .before .before .before .before .before .before .before .before .t1 .ensures .0) ∙ o),
+    let o = not-false (c .before .before .before .before .before .before .before .before .t1 .result) (c .before .before .before .before .before .if1 .left) in
+    let f = sym (c .before .before .before .roles-fit .ensures) ∙ not-false (c .before .before .before .roles-fit .result) (c .before .before .if2 .left) in (
+      c .before .before .before .before .before .before .before .before .t1 .ensures .1 o,
+      t1-answered (s .args .words .now) (s .args .counts .now) (s .args .used) (s .args .s .now) (s .args .states) (s .args .t .now) (s .args .rules) (s .args .c .now) (s .args .contexts) (sym (c .before .before .before .before .before .before .before .before .t1 .ensures .0) ∙ o),
       t-used (s .args .words .now) (s .args .counts .now) (s .args .used) (s .args .s .now) (s .args .states) (s .args .t .now) (s .args .rules) (s .args .c .now) (s .args .contexts) a f,
       a .t-long,
       a .few-t,
       c-contexts (s .args .words .now) (s .args .counts .now) (s .args .used) (s .args .s .now) (s .args .states) (s .args .t .now) (s .args .rules) (s .args .c .now) (s .args .contexts) a f,
       a .c-long,
       a .few-c,
-      s .pre .4,
+      s .pre .3,
     )
 
-same-length-7 : tie.Need-same-length-7
-same-length-7 c = c .before .before .before .before .before .before .before .before .before .before .before .before .before .before .before .before .before .before .before .before .before .t1 .kept .1 .1 .1 .0
+same-length-3 : tie.Need-same-length-3
+same-length-3 c = search needs
 
-same-length-8 : tie.Need-same-length-8
-same-length-8 c = c .before .before .before .before .before .before .before .before .before .before .before .before .before .before .before .before .before .before .before .before .before .t1 .kept .1 .1 .1 .1 .0
-
-same-length-9 : tie.Need-same-length-9
-same-length-9 c = c .before .before .before .before .before .before .before .before .before .before .before .before .before .before .before .before .before .before .before .before .before .t1 .kept .1 .1 .1 .1 .1 .0
-
-same-length-10 : tie.Need-same-length-10
-same-length-10 c = search needs
+same-length-4 : tie.Need-same-length-4
+same-length-4 c = search needs
 
 returns-3 : tie.Need-returns-3
 returns-3 c =
-    let t = not-false (c .before .before .before .before .before .before .before .before .before .before .before .before .before .before .before .before .before .before .before .before .before .t1 .result) (c .before .before .before .before .before .before .before .before .before .before .before .before .before .before .if1 .left) in
-    (sym (true-both _ _ (sym (c .before .before .before .before .before .before .before .before .before .before .before .before .before .before .before .before .before .before .before .before .before .t1 .ensures .0) ∙ t) (sym (c .before .before .before .before .before .before .before .before .before .roles-fit .ensures) ∙ not-false (c .before .before .before .before .before .before .before .before .before .roles-fit .result) (c .before .before .before .before .before .before .before .before .if2 .left))), λ e. (c .before .before .before .before .before .before .before .before .before .before .before .before .before .before .before .before .before .before .before .before .before .t1 .ensures .1 t, c .before .before .observe .ensures))
+    let t = not-false (c .before .before .before .before .before .before .before .before .before .before .before .t1 .result) (c .before .before .before .before .before .before .before .before .if1 .left) in
+    (sym (true-both _ _ (sym (c .before .before .before .before .before .before .before .before .before .before .before .t1 .ensures .0) ∙ t) (sym (c .before .before .before .before .before .before .roles-fit .ensures) ∙ not-false (c .before .before .before .before .before .before .roles-fit .result) (c .before .before .before .before .before .if2 .left))), λ e. (c .before .before .before .before .before .before .before .before .before .before .before .t1 .ensures .1 t, c .before .before .observe .ensures))
 
 pub prepare-spec : {M : Type 1} → statement M
 prepare-spec =
@@ -82,17 +64,11 @@ prepare-spec =
     (tie.spec
     t1-requires
     same-length
-    same-length-2
-    same-length-3
     returns
     roles-fit-requires
-    same-length-4
-    same-length-5
-    same-length-6
+    same-length-2
     returns-2
     observe-requires
-    same-length-7
-    same-length-8
-    same-length-9
-    same-length-10
+    same-length-3
+    same-length-4
     returns-3)

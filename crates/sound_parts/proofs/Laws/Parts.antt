@@ -16,7 +16,7 @@ use Rattle.model.specs.Sound.{isT2, isT3, contextsFit}
 use Rattle.model.specs.Entry.{storeOf}
 use Rattle.model.proofs.Laws.Lists.{place-at, place-within, in-members, each-at, at-place}
 use Rattle.bank.specs.Rows.{answerIn}
-use Rattle.bank.proofs.Laws.Chains.{by-equal}
+use Rattle.bank.proofs.Laws.Trees.{by-equal}
 use Rattle.table.specs.Answers.{Placing, Placed}
 use Rattle.bank.specs.Ready.{Ready}
 use Rattle.sound_roles.specs.Marked.{recordBy, contextsFitBy}
@@ -38,23 +38,23 @@ pub few-some : (q n m : ℕ) (b : Bool) → b ≡ false → (q + n ≡ 0 → ⊥
 few-some q n m b e z = rw (e, ne-eqb (q + n) 0 z)
 
 -- T8
-module _ (ws hs : List ℕ) (u h o z : ℕ) (b : Bool) where
+module _ (ws ix : List ℕ) (u h o z : ℕ) (b : Bool) where
   module _ (e : o ≡ 0) where
-    pub hand-idle : (h ≡ 0 → ⊥) → false ≡ questionFits ws hs u h o z b
+    pub hand-idle : (h ≡ 0 → ⊥) → false ≡ questionFits ws ix u h o z b
     hand-idle n = rw (eq-eqb o 0 e, ne-eqb h 0 n)
 
-    pub none-open : h ≡ 0 → not b ≡ questionFits ws hs u h o z b
+    pub none-open : h ≡ 0 → not b ≡ questionFits ws ix u h o z b
     none-open n = rw (eq-eqb o 0 e, eq-eqb h 0 n)
 
   module _ (e : o ≡ 0 → ⊥) where
-    pub no-question : recordBy hs u o ≡ false → false ≡ questionFits ws hs u h o z b
+    pub no-question : recordBy ix u o ≡ false → false ≡ questionFits ws ix u h o z b
     no-question r = rw (r, ne-eqb o 0 e)
 
-    module _ (r : recordBy hs u o ≡ true) where
-      pub known-question : (answerIn ws o ≡ 0 → ⊥) → false ≡ questionFits ws hs u h o z b
+    module _ (r : recordBy ix u o ≡ true) where
+      pub known-question : (answerIn ws o ≡ 0 → ⊥) → false ≡ questionFits ws ix u h o z b
       known-question v = rw (r, ne-eqb o 0 e, ne-eqb (answerIn ws o) 0 v)
 
-      pub open-question : answerIn ws o ≡ 0 → not (eqb z 1) ≡ questionFits ws hs u h o z b
+      pub open-question : answerIn ws o ≡ 0 → not (eqb z 1) ≡ questionFits ws ix u h o z b
       open-question v = rw (r, ne-eqb o 0 e, eq-eqb (answerIn ws o) 0 v)
 
 -- T4's LAST CLAUSE, T5 AND T6, one after the other
@@ -78,7 +78,7 @@ module _ (few differ yes : Bool) (missing once : Bool) where
         once-decides m = rw (a, d, y, m)
 
 -- T2, T3 AND T4's FIRST CLAUSES of the tables given
-module _ {ws ns : List ℕ} {u : ℕ} {hs head next mix : List ℕ} (r : Ready ws ns u hs head next mix) (s : List ℕ) (q : ℕ) (t : List ℕ) (n : ℕ) (c : List ℕ) (m : ℕ)
+module _ {ws ns : List ℕ} {u : ℕ} {ix : List ℕ} (r : Ready ws ns u ix) (s : List ℕ) (q : ℕ) (t : List ℕ) (n : ℕ) (c : List ℕ) (m : ℕ)
     (a : q ≤ length s) (a' : q ≤ mostStates) (b : n ≤ length t) (b' : n ≤ mostRules) where
   pub t2-given : noRepeats (take n t) && (all (isRecord (storeOf ws ns u)) (take n t) && all (λ (i : ℕ). allAmong (kidsAt (storeOf ws ns u) i) (take q s)) (take n t)) ≡
       isT2 (given ws ns u s q t n c m 0 0 false)
@@ -90,10 +90,10 @@ module _ {ws ns : List ℕ} {u : ℕ} {hs head next mix : List ℕ} (r : Ready w
   pub t3-given : noRepeats (take q s) && allAmong (take q s) (take n t) ≡ isT3 (given ws ns u s q t n c m 0 0 false)
   t3-given = let e = length-take-le q s a in rw (le-leb (length (take q s)) mostStates (omega arith))
 
-  pub t4-given : contextsFitBy hs u (q + n) (take m c) ≡ contextsFit (given ws ns u s q t n c m 0 0 false)
+  pub t4-given : contextsFitBy ix u (q + n) (take m c) ≡ contextsFit (given ws ns u s q t n c m 0 0 false)
   t4-given =
       let e : q + n ≡ length (take q s) + length (take n t) = let d = length-take-le q s a in let f = length-take-le n t b in omega arith in
-      ap (λ (k : ℕ). contextsFitBy hs u k (take m c)) e ∙ contexts-fit-ready r (given ws ns u s q t n c m 0 0 false) refl
+      ap (λ (k : ℕ). contextsFitBy ix u k (take m c)) e ∙ contexts-fit-ready r (given ws ns u s q t n c m 0 0 false) refl
 
 -- PLACES of S in T, the first i of them found
 pub record Finding (s : List ℕ) (q : ℕ) (t : List ℕ) (n : ℕ) (places : List ℕ) (i : ℕ) : Type 0 where

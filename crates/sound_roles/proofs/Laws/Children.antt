@@ -28,7 +28,7 @@ unfolding all allAmong
 each-among [] s = refl
 each-among (k ∷ ks) s = ap (λ (b : Bool). among k s && b) (each-among ks s)
 
-module _ {ws ns : List ℕ} {n : ℕ} {hs head next mix : List ℕ} (r : Ready ws ns n hs head next mix) (i : ℕ) (l : i < n) where
+module _ {ws ns : List ℕ} {n : ℕ} {ix : List ℕ} (r : Ready ws ns n ix) (i : ℕ) (l : i < n) where
   u : i < used (storeOf ws ns n)
   u = omega (arith, used-of ws ns n)
 

@@ -17,11 +17,11 @@ first : (xs : List ℕ) → 0 < length xs → getD xs 0 1 ≡ getD xs 0 0
 first [] l = absurd (omega arith)
 first (x ∷ xs) l = refl
 
-module _ (hs : List ℕ) (u m : ℕ) (c : List ℕ) (n : ℕ) (h : n ≤ length c) where
+module _ (ix : List ℕ) (u m : ℕ) (c : List ℕ) (n : ℕ) (h : n ≤ length c) where
   long : length (take n c) ≡ n
   long = length-take-le n c h
 
-  pub no-contexts : n ≡ 0 → false ≡ contextsFitBy hs u m (take n c)
+  pub no-contexts : n ≡ 0 → false ≡ contextsFitBy ix u m (take n c)
   no-contexts e = rw (le-ltb 0 (length (take n c)) (let k = long in omega arith))
 
   module _ (l : 0 < n) where
@@ -31,19 +31,19 @@ module _ (hs : List ℕ) (u m : ℕ) (c : List ℕ) (n : ℕ) (h : n ≤ length 
     head-of : getD (take n c) 0 1 ≡ getD c 0 0
     head-of = getD-take n c 0 1 l ∙ first c (omega arith)
 
-    pub another-first : (getD c 0 0 ≡ 0 → ⊥) → false ≡ contextsFitBy hs u m (take n c)
+    pub another-first : (getD c 0 0 ≡ 0 → ⊥) → false ≡ contextsFitBy ix u m (take n c)
     another-first e = rw (some, ne-eqb (getD (take n c) 0 1) 0 (λ p. e (sym head-of ∙ p)))
 
     module _ (z : getD c 0 0 ≡ 0) where
       hole-first : eqb (getD (take n c) 0 1) 0 ≡ true
       hole-first = eq-eqb (getD (take n c) 0 1) 0 (head-of ∙ z)
 
-      pub not-contexts : contextsBy hs u (take n c) ≡ false → false ≡ contextsFitBy hs u m (take n c)
+      pub not-contexts : contextsBy ix u (take n c) ≡ false → false ≡ contextsFitBy ix u m (take n c)
       not-contexts e = rw (some, hole-first, e)
 
-      module _ (a : contextsBy hs u (take n c) ≡ true) where
-        pub repeated : noRepeats (take n c) ≡ false → false ≡ contextsFitBy hs u m (take n c)
+      module _ (a : contextsBy ix u (take n c) ≡ true) where
+        pub repeated : noRepeats (take n c) ≡ false → false ≡ contextsFitBy ix u m (take n c)
         repeated e = rw (some, hole-first, a, e)
 
-        pub few-decide : noRepeats (take n c) ≡ true → leb n (1 + m) ≡ contextsFitBy hs u m (take n c)
+        pub few-decide : noRepeats (take n c) ≡ true → leb n (1 + m) ≡ contextsFitBy ix u m (take n c)
         few-decide e = rw (some, hole-first, a, e) (ap (λ (k : ℕ). leb k (1 + m)) (sym long))

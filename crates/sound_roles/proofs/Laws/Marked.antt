@@ -22,25 +22,25 @@ use Rattle.bank.proofs.Laws.Words.{used-of}
 use Rattle.bank_t1.proofs.Laws.T1.{hole-ready}
 use Rattle.sound_roles.specs.Marked.{recordBy, contextBy, recordsBy, contextsBy, contextsFitBy}
 
-module _ {ws ns : List ℕ} {n : ℕ} {hs head next mix : List ℕ} (r : Ready ws ns n hs head next mix) where
+module _ {ws ns : List ℕ} {n : ℕ} {ix : List ℕ} (r : Ready ws ns n ix) where
   -- a test of a row's hole, behind the test that it is used
-  guarded : (f : Bool → Bool) (i : ℕ) → ltb i n && f (holeBy hs i) ≡ ltb i (used (storeOf ws ns n)) && f (hasHole (storeOf ws ns n) i)
+  guarded : (f : Bool → Bool) (i : ℕ) → ltb i n && f (holeBy ix i) ≡ ltb i (used (storeOf ws ns n)) && f (hasHole (storeOf ws ns n) i)
   guarded f i = go (ltb i n) refl ∙ ap (λ (m : ℕ). ltb i m && f (hasHole (storeOf ws ns n) i)) (sym (used-of ws ns n))
     where
-      go : (b : Bool) → ltb i n ≡ b → b && f (holeBy hs i) ≡ b && f (hasHole (storeOf ws ns n) i)
+      go : (b : Bool) → ltb i n ≡ b → b && f (holeBy ix i) ≡ b && f (hasHole (storeOf ws ns n) i)
       go true e = ap f (hole-ready r i (ltb-true i n e))
       go false e = refl
 
-  pub record-ready : (i : ℕ) → recordBy hs n i ≡ isRecord (storeOf ws ns n) i
+  pub record-ready : (i : ℕ) → recordBy ix n i ≡ isRecord (storeOf ws ns n) i
   record-ready = guarded not
 
-  pub context-ready : (i : ℕ) → contextBy hs n i ≡ isContext (storeOf ws ns n) i
+  pub context-ready : (i : ℕ) → contextBy ix n i ≡ isContext (storeOf ws ns n) i
   context-ready = guarded (λ (b : Bool). b)
 
-  pub records-ready : (rows : List ℕ) → recordsBy hs n rows ≡ all (isRecord (storeOf ws ns n)) rows
+  pub records-ready : (rows : List ℕ) → recordsBy ix n rows ≡ all (isRecord (storeOf ws ns n)) rows
   records-ready rows = λ i. all (λ (k : ℕ). record-ready k i) rows
 
-  pub contexts-ready : (rows : List ℕ) → contextsBy hs n rows ≡ all (isContext (storeOf ws ns n)) rows
+  pub contexts-ready : (rows : List ℕ) → contextsBy ix n rows ≡ all (isContext (storeOf ws ns n)) rows
   contexts-ready rows = λ i. all (λ (k : ℕ). context-ready k i) rows
 
   -- the first m of a list that are records: each is a used row beyond row 0
@@ -51,5 +51,5 @@ module _ {ws ns : List ℕ} {n : ℕ} {hs head next mix : List ℕ} (r : Ready w
       let g = getD-take m t k 0 l in
       (omega (arith, a .some), omega (arith, a .within, used-of ws ns n))
 
-  pub contexts-fit-ready : (x : Tables) → x .store ≡ storeOf ws ns n → contextsFitBy hs n (size x) (x .c) ≡ contextsFit x
+  pub contexts-fit-ready : (x : Tables) → x .store ≡ storeOf ws ns n → contextsFitBy ix n (size x) (x .c) ≡ contextsFit x
   contexts-fit-ready x e = rw (contexts-ready (x .c), e) refl

@@ -28,10 +28,10 @@ cast-letters : tie.Need-cast-letters
 cast-letters c = search needs
 
 array-share-prefix-counts : tie.Need-array-share-prefix-counts
-array-share-prefix-counts c = letters (c .before .before .before .before .before .before .before .before .before .before .before .before .before)
+array-share-prefix-counts c = letters (c .before .before .before .before .before .before .before .before .before .before .before)
 
 slice-aggregate-find : tie.Need-slice-aggregate-find
-slice-aggregate-find c = letters-long (c .before .before .before .before .before .before .before .before .before .before .before .before .before .before)
+slice-aggregate-find c = letters-long (c .before .before .before .before .before .before .before .before .before .before .before .before)
 
 cast-find : tie.Need-cast-find
 cast-find c = search needs
@@ -44,7 +44,7 @@ cast-find-3 c = search needs
 
 find-requires : tie.Need-find-requires
 find-requires c κs =
-    let s : Start = c .before .before .before .before .before .before .before .before .before .before .before .before .before .before .before .before .before .before .before .before .before .before .before in
+    let s : Start = c .before .before .before .before .before .before .before .before .before .before .before .before .before .before .before .before .before .before .before .before .before in
     (s .pre .0 .ready, s .pre .1 .handling, s .pre .1 .fits, s .pre .2, s .pre .3, s .pre .4)
 
 same-length : tie.Need-same-length

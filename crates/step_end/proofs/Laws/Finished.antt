@@ -89,7 +89,7 @@ kept-length n xs {ys} e h = sym (ap length e ∙ length-take-le n xs h)
 pub kept-over : (n : ℕ) (xs : List ℕ) {ys : List ℕ} → ys ≡ take n xs → n ≤ length xs → xs ≡ over ys xs
 kept-over n xs {ys} e h = sym (ap (λ (zs : List ℕ). over zs xs) e ∙ over-take n xs h)
 
-module _ {ws : List ℕ} {l : Lists} {hs he ne mix : List ℕ} (p : Stepping ws l hs he ne mix) (a : Arrays l) where
+module _ {ws : List ℕ} {l : Lists} {ix : List ℕ} (p : Stepping ws l ix) (a : Arrays l) where
   pub few-letters : l .letters ≤ length (l .counts)
   few-letters = omega (arith, a .counts, listsFit-facts l (p .fit) .letters)
 

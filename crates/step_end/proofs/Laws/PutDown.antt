@@ -36,11 +36,11 @@ use Rattle.step_end.proofs.Laws.Lists.{kept-then, lists-twice, tables-l
 use Rattle.step_end.proofs.Laws.Finished.{Finished, finished-by, Arrays, Grows, Settles, settles-asking, settles-proposing, settles, kept-length, kept-over, few-letters, few-states, few-rules}
 
 -- ROWS RAN OUT
-pub put-none : (ws : List ℕ) (l : Lists) (fs : List Frame) (r : Stepped) {us hs he ne m : List ℕ} → Comes ws (countsIn l) (l .used) (fill (tablesOf ws l .store) fs 0) Grown.Full us hs he ne m →
+pub put-none : (ws : List ℕ) (l : Lists) (fs : List Frame) (r : Stepped) {us ix : List ℕ} → Comes ws (countsIn l) (l .used) (fill (tablesOf ws l .store) fs 0) Grown.Full us ix →
     r .number ≡ 34 → Finished ws l (putDown (tablesOf ws l) fs) r us
-put-none ws l fs r {us} {hs} {he} {ne} {m} c e = go (fill (tablesOf ws l .store) fs 0) c
+put-none ws l fs r {us} {ix} c e = go (fill (tablesOf ws l .store) fs 0) c
   where
-    go : (b : Built) → Comes ws (countsIn l) (l .used) b Grown.Full us hs he ne m → Finished ws l (putBy (tablesOf ws l) b) r us
+    go : (b : Built) → Comes ws (countsIn l) (l .used) b Grown.Full us ix → Finished ws l (putBy (tablesOf ws l) b) r us
     go full d = record { ended = (e, d .came .1) }
     go (built j y) d = let p = d .came .0 in let z : _≡_ {A = ℕ} 0 1 = cc in absurd (omega arith)
 
@@ -70,8 +70,8 @@ more-in false i xs h = in-snoc xs h
 abbrev pub downTables : Tables → (context : ℕ) → Store → Tables
 downTables x c y = tables y (blanked (x .store) y (x .answers)) (x .s) (x .t) (contextsWith c (x .c)) 0 0 false
 
-module _ {ws : List ℕ} {l : Lists} {hs he ne mix : List ℕ} (p : Stepping ws l hs he ne mix) (a : Arrays l) (room : l .contexts < mostContexts) {fs : List Frame} {j n : ℕ} {us hs' he' ne' : List ℕ}
-    (d : Reached ws (countsIn l) (l .used) fs 0 j n us hs' he' ne' mix) where
+module _ {ws : List ℕ} {l : Lists} {ix : List ℕ} (p : Stepping ws l ix) (a : Arrays l) (room : l .contexts < mostContexts) {fs : List Frame} {j n : ℕ} {us ix' : List ℕ}
+    (d : Reached ws (countsIn l) (l .used) fs 0 j n us ix') where
   abbrev X : Tables
   X = tablesOf ws l
 
@@ -150,12 +150,12 @@ module _ {ws : List ℕ} {l : Lists} {hs he ne mix : List ℕ} (p : Stepping ws 
       let t = length-take-le (l .rules) (l .t) (few-rules p a) in
       listsFit-true (listsOf l Y) (listsOf-within l Y (omega (arith, f .letters)) (omega (arith, f .states)) (omega (arith, f .rules)) c)
 
-  pub stepping-after : (left : Lists) → left ≡ withContext l j n → Stepping us left hs' he' ne' mix
+  pub stepping-after : (left : Lists) → left ≡ withContext l j n → Stepping us left ix'
   stepping-after left e =
-      let r : Ready us (countsIn l) (used (d .y)) hs' he' ne' mix = subst (λ (k : ℕ). Ready us (countsIn l) k hs' he' ne' mix) (d .stands .count) (d .stands .ready) in
-      subst (λ (k : Lists). Stepping us k hs' he' ne' mix) (sym (e ∙ lists-after))
+      let r : Ready us (countsIn l) (used (d .y)) ix' = subst (λ (k : ℕ). Ready us (countsIn l) k ix') (d .stands .count) (d .stands .ready) in
+      subst (λ (k : Lists). Stepping us k ix') (sym (e ∙ lists-after))
       (record {
-        ready = subst (λ (ns : List ℕ). Ready us ns (used (d .y)) hs' he' ne' mix) (sym counts-after) r;
+        ready = subst (λ (ns : List ℕ). Ready us ns (used (d .y)) ix') (sym counts-after) r;
         orderly = subst Orderly (sym means-after) orderly-after;
         fit = fit-after;
       })

@@ -74,16 +74,16 @@ asking-is l g fit y e w h j n p =
 abbrev pub handed : (words : List ℕ) → Lists → (hand : ℕ) → Tables
 handed ws l h = tables (tablesOf ws l .store) (tablesOf ws l .answers) (tablesOf ws l .s) (tablesOf ws l .t) (tablesOf ws l .c) h 0 false
 
-module _ {ws : List ℕ} {l : Lists} {hs head next mix : List ℕ} (st : Stepping ws l hs head next mix) (long : Long l) (fs : List Frame)
-    (fits : Fits (tablesOf ws l .store) fs) (h rep : ℕ) (low : rep < l .used) {us hs' he ne : List ℕ} (r : Stepped) where
-  pub no-rows : Comes ws (countsIn l) (l .used) (fill (tablesOf ws l .store) fs rep) Grown.Full us hs' he ne mix → r .number ≡ 34 → Ends ws l (opened (handed ws l h) (fill (tablesOf ws l .store) fs rep)) r us
+module _ {ws : List ℕ} {l : Lists} {ix : List ℕ} (st : Stepping ws l ix) (long : Long l) (fs : List Frame)
+    (fits : Fits (tablesOf ws l .store) fs) (h rep : ℕ) (low : rep < l .used) {us ix' : List ℕ} (r : Stepped) where
+  pub no-rows : Comes ws (countsIn l) (l .used) (fill (tablesOf ws l .store) fs rep) Grown.Full us ix' → r .number ≡ 34 → Ends ws l (opened (handed ws l h) (fill (tablesOf ws l .store) fs rep)) r us
   no-rows d z = go (fill (tablesOf ws l .store) fs rep) d
     where
-      go : (b : Built) → Comes ws (countsIn l) (l .used) b Grown.Full us hs' he ne mix → Ends ws l (opened (handed ws l h) b) r us
+      go : (b : Built) → Comes ws (countsIn l) (l .used) b Grown.Full us ix' → Ends ws l (opened (handed ws l h) b) r us
       go full p = record { ended = (z, p .came .1) }
       go (built i y) p = absurd (let e = p .came .0 in let k : _≡_ {A = ℕ} 0 1 = cc in omega arith)
 
-  pub asks-filled : {j n : ℕ} → Comes ws (countsIn l) (l .used) (fill (tablesOf ws l .store) fs rep) (grownRow j n) us hs' he ne mix → r .number ≡ 0 → r .lists ≡ asking l h j n →
+  pub asks-filled : {j n : ℕ} → Comes ws (countsIn l) (l .used) (fill (tablesOf ws l .store) fs rep) (grownRow j n) us ix' → r .number ≡ 0 → r .lists ≡ asking l h j n →
       Ends ws l (opened (handed ws l h) (fill (tablesOf ws l .store) fs rep)) r us
   asks-filled {j} {n} d z e =
       let f = reached ws (countsIn l) (l .used) fs rep (st .ready .good) fits low d in
@@ -154,20 +154,20 @@ ended-ruled ws l i r us t n (asks y) (with-asks e) d = (d .0, d .1 ∙ lists-rul
 ended-ruled ws l i r us t n (proposes y) (with-proposes e) d = (d .0, d .1 ∙ lists-ruled l i y (omega (arith, ap length e)), d .2)
 
 -- WHAT PUTTING DOWN NEEDS, along a way down from a record
-pub record Putting (ws : List ℕ) (l : Lists) (hs head next mix ds : List ℕ) (h : ℕ) : Type 0 where
-  pub stepping : Stepping ws l hs head next mix
+pub record Putting (ws : List ℕ) (l : Lists) (ix ds : List ℕ) (h : ℕ) : Type 0 where
+  pub stepping : Stepping ws l ix
   pub room : l .contexts < mostContexts
   pub record-row : IsRecord (tablesOf ws l .store) h
   pub fits : Fits (tablesOf ws l .store) (pathOf ds (tablesOf ws l .store) h)
 
 -- ONE MORE TRANSITION
-module _ {ws : List ℕ} {l : Lists} {hs head next mix ds : List ℕ} {h : ℕ} (p : Putting ws l hs head next mix ds h) (long : length (l .t) ≡ mostRules) (room : l .rules < mostRules) (i : ℕ) where
+module _ {ws : List ℕ} {l : Lists} {ix ds : List ℕ} {h : ℕ} (p : Putting ws l ix ds h) (long : length (l .t) ≡ mostRules) (room : l .rules < mostRules) (i : ℕ) where
   appended : take (l .rules + 1) (set (l .t) (l .rules) i) ≡ take (l .rules) (l .t) ++ (i ∷ [])
   appended =
       let n : l .rules + 1 ≡ suc (l .rules) = omega arith in
       ap (λ (k : ℕ). take k (set (l .t) (l .rules) i)) n ∙ take-suc-set (l .t) (l .rules) i (omega arith)
 
-  ruled : IsRecord (tablesOf ws l .store) i → Putting ws (withRule l i) hs head next mix ds h
+  ruled : IsRecord (tablesOf ws l .store) i → Putting ws (withRule l i) ix ds h
   ruled z =
       let o = p .stepping .orderly in
       let f = listsFit-facts l (p .stepping .fit) in
@@ -213,8 +213,8 @@ module _ {ws : List ℕ} {l : Lists} {hs head next mix ds : List ℕ} {h : ℕ} 
 
   -- the same of lists that are these
   module _ {l' : Lists} (e : l' ≡ withRule l i) where
-    pub rule-putting : IsRecord (tablesOf ws l .store) i → Putting ws l' hs head next mix ds h
-    rule-putting z = subst (λ (k : Lists). Putting ws k hs head next mix ds h) (sym e) (ruled z)
+    pub rule-putting : IsRecord (tablesOf ws l .store) i → Putting ws l' ix ds h
+    rule-putting z = subst (λ (k : Lists). Putting ws k ix ds h) (sym e) (ruled z)
 
     pub rule-put : (r : Stepped) (us : List ℕ) → Ends ws l' (putDown (tablesOf ws l') (pathOf ds (tablesOf ws l' .store) h)) r us →
         Ends ws l (searched (tablesOf ws l) (atNewTransition h (record { row = i; around = pathOf ds (tablesOf ws l .store) h }))) r us

@@ -45,8 +45,8 @@ module _ {x : Store} {w s t cs : List ℕ} {h : ℕ} {p : Spot} where
   end-different (ends-different a o n m y d u v) = record { record-row = a .record-row; spot-row = o .record-row }
 
 -- THE END OF THE SEARCH
-pub record Ending (ws : List ℕ) (l : Lists) (hs head next mix reps ds at ex : List ℕ) (f : Found) : Type 0 where
-  pub stepping : Stepping ws l hs head next mix
+pub record Ending (ws : List ℕ) (l : Lists) (ix reps ds at ex : List ℕ) (f : Found) : Type 0 where
+  pub stepping : Stepping ws l ix
   pub hand : InHand ws l reps
   pub descended : Descended (tablesOf ws l .s) reps (tablesOf ws l .store) ds at ex (l .used)
   pub end : searchBy (tablesOf ws l .s) reps (tablesOf ws l .store) f ≡
@@ -63,7 +63,7 @@ pub record Held (ws : List ℕ) (l : Lists) (ds at : List ℕ) (h : ℕ) : Type 
   pub around : pathOf ds (tablesOf ws l .store) h ≡ spotOf (tablesOf ws l .s) (tablesOf ws l .store) h .around
   pub fits : Fits (tablesOf ws l .store) (pathOf ds (tablesOf ws l .store) h)
 
-module _ {ws : List ℕ} {l : Lists} {hs head next mix reps ds at ex : List ℕ} {f : Found} (q : Ending ws l hs head next mix reps ds at ex f) where
+module _ {ws : List ℕ} {l : Lists} {ix reps ds at ex : List ℕ} {f : Found} (q : Ending ws l ix reps ds at ex f) where
   ends-as : {g : Found} → f ≡ g → SearchEnd (tablesOf ws l .store) (tablesOf ws l .answers) (tablesOf ws l .s) (tablesOf ws l .t) (tablesOf ws l .c) (searchBy (tablesOf ws l .s) reps (tablesOf ws l .store) g)
   ends-as {g} e =
       let x : Tables = tablesOf ws l in

@@ -29,7 +29,7 @@ abbrev Filled : Type 0
 Filled = lts.After-fill (fill-reads.Asked, fill-reads.Learnt, short-reads.Asked, short-reads.Learnt, asking-reads.Asked, asking-reads.Learnt) reads.Pre reads.Post
 
 abbrev begun : Filled → Start
-begun c = c .before .before .before .before .before .before .before .before .before .before .before .before .before
+begun c = c .before .before .before .before .before .before .before .before .before
 
 long : (s : Start) → Long (s .args .lists)
 long s =
@@ -43,7 +43,7 @@ long s =
 came : (c : Filled) →
     Comes (begun c .args .words .now) (countsIn (begun c .args .lists)) (begun c .args .lists .used)
     (fill (tablesOf (begun c .args .words .now) (begun c .args .lists) .store) (pathOf (begun c .args .down .now) (tablesOf (begun c .args .words .now) (begun c .args .lists) .store) (begun c .args .hand .0)) (begun c .args .rep .0))
-    (c .fill .result) (c .fill .last .0) (c .fill .last .1 .1 .1 .0) (c .fill .last .1 .1 .1 .1 .0) (c .fill .last .1 .1 .1 .1 .1 .0) (begun c .args .mix .now)
+    (c .fill .result) (c .fill .last .0) (c .fill .last .1 .1 .1 .0)
 came c = record { came = c .fill .ensures }
 
 cast-letters : tie.Need-cast-letters
@@ -51,17 +51,17 @@ cast-letters c = search needs
 
 array-share-prefix-counts : tie.Need-array-share-prefix-counts
 array-share-prefix-counts c =
-    let s : Start = c .before .before .before .before .before .before .before .before in
+    let s : Start = c .before .before .before .before .before .before in
     omega (arith, long s .counts, listsFit-facts (s .args .lists) (s .pre .0 .fit) .letters)
 
 slice-aggregate-fill : tie.Need-slice-aggregate-fill
 slice-aggregate-fill c =
-    let s : Start = c .before .before .before .before .before .before .before .before .before in
+    let s : Start = c .before .before .before .before .before .before .before in
     sym (length-take-le (s .args .lists .letters) (s .args .lists .counts) (omega (arith, long s .counts, listsFit-facts (s .args .lists) (s .pre .0 .fit) .letters)))
 
 fill-requires : tie.Need-fill-requires
 fill-requires c κs =
-    let s : Start = c .before .before .before .before .before .before .before .before .before .before .before .before in
+    let s : Start = c .before .before .before .before .before .before .before .before in
     let l = s .args .lists in
     (s .pre .0 .ready, s .pre .1, omega (arith, s .pre .2 .within, used-of (s .args .words .now) (countsIn l) (l .used)), s .pre .3, s .pre .4)
 
@@ -83,33 +83,21 @@ same-length c = search needs
 same-length-2 : tie.Need-same-length-2
 same-length-2 c = search needs
 
+returns : tie.Need-returns
+returns c =
+    let f : Filled = c .before .before .before .before .before .before .before in
+    let s : Start = begun f in
+    no-rows (s .pre .0) (long s) _ (s .pre .4) (s .args .hand .0) (s .args .rep .0) (s .pre .3) (c .short .result) (comes-as (c .before .enum-told .given .1) (came f)) (c .short .ensures .0) .ended
+
 same-length-3 : tie.Need-same-length-3
 same-length-3 c = search needs
 
 same-length-4 : tie.Need-same-length-4
 same-length-4 c = search needs
 
-returns : tie.Need-returns
-returns c =
-    let f : Filled = c .before .before .before .before .before .before .before .before .before .before .before in
-    let s : Start = begun f in
-    no-rows (s .pre .0) (long s) _ (s .pre .4) (s .args .hand .0) (s .args .rep .0) (s .pre .3) (c .short .result) (comes-as (c .before .enum-told .given .1) (came f)) (c .short .ensures .0) .ended
-
-same-length-5 : tie.Need-same-length-5
-same-length-5 c = search needs
-
-same-length-6 : tie.Need-same-length-6
-same-length-6 c = search needs
-
-same-length-7 : tie.Need-same-length-7
-same-length-7 c = search needs
-
-same-length-8 : tie.Need-same-length-8
-same-length-8 c = search needs
-
 returns-2 : tie.Need-returns-2
 returns-2 c =
-    let f : Filled = c .before .before .before .before .before .before .before .before .before .before .before .before in
+    let f : Filled = c .before .before .before .before .before .before .before .before in
     let s : Start = begun f in
     asks-filled (s .pre .0) (long s) _ (s .pre .4) (s .args .hand .0) (s .args .rep .0) (s .pre .3) (record { number = 0; lists = c .asking .result }) (comes-as (c .before .before .row .given .1) (came f)) refl (c .asking .ensures) .ended
 
@@ -127,11 +115,7 @@ ask-exchanged-spec =
     asking-requires
     same-length
     same-length-2
+    returns
     same-length-3
     same-length-4
-    returns
-    same-length-5
-    same-length-6
-    same-length-7
-    same-length-8
     returns-2)

@@ -24,7 +24,7 @@ abbrev Ruled : Type 0
 Ruled = lts.After-with-rule (short-reads.Asked, short-reads.Learnt, with-rule-reads.Asked, with-rule-reads.Learnt, put-down-reads.Asked, put-down-reads.Learnt) reads.Pre reads.Post
 
 abbrev begun : Ruled → Start
-begun w = w .before .before .before .before .before .before .before .before .before
+begun w = w .before .before .before .before .before .before .before
 
 room : (s : Start) → (s .args .lists .rules ≡ mostRules → ⊥) → s .args .lists .rules < mostRules
 room s n = let f = listsFit-facts (s .args .lists) (s .pre .0 .fit) .rules in omega arith
@@ -32,7 +32,7 @@ room s n = let f = listsFit-facts (s .args .lists) (s .pre .0 .fit) .rules in om
 long : (s : Start) → length (s .args .lists .t) ≡ mostRules
 long s = search needs
 
-putting : (s : Start) → Putting (s .args .words .now) (s .args .lists) (s .args .holes .now) (s .args .head .now) (s .args .next .now) (s .args .mix .now) (s .args .down .now) (s .args .hand .0)
+putting : (s : Start) → Putting (s .args .words .now) (s .args .lists) (s .args .index .now) (s .args .down .now) (s .args .hand .0)
 putting s = record { stepping = s .pre .0; room = s .pre .3; record-row = s .pre .4; fits = s .pre .6 }
 
 cast-if1 : tie.Need-cast-if1
@@ -43,17 +43,17 @@ short-requires c κs = search needs
 
 returns : tie.Need-returns
 returns c =
-    let s : Start = c .before .before .before .before .before .before .before .before .before in
+    let s : Start = c .before .before .before .before .before .before .before in
     rules-full (s .args .words .now) (s .args .lists) (long s) (c .before .if1 .taken) (s .args .hand .0) _ (c .short .result) (c .short .ensures .0) .ended
 
 with-rule-requires : tie.Need-with-rule-requires
 with-rule-requires c κs =
-    let s : Start = c .before .before .before .before .before .before .before .before in
+    let s : Start = c .before .before .before .before .before .before in
     room s (c .if1 .left)
 
 put-down-requires : tie.Need-put-down-requires
 put-down-requires c κs =
-    let w : Ruled = c .before .before .before .before .before in
+    let w : Ruled = c .before .before .before in
     let s : Start = begun w in
     let p = rule-putting (putting s) (long s) (room s (w .before .if1 .left)) (s .args .spot .0) (w .with-rule .ensures) (s .pre .5) in
     let r = ap (λ (l : Lists). l .rules) (w .with-rule .ensures) in
@@ -69,17 +69,11 @@ same-length-2 c = search needs
 same-length-3 : tie.Need-same-length-3
 same-length-3 c = search needs
 
-same-length-4 : tie.Need-same-length-4
-same-length-4 c = search needs
-
-same-length-5 : tie.Need-same-length-5
-same-length-5 c = search needs
-
 returns-2 : tie.Need-returns-2
 returns-2 c =
-    let w : Ruled = c .before .before .before .before .before .before .before .before .before .before .before .before .before .before .before .before in
+    let w : Ruled = c .before .before .before .before .before .before .before .before .before .before in
     let s : Start = begun w in
-    let d = c .before .before .before .before .before .before .before .before .before .before .put-down in
+    let d = c .before .before .before .before .before .before .put-down in
     rule-put (putting s) (long s) (room s (w .before .if1 .left)) (s .args .spot .0) (w .with-rule .ensures) (d .result) (d .last .0) (record { ended = d .ensures }) .ended
 
 pub new-transition-spec : {M : Type 1} → statement M
@@ -94,6 +88,4 @@ new-transition-spec =
     same-length
     same-length-2
     same-length-3
-    same-length-4
-    same-length-5
     returns-2)

@@ -29,7 +29,7 @@ places-at ws i (suc (suc (suc (suc k)))) h = absurd (omega arith)
 pub next-none : (x : Store) (f : Frame) (j : ℕ) → j ≡ 0 → nextRow x f j ≡ 0
 next-none x f j z = ap (nextRow x f) z
 
-module _ {ws ns : List ℕ} {n : ℕ} {hs head next mix : List ℕ} (r : Ready ws ns n hs head next mix) where
+module _ {ws ns : List ℕ} {n : ℕ} {ix : List ℕ} (r : Ready ws ns n ix) where
   -- what is found is a used row, or row 0
   found-used : (a : ℕ) (ps : List ℕ) → findIn ws n a ps < n
   found-used a ps = go (findIn ws n a ps) refl

@@ -46,7 +46,7 @@ module _ (s reps : List ℕ) (x : Store) (g : Good x) (i : ℕ) where
       record { spot-is = t .spot-is ∙ ap (λ (p : Spot). p .row) (sym d); row-is = ap (nextRow x (frameAt x i k)) (t .row-is) ∙ ap became (sym d) }
 
 -- by the words: the code, other than 0, names a place that the row has, and the child there has its turn already
-module _ {ws ns : List ℕ} {n : ℕ} {hs head next mix : List ℕ} (r : Ready ws ns n hs head next mix) (s : List ℕ) (i : ℕ) (p : 0 < i) (l : i < n)
+module _ {ws ns : List ℕ} {n : ℕ} {ix : List ℕ} (r : Ready ws ns n ix) (s : List ℕ) (i : ℕ) (p : 0 < i) (l : i < n)
     (code : ℕ) (e : code ≡ outsideAt s (storeOf ws ns n) i) (z : code ≡ 0 → ⊥) where
   names : outsideAt s (storeOf ws ns n) i ≡ suc (code - 1)
   names = omega arith

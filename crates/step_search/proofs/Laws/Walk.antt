@@ -19,7 +19,7 @@ use Rattle.step_search.proofs.Laws.Reps.{transition, reps-rows}
 use Rattle.step_search.proofs.Laws.Descent.{at-rows, exchanged-rows}
 use Rattle.step_search.proofs.Laws.Turns.{InHand, hand-used, spot-used, exchanged-used, ends-new, ends-unknown, ends-different, goes-on, goes-down}
 
-module _ {ws ns : List ℕ} {n : ℕ} {hs head next mix s t cs reps ds at ex : List ℕ} {first h : ℕ} (r : Ready ws ns n hs head next mix)
+module _ {ws ns : List ℕ} {n : ℕ} {ix s t cs reps ds at ex : List ℕ} {first h : ℕ} (r : Ready ws ns n ix)
     (f : Handling (storeOf ws ns n) (answersIn n ws) s t cs reps) (d : Descended s reps (storeOf ws ns n) ds at ex n) (q : InHand (storeOf ws ns n) (answersIn n ws) s t cs first h) where
   pub in-hand : h < n
   in-hand = let u = hand-used f first h q in omega (arith, used-of ws ns n)

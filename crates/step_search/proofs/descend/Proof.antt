@@ -13,30 +13,30 @@ use Rattle.step_search.proofs.descend.Statement.{statement}
 use Rattle.step_search.proofs.descend.Tie as tie
 
 abbrev Inv-loop : tie.InvT-loop
-Inv-loop words counts used holes head next mix s states t rules c contexts reps down₀ at₀ exchanged₀ i₀ down at exchanged i =
+Inv-loop words counts used index s states t rules c contexts reps down₀ at₀ exchanged₀ i₀ down at exchanged i =
     (0 < i) × (length down ≡ length down₀) × (length at ≡ length at₀) × (length exchanged ≡ length exchanged₀) × Descended (take states s) reps (storeOf words counts used) down at exchanged i
 
 abbrev μ-loop : tie.MeasureT-loop
-μ-loop words counts used holes head next mix s states t rules c contexts reps down₀ at₀ exchanged₀ i₀ down at exchanged i = used - i
+μ-loop words counts used index s states t rules c contexts reps down₀ at₀ exchanged₀ i₀ down at exchanged i = used - i
 
 abbrev In : Type 0
 In = tie.In-loop Inv-loop μ-loop
 
 abbrev start : In → tie.Start Inv-loop μ-loop
-start c = c .before .before .before .before .before .before .before .before .before .before .before
+start c = c .before .before .before .before .before .before .before .before .before
 
 slice-write-down : tie.Need-slice-write-down Inv-loop μ-loop
-slice-write-down c = let s = c .before .before .before .before .before .before .before .before .before in omega (arith, s .pre .0 .finding .some, s .pre .2)
+slice-write-down c = let s = c .before .before .before .before .before .before .before in omega (arith, s .pre .0 .finding .some, s .pre .2)
 
 slice-write-at : tie.Need-slice-write-at Inv-loop μ-loop
-slice-write-at c = let s = c .before .before .before .before .before .before .before .before .before in omega (arith, s .pre .0 .finding .some, s .pre .3)
+slice-write-at c = let s = c .before .before .before .before .before .before .before in omega (arith, s .pre .0 .finding .some, s .pre .3)
 
 slice-write-exchanged : tie.Need-slice-write-exchanged Inv-loop μ-loop
-slice-write-exchanged c = let s = c .before .before .before .before .before .before .before .before .before in omega (arith, s .pre .0 .finding .some, s .pre .4)
+slice-write-exchanged c = let s = c .before .before .before .before .before .before .before in omega (arith, s .pre .0 .finding .some, s .pre .4)
 
 loop-holds : tie.Need-loop-holds Inv-loop μ-loop
 loop-holds c =
-    let s = c .before .before .before .before .before .before .before .before .before in
+    let s = c .before .before .before .before .before .before .before in
     let u = used-of (s .args .words .now) (s .args .counts .now) (s .args .used) in
     (omega arith, refl, refl, refl, descended-hole (s .pre .1) (s .args .down .now) (s .args .at .now) (s .args .exchanged .now) (omega (arith, u, s .pre .2)) (omega (arith, u, s .pre .3)) (omega (arith, u, s .pre .4)))
 
@@ -56,7 +56,7 @@ loop-again : tie.Need-loop-again Inv-loop μ-loop
 loop-again c =
     let d = c .before .before .before .before .before .before .descend-row in
     let l = c .before .before .before .before .before .before .before .before .before .before .before .loop in
-    (omega arith, d .kept .1 .1 .1 .1 .1 .1 .1 .1 .1 .1 .1 .1 .1 .1 .0 ∙ l .inv .1, d .kept .1 .1 .1 .1 .1 .1 .1 .1 .1 .1 .1 .1 .1 .1 .1 .0 ∙ l .inv .2, d .kept .1 .1 .1 .1 .1 .1 .1 .1 .1 .1 .1 .1 .1 .1 .1 .1 .0 ∙ l .inv .3, d .ensures)
+    (omega arith, d .kept .1 .1 .1 .1 .1 .1 .1 .1 .1 .1 .1 .0 ∙ l .inv .1, d .kept .1 .1 .1 .1 .1 .1 .1 .1 .1 .1 .1 .1 .0 ∙ l .inv .2, d .kept .1 .1 .1 .1 .1 .1 .1 .1 .1 .1 .1 .1 .1 .0 ∙ l .inv .3, d .ensures)
 
 same-length : tie.Need-same-length Inv-loop μ-loop
 same-length c = c .before .loop .inv .1 ∙ simp length-set

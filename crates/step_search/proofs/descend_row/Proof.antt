@@ -24,15 +24,15 @@ abbrev Turned : Type 0
 Turned = tie.After-struct-known
 
 abbrev start : Turned → tie.Start
-start c = c .before .before .before .before .before .before .before .before .before .before .before .before .before .before .before
+start c = c .before .before .before .before .before .before .before .before .before .before .before .before .before
 
 first-outside-requires : tie.Need-first-outside-requires
-first-outside-requires c κs = let s = c .before .before .before .before .before .before .before .before .before in (s .pre .0, s .pre .1, s .pre .3, s .pre .4)
+first-outside-requires c κs = let s = c .before .before .before .before .before .before .before in (s .pre .0, s .pre .1, s .pre .3, s .pre .4)
 
 turn-of-requires : tie.Need-turn-of-requires
 turn-of-requires c κs =
     let f = c .before .before .before in
-    let s = f .before .before .before .before .before .before .before .before .before .before in
+    let s = f .before .before .before .before .before .before .before .before in
     (s .pre .0, reps-rows (s .args .words .now) (s .args .counts .now) (s .args .used) (s .pre .1), s .pre .2, s .pre .3, s .pre .4, f .first-outside .ensures)
 
 cast-n : tie.Need-cast-n
@@ -69,6 +69,12 @@ returns c =
     let t = c .before .turn-of in
     descended-more (f .result) (t .result .spot .0) (t .result .row .0) (row-used (s .pre .0) (s .args .row .0) (s .pre .4)) (s .pre .2) (f .ensures) (record { spot-is = t .ensures .0; row-is = t .ensures .1 })
 
+cast-down : tie.Need-cast-down
+cast-down c = search needs
+
+mul-down : tie.Need-mul-down
+mul-down c = search needs
+
 pub descend-row-spec : {M : Type 1} → statement M
 descend-row-spec =
     tie.close
@@ -76,6 +82,8 @@ descend-row-spec =
     first-outside-requires
     turn-of-requires
     cast-n
+    cast-down
+    mul-down
     slice-write-down
     mul-at
     slice-write-at

@@ -13,36 +13,36 @@ use Rattle.step_search.proofs.first_outside.Statement.{statement}
 use Rattle.step_search.proofs.first_outside.Tie as tie
 
 abbrev Inv-loop : tie.InvT-loop
-Inv-loop words counts used holes head next mix s states t rules c contexts reps row symbol count k₀ k =
+Inv-loop words counts used index s states t rules c contexts reps row symbol count k₀ k =
     Scanning (take states s) (storeOf words counts used) (row .0) count k
 
 abbrev μ-loop : tie.MeasureT-loop
-μ-loop words counts used holes head next mix s states t rules c contexts reps row symbol count k₀ k = count - k
+μ-loop words counts used index s states t rules c contexts reps row symbol count k₀ k = count - k
 
 abbrev In : Type 0
 In = tie.In-loop Inv-loop μ-loop
 
 abbrev start : In → tie.Start Inv-loop μ-loop
-start c = c .before .before .before .before .before .before .before .before .before .before
+start c = c .before .before .before .before .before .before .before .before
 
 -- the child's place is one that the row has
 place : (c : In) → c .before .loop .k < length (kidsAt (storeOf (start c .args .words .now) (start c .args .counts .now) (start c .args .used)) (start c .args .row .0))
 place c = omega (arith, c .before .loop .inv .count-is, c .loop-test .taken)
 
 symbol-of-requires : tie.Need-symbol-of-requires Inv-loop μ-loop
-symbol-of-requires c κs = let s = c .before .before .before .before .before .before in row-within (s .pre .0) (s .args .row .0) (s .pre .3)
+symbol-of-requires c κs = let s = c .before .before .before .before in row-within (s .pre .0) (s .args .row .0) (s .pre .3)
 
 cast-count : tie.Need-cast-count Inv-loop μ-loop
 cast-count c = search needs
 
 shared-slice-read-count : tie.Need-shared-slice-read-count Inv-loop μ-loop
 shared-slice-read-count c =
-    let s = c .before .before .before .before .before .before .before .before in
+    let s = c .before .before .before .before .before .before in
     omega (arith, symbol-known (s .pre .0) (s .args .row .0) (s .pre .3) (s .pre .2), c .before .symbol-of .ensures)
 
 loop-holds : tie.Need-loop-holds Inv-loop μ-loop
 loop-holds c =
-    let s = c .before .before .before .before .before .before .before .before in
+    let s = c .before .before .before .before .before .before in
     let a = c .before .symbol-of in
     scan-starts (take (s .args .states) (s .args .s .now)) (storeOf (s .args .words .now) (s .args .counts .now) (s .args .used)) (s .args .row .0) (getD (s .args .counts .now) (a .result) 0)
     (ap (λ (v : ℕ). getD (s .args .counts .now) v 0) (a .ensures) ∙ sym (kids-long (s .pre .0) (s .args .row .0) (s .pre .3) (s .pre .2))) (s .pre .0 .good .wide (a .result))

@@ -14,18 +14,18 @@ use Rattle.step_search.proofs.search.Statement.{statement}
 use Rattle.step_search.proofs.search.Tie as tie
 
 abbrev Inv-loop : tie.InvT-loop
-Inv-loop words counts used holes head next mix s states t rules c contexts reps down at exchanged h₀ h =
+Inv-loop words counts used index s states t rules c contexts reps down at exchanged h₀ h =
     InHand (storeOf words counts used) (answersIn used words) (take states s) (take rules t) (take contexts c) h₀ h
 
 abbrev μ-loop : tie.MeasureT-loop
-μ-loop words counts used holes head next mix s states t rules c contexts reps down at exchanged h₀ h = outside (take states s) (storeOf words counts used) h
+μ-loop words counts used index s states t rules c contexts reps down at exchanged h₀ h = outside (take states s) (storeOf words counts used) h
 
 -- in a turn
 abbrev Turn : Type 0
 Turn = tie.At-loop Inv-loop μ-loop
 
 abbrev start : Turn → tie.Start Inv-loop μ-loop
-start c = c .before .before .before .before .before .before .before .before .before .before
+start c = c .before .before .before .before .before .before .before .before
 
 used-row : (c : Turn) → c .loop .h < start c .args .used
 used-row c = let s = start c in in-hand (s .pre .0) (s .pre .1) (s .pre .2) (c .loop .inv)
@@ -34,7 +34,7 @@ spot : (c : Turn) → getD (start c .args .at .now) (c .loop .h) 0 < mostRows
 spot c = let s = start c in spot-few (s .pre .0) (s .pre .1) (s .pre .2) (c .loop .inv)
 
 loop-holds : tie.Need-loop-holds Inv-loop μ-loop
-loop-holds c = starts (c .before .before .before .before .before .before .before .before .before .pre .3)
+loop-holds c = starts (c .before .before .before .before .before .before .before .pre .3)
 
 cast-spot : tie.Need-cast-spot Inv-loop μ-loop
 cast-spot c = search needs

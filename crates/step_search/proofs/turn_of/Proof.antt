@@ -17,7 +17,7 @@ abbrev Inner : Type 0
 Inner = tie.Else1
 
 abbrev start : Inner → tie.Start
-start c = c .before .before .before .before .before .before .before .before .before .before
+start c = c .before .before .before .before .before .before .before .before
 
 has : (c : Inner) → start c .args .code - 1 < length (kidsAt (storeOf (start c .args .words .now) (start c .args .counts .now) (start c .args .used)) (start c .args .row .0))
 has c =
@@ -51,7 +51,7 @@ shared-slice-read-rep c = search needs
 
 returns : tie.Need-returns
 returns c =
-    let s = c .before .before .before .before .before .before .before .before .before .before .before .before in
+    let s = c .before .before .before .before .before .before .before .before .before .before in
     let x = storeOf (s .args .words .now) (s .args .counts .now) (s .args .used) in
     let t = turn-itself (take (s .args .states) (s .args .s .now)) (s .args .reps .now) x (s .pre .0 .good) (s .args .row .0) (sym (s .pre .5) ∙ c .before .before .if1 .taken) in
     (t .spot-is, t .row-is)

@@ -15,7 +15,7 @@ small s = place-four (s .pre .0) (s .args .row .0) (s .pre .2) (s .pre .1) (s .a
 
 returns : tie.Need-returns
 returns c =
-    let s = c .before .before .before .before .before .before .before in
+    let s = c .before .before .before .before .before in
     let x = storeOf (s .args .words .now) (s .args .counts .now) (s .args .used) in
     (sym (next-none x (frameAt x (s .args .row .0) (s .args .place)) (s .args .with .0) (c .if1 .taken)), s .pre .0 .finding .some)
 
@@ -29,17 +29,17 @@ cast-places : tie.Need-cast-places
 cast-places c = search needs
 
 mul-places : tie.Need-mul-places
-mul-places c = omega (arith, small (c .before .before .before .before .before .before .before .before .before .before))
+mul-places c = omega (arith, small (c .before .before .before .before .before .before .before .before))
 
 array-write-places : tie.Need-array-write-places
-array-write-places c = small (c .before .before .before .before .before .before .before .before .before .before)
+array-write-places c = small (c .before .before .before .before .before .before .before .before)
 
 find-requires : tie.Need-find-requires
 find-requires c κs = search needs
 
 returns-2 : tie.Need-returns-2
 returns-2 c =
-    let s = c .before .before .before .before .before .before .before .before .before .before .before in
+    let s = c .before .before .before .before .before .before .before .before .before in
     let a = c .before .before .before .symbol-of in
     let p = c .before .before .places-of in
     child-set (s .pre .0) (s .args .row .0) (s .pre .2) (s .pre .1) (s .args .place) (s .pre .3) (a .result) (p .result) (a .ensures) (p .ensures) (s .args .with .0) (c .before .before .before .before .if1 .left)

@@ -118,16 +118,16 @@ module _ {ws ns : List ℕ} {u : ℕ} {s : List ℕ} {q : ℕ} {t : List ℕ} {n
     pub rule-used : getD t k 0 < u
     rule-used = l .settling .used-t k (places .rule)
 
-    module _ {hs head next mix : List ℕ} (ready : Ready ws ns u hs head next mix) {ws' hs' he ne : List ℕ} where
-      pub no-rows : Comes ws ns u (fill (storeOf ws ns u) (framesOf (storeOf ws ns u) (getD c j 0)) (getD t k 0)) Grown.Full ws' hs' he ne mix →
+    module _ {ix : List ℕ} (ready : Ready ws ns u ix) {ws' ix' : List ℕ} where
+      pub no-rows : Comes ws ns u (fill (storeOf ws ns u) (framesOf (storeOf ws ns u) (getD c j 0)) (getD t k 0)) Grown.Full ws' ix' →
           Stepped ws ns u s (settled (given ws ns u s q t n c m 0 0 false)) Step.NoRows ws' s
       no-rows d = stepped-by (settled-as l) (go (fill (storeOf ws ns u) (framesOf (storeOf ws ns u) (getD c j 0)) (getD t k 0)) d)
         where
-          go : (b : Built) → Comes ws ns u b Grown.Full ws' hs' he ne mix → Stepped ws ns u s (opened (given ws ns u s q t n c m 0 0 false) b) Step.NoRows ws' s
+          go : (b : Built) → Comes ws ns u b Grown.Full ws' ix' → Stepped ws ns u s (opened (given ws ns u s q t n c m 0 0 false) b) Step.NoRows ws' s
           go full p = record { step = (refl, p .came .1) }
           go (built i y) p = absurd (let e = p .came .0 in let z : _≡_ {A = ℕ} 0 1 = cc in omega arith)
 
-      pub asks-filled : {i v : ℕ} → Comes ws ns u (fill (storeOf ws ns u) (framesOf (storeOf ws ns u) (getD c j 0)) (getD t k 0)) (grownRow i v) ws' hs' he ne mix →
+      pub asks-filled : {i v : ℕ} → Comes ws ns u (fill (storeOf ws ns u) (framesOf (storeOf ws ns u) (getD c j 0)) (getD t k 0)) (grownRow i v) ws' ix' →
           Stepped ws ns u s (settled (given ws ns u s q t n c m 0 0 false)) (Step.Asks (record { 0 = i }) v) ws' s
       asks-filled {i} {v} d =
           let fits = context-fits (storeOf ws ns u) (ready .good) (getD c j 0) (is-context .within) (is-context .hole) in

@@ -46,13 +46,13 @@ abbrev Filled : Type 0
 Filled = lts.After-fill-context claims reads.Pre reads.Post
 
 abbrev start : Seen → Start
-start c = c .before .before .before .before .before .before .before .before .before .before .before .before .before .before .before .before
+start c = c .before .before .before .before .before .before .before .before .before .before .before .before
 
 abbrev looked : Open → Seen
 looked c = c .before .before
 
 abbrev found : Filled → Open
-found c = c .before .before .before .before .before .before .before .before
+found c = c .before .before .before .before .before .before
 
 abbrev begun : Open → Start
 begun c = start (looked c)
@@ -65,7 +65,7 @@ abbrev context : Open → ℕ
 context c = c .k .given .0 .1 .0
 
 abbrev table : Open → List ℕ
-table c = looked c .before .before .before .before .observe-to-gap .last .1 .1 .1 .1 .1 .1 .1 .1 .1 .1 .1 .0
+table c = looked c .before .before .before .before .observe-to-gap .last .1 .1 .1 .1 .1 .1 .1 .1 .0
 
 gap : (c : Open) →
     Looked (begun c .args .words .now) (begun c .args .counts .now) (begun c .args .used) (begun c .args .s .now) (begun c .args .states) (begun c .args .t .now) (begun c .args .rules)
@@ -79,8 +79,7 @@ came : (c : Filled) →
     (fill (storeOf (begun (found c) .args .words .now) (begun (found c) .args .counts .now) (begun (found c) .args .used))
     (framesOf (storeOf (begun (found c) .args .words .now) (begun (found c) .args .counts .now) (begun (found c) .args .used)) (getD (begun (found c) .args .c .now) (context (found c)) 0))
     (getD (begun (found c) .args .t .now) (rule (found c)) 0))
-    (c .fill-context .result) (c .fill-context .last .0) (c .fill-context .last .1 .1 .1 .0) (c .fill-context .last .1 .1 .1 .1 .0) (c .fill-context .last .1 .1 .1 .1 .1 .0)
-    (begun (found c) .args .mix .now)
+    (c .fill-context .result) (c .fill-context .last .0) (c .fill-context .last .1 .1 .1 .0)
 came c = record { came = c .fill-context .ensures }
 
 observe-to-gap-requires : tie.Need-observe-to-gap-requires
@@ -101,31 +100,31 @@ propose-requires c κs =
 enum-known-k : tie.Need-enum-known-k
 enum-known-k c = search needs
 
-cast-t41 : tie.Need-cast-t41
-cast-t41 c = search needs
+cast-t34 : tie.Need-cast-t34
+cast-t34 c = search needs
 
-mul-t42 : tie.Need-mul-t42
-mul-t42 c = search needs
+mul-t35 : tie.Need-mul-t35
+mul-t35 c = search needs
 
-element-copy-out-t45 : tie.Need-element-copy-out-t45
-element-copy-out-t45 c =
+element-copy-out-t38 : tie.Need-element-copy-out-t38
+element-copy-out-t38 c =
     let o : Open = c .before in
     context-within (gap o)
 
-cast-t41-2 : tie.Need-cast-t41-2
-cast-t41-2 c = search needs
+cast-t34-2 : tie.Need-cast-t34-2
+cast-t34-2 c = search needs
 
-mul-t42-2 : tie.Need-mul-t42-2
-mul-t42-2 c = search needs
+mul-t35-2 : tie.Need-mul-t35-2
+mul-t35-2 c = search needs
 
-element-copy-out-t45-2 : tie.Need-element-copy-out-t45-2
-element-copy-out-t45-2 c =
+element-copy-out-t38-2 : tie.Need-element-copy-out-t38-2
+element-copy-out-t38-2 c =
     let o : Open = c .before .before in
     rule-within (gap o)
 
 fill-context-requires : tie.Need-fill-context-requires
 fill-context-requires c κs =
-    let o : Open = c .before .before .before .before .before .before .before in (
+    let o : Open = c .before .before .before .before .before in (
       begun o .pre .0,
       context-used (gap o),
       context-holed (gap o),
@@ -147,17 +146,23 @@ same-length-2 c = search needs
 same-length-3 : tie.Need-same-length-3
 same-length-3 c = search needs
 
+returns : tie.Need-returns
+returns c = search needs
+
 same-length-4 : tie.Need-same-length-4
 same-length-4 c = search needs
 
 same-length-5 : tie.Need-same-length-5
 same-length-5 c = search needs
 
-returns : tie.Need-returns
-returns c = search needs
-
 same-length-6 : tie.Need-same-length-6
 same-length-6 c = search needs
+
+returns-2 : tie.Need-returns-2
+returns-2 c =
+    let f : Filled = c .before .before .before .before .before .before in
+    let o : Open = found f in
+    no-rows (gap o) (begun o .pre .0) (comes-as (c .enum-told2 .given .1) (came f)) .step
 
 same-length-7 : tie.Need-same-length-7
 same-length-7 c = search needs
@@ -168,33 +173,9 @@ same-length-8 c = search needs
 same-length-9 : tie.Need-same-length-9
 same-length-9 c = search needs
 
-same-length-10 : tie.Need-same-length-10
-same-length-10 c = search needs
-
-returns-2 : tie.Need-returns-2
-returns-2 c =
-    let f : Filled = c .before .before .before .before .before .before .before .before .before .before in
-    let o : Open = found f in
-    no-rows (gap o) (begun o .pre .0) (comes-as (c .enum-told2 .given .1) (came f)) .step
-
-same-length-11 : tie.Need-same-length-11
-same-length-11 c = search needs
-
-same-length-12 : tie.Need-same-length-12
-same-length-12 c = search needs
-
-same-length-13 : tie.Need-same-length-13
-same-length-13 c = search needs
-
-same-length-14 : tie.Need-same-length-14
-same-length-14 c = search needs
-
-same-length-15 : tie.Need-same-length-15
-same-length-15 c = search needs
-
 returns-3 : tie.Need-returns-3
 returns-3 c =
-    let f : Filled = c .before .before .before .before .before .before .before .before .before .before .before in
+    let f : Filled = c .before .before .before .before .before .before .before in
     let o : Open = found f in
     asks-filled (gap o) (begun o .pre .0) (comes-as (c .before .row .given .1) (came f)) .step
 
@@ -207,30 +188,24 @@ settle-spec =
     enum-told
     propose-requires
     enum-known-k
-    cast-t41
-    mul-t42
-    element-copy-out-t45
-    cast-t41-2
-    mul-t42-2
-    element-copy-out-t45-2
+    cast-t34
+    mul-t35
+    element-copy-out-t38
+    cast-t34-2
+    mul-t35-2
+    element-copy-out-t38-2
     fill-context-requires
     enum-told-2
     enum-known-row
     same-length
     same-length-2
     same-length-3
+    returns
     same-length-4
     same-length-5
-    returns
     same-length-6
+    returns-2
     same-length-7
     same-length-8
     same-length-9
-    same-length-10
-    returns-2
-    same-length-11
-    same-length-12
-    same-length-13
-    same-length-14
-    same-length-15
     returns-3)

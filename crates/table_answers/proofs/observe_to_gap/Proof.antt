@@ -20,7 +20,7 @@ slice-aggregate-gap-with-2 c = search needs
 
 gap-with-requires : tie.Need-gap-with-requires
 gap-with-requires c κs =
-    let s = c .before .before .before .before .before .before .before .before .before .before in
+    let s = c .before .before .before .before .before .before .before .before in
     let r = s .pre .0 in
     (r, s .pre .1, s .pre .2, s .pre .3, s .pre .4, s .pre .5, s .pre .6, s .pre .7, s .pre .8, r .finding .few, r .finding .few)
 

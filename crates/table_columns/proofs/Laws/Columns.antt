@@ -13,7 +13,8 @@ use Rattle.model.specs.Entry.{storeOf, answersIn}
 use Rattle.bank.specs.Rows.{answerIn}
 use Rattle.bank.specs.Ready.{Ready, frameAt}
 use Rattle.bank.proofs.Laws.Words.{used-of, answer-in}
-use Rattle.bank.proofs.Laws.Chains.{by-equal}
+use Rattle.bank.proofs.Laws.Trees.{by-equal}
+use Rattle.bank.specs.Index.{holeOf}
 use Rattle.table_columns.specs.Columns.{HoledRows, holeKid, Column}
 use Rattle.table_columns.proofs.Laws.Listed.{listed-before}
 use Rattle.table_columns.proofs.Laws.Frames.{frames-none, kid-early, kid-hole, filled-step, context-within, context-hole, hole-marked}
@@ -29,7 +30,7 @@ pub record Entries (x : Store) (row : ℕ) (list : List ℕ) (p : ℕ) (filled :
   pub first : RightEntry x 0 row (getD filled 0 0)
   pub listed : (q : ℕ) → q < p → RightEntry x (getD list q 0) row (getD filled (getD list q 0) 0)
 
-module _ {ws ns : List ℕ} {n : ℕ} {hs he ne m : List ℕ} (r : Ready ws ns n hs he ne m) {list : List ℕ} {c : ℕ} (h : HoledRows hs n list c) where
+module _ {ws ns : List ℕ} {n : ℕ} {ix : List ℕ} (r : Ready ws ns n ix) {list : List ℕ} {c : ℕ} (h : HoledRows ix n list c) where
   abbrev x : Store
   x = storeOf ws ns n
 
@@ -52,20 +53,20 @@ module _ {ws ns : List ℕ} {n : ℕ} {hs he ne m : List ℕ} (r : Ready ws ns n
         at w = subst (λ (j : ℕ). RightEntry x j row (getD fs j 0)) (w .2) (f .listed (w .0) (early (w .0) (w .1) (w .2)))
 
     -- THE NEXT ROW, from its hole child
-    module _ (more : p < c) (kid : ℕ) (e : kid ≡ holeKid (storeOf ws ns n) hs (getD list p 0)) where
-      kid-right : RightEntry (storeOf ws ns n) (holeKid (storeOf ws ns n) hs (getD list p 0)) row (getD fs kid 0)
+    module _ (more : p < c) (kid : ℕ) (e : kid ≡ holeKid (storeOf ws ns n) ix (getD list p 0)) where
+      kid-right : RightEntry (storeOf ws ns n) (holeKid (storeOf ws ns n) ix (getD list p 0)) row (getD fs kid 0)
       kid-right =
           let i = getD list p 0 in
           let l = h .within p more in
           let z = h .marked p more in
           let k = kid-early r i l z in
-          subst (λ (j : ℕ). RightEntry x (holeKid x hs i) row (getD fs j 0)) (sym e)
-          (entry-at (holeKid x hs i) (omega arith) (kid-hole r i l z) (λ q a s. listed-before h p q more a (omega (arith, s))))
+          subst (λ (j : ℕ). RightEntry x (holeKid x ix i) row (getD fs j 0)) (sym e)
+          (entry-at (holeKid x ix i) (omega arith) (kid-hole r i l z) (λ q a s. listed-before h p q more a (omega (arith, s))))
 
       pub kid-used : getD fs kid 0 < n
       kid-used = omega (arith, kid-right .within, used-of ws ns n)
 
-      module _ (v : ℕ) (is : v ≡ nextRow (storeOf ws ns n) (frameAt (storeOf ws ns n) (getD list p 0) (getD hs (getD list p 0) 0 - 1)) (getD fs kid 0)) (b : v < n) where
+      module _ (v : ℕ) (is : v ≡ nextRow (storeOf ws ns n) (frameAt (storeOf ws ns n) (getD list p 0) (getD ix (holeOf (getD list p 0)) 0 - 1)) (getD fs kid 0)) (b : v < n) where
         kept : (j : ℕ) → (j ≡ getD list p 0 → ⊥) → getD (set fs (getD list p 0) v) j 0 ≡ getD fs j 0
         kept j s = getD-set-other fs (getD list p 0) j v 0 s
 
@@ -77,7 +78,7 @@ module _ {ws ns : List ℕ} {n : ℕ} {hs he ne m : List ℕ} (r : Ready ws ns n
             let i = getD list p 0 in
             let s = getD-set-same fs i v 0 (omega (arith, f .long, h .within p more, used-of ws ns n)) in
             record {
-              is = s ∙ is ∙ ap (nextRow x (frameAt x i (getD hs i 0 - 1))) (kid-right .is) ∙ sym (filled-step r i (h .within p more) (h .marked p more) row);
+              is = s ∙ is ∙ ap (nextRow x (frameAt x i (getD ix (holeOf i) 0 - 1))) (kid-right .is) ∙ sym (filled-step r i (h .within p more) (h .marked p more) row);
               within = omega (arith, s, used-of ws ns n);
             }
 

@@ -16,11 +16,11 @@ use Rattle.model.proofs.Laws.Tests.{both-true, or-right}
 use Rattle.model.proofs.Laws.Fold.{earlier}
 use Rattle.model.proofs.Laws.Down.{down-fuel, context-fits}
 use Rattle.bank.specs.Rows.{symbolIn, kidIn, placesIn}
-use Rattle.bank.specs.Index.{findIn}
+use Rattle.bank.specs.Index.{findIn, holeOf}
 use Rattle.bank.specs.Ready.{oneFurther, placeCode, Ready, frameAt}
 use Rattle.bank.proofs.Laws.Words.{used-of, symbol-in}
 use Rattle.bank.proofs.Laws.Finding.{found-in}
-use Rattle.bank.proofs.Laws.Chains.{by-equal}
+use Rattle.bank.proofs.Laws.Trees.{by-equal}
 use Rattle.bank_t1.proofs.Laws.T1.{hole-ready}
 use Rattle.bank_fill.proofs.Laws.Above.{frame-four, above-kids, above-asks}
 use Rattle.bank_fill.proofs.Laws.Paths.{fits-head, kid-before, kid-word}
@@ -50,64 +50,64 @@ frames-none x g = go (kidsAt x 0) (earlier x g 0 (omega (arith, g .start)))
     go (k ∷ ks) (one-below l b) = absurd (omega arith)
 
 -- A CONTEXT BEYOND ROW 0, over a store that is ready
-module _ {ws ns : List ℕ} {n : ℕ} {hs he ne m : List ℕ} (r : Ready ws ns n hs he ne m) (i : ℕ) (l : i < n) (z : getD hs i 0 ≡ 0 → ⊥) where
+module _ {ws ns : List ℕ} {n : ℕ} {ix : List ℕ} (r : Ready ws ns n ix) (i : ℕ) (l : i < n) (z : getD ix (holeOf i) 0 ≡ 0 → ⊥) where
   abbrev x : Store
   x = storeOf ws ns n
 
   abbrev place : ℕ
-  place = getD hs i 0 - 1
+  place = getD ix (holeOf i) 0 - 1
 
   low : i < used (storeOf ws ns n)
   low = omega (arith, used-of ws ns n)
 
   split : (splitAt (hasHole (storeOf ws ns n)) (kidsAt (storeOf ws ns n) i) ≡
-      there (take (getD hs i 0 - 1) (kidsAt (storeOf ws ns n) i)) (holeKid (storeOf ws ns n) hs i) (drop (suc (getD hs i 0 - 1)) (kidsAt (storeOf ws ns n) i))) ×
-      (hasHole (storeOf ws ns n) (holeKid (storeOf ws ns n) hs i) ≡ true)
+      there (take (getD ix (holeOf i) 0 - 1) (kidsAt (storeOf ws ns n) i)) (holeKid (storeOf ws ns n) ix i) (drop (suc (getD ix (holeOf i) 0 - 1)) (kidsAt (storeOf ws ns n) i))) ×
+      (hasHole (storeOf ws ns n) (holeKid (storeOf ws ns n) ix i) ≡ true)
   split = code-split (hasHole x) (kidsAt x i) place (sym (r .holed i l) ∙ omega arith)
 
   pub context-marked : hasHole (storeOf ws ns n) i ≡ true
-  context-marked = sym (hole-ready r i l) ∙ or-right (eqb i 0) (ap not (ne-eqb (getD hs i 0) 0 z))
+  context-marked = sym (hole-ready r i l) ∙ or-right (eqb i 0) (ap not (ne-eqb (getD ix (holeOf i) 0) 0 z))
 
   -- its frame around the hole fits
   down-one : downFrom (hasHole (storeOf ws ns n)) (suc i) (storeOf ws ns n) i .around ≡
-      frameAt (storeOf ws ns n) i (getD hs i 0 - 1) ∷ downFrom (hasHole (storeOf ws ns n)) i (storeOf ws ns n) (holeKid (storeOf ws ns n) hs i) .around
+      frameAt (storeOf ws ns n) i (getD ix (holeOf i) 0 - 1) ∷ downFrom (hasHole (storeOf ws ns n)) i (storeOf ws ns n) (holeKid (storeOf ws ns n) ix i) .around
   unfolding downFrom
   down-one = ap (λ (s : Split). downBy (downFrom (hasHole x) i x) i (symbolAt x i) s .around) (split .0)
 
-  pub frame-fits : FrameFits (storeOf ws ns n) (frameAt (storeOf ws ns n) i (getD hs i 0 - 1))
+  pub frame-fits : FrameFits (storeOf ws ns n) (frameAt (storeOf ws ns n) i (getD ix (holeOf i) 0 - 1))
   frame-fits = fits-head (subst (λ (fs : List Frame). Fits x fs) down-one (context-fits x (r .good) i low context-marked))
 
-  pub place-four : getD hs i 0 - 1 < 4
+  pub place-four : getD ix (holeOf i) 0 - 1 < 4
   place-four = frame-four x (r .good) i place low frame-fits
 
   -- the hole child: an earlier context
-  pub kid-early : holeKid (storeOf ws ns n) hs i < i
-  kid-early = kid-before hs x (r .good) i place low frame-fits
+  pub kid-early : holeKid (storeOf ws ns n) ix i < i
+  kid-early = kid-before ix x (r .good) i place low frame-fits
 
-  pub kid-hole : hasHole (storeOf ws ns n) (holeKid (storeOf ws ns n) hs i) ≡ true
+  pub kid-hole : hasHole (storeOf ws ns n) (holeKid (storeOf ws ns n) ix i) ≡ true
   kid-hole = split .1
 
-  pub kid-read : kidIn ws i (getD hs i 0 - 1) ≡ holeKid (storeOf ws ns n) hs i
+  pub kid-read : kidIn ws i (getD ix (holeOf i) 0 - 1) ≡ holeKid (storeOf ws ns n) ix i
   kid-read = sym (kid-word ws ns n i place (r .finding .room) l (r .good) frame-fits)
 
-  pub frames-step : framesOf (storeOf ws ns n) i ≡ frameAt (storeOf ws ns n) i (getD hs i 0 - 1) ∷ framesOf (storeOf ws ns n) (holeKid (storeOf ws ns n) hs i)
+  pub frames-step : framesOf (storeOf ws ns n) i ≡ frameAt (storeOf ws ns n) i (getD ix (holeOf i) 0 - 1) ∷ framesOf (storeOf ws ns n) (holeKid (storeOf ws ns n) ix i)
   frames-step =
-      let k = holeKid x hs i in
+      let k = holeKid x ix i in
       let e = kid-early in
       down-one ∙ ap (λ (s : Spot). frameAt x i place ∷ s .around) (down-fuel (hasHole x) x (r .good) i (suc k) k (omega (arith, low)) e (omega arith))
 
   -- filled, from the hole child filled
   pub filled-step : (j : ℕ) → filledRow (storeOf ws ns n) (framesOf (storeOf ws ns n) i) j ≡
-      nextRow (storeOf ws ns n) (frameAt (storeOf ws ns n) i (getD hs i 0 - 1)) (filledRow (storeOf ws ns n) (framesOf (storeOf ws ns n) (holeKid (storeOf ws ns n) hs i)) j)
+      nextRow (storeOf ws ns n) (frameAt (storeOf ws ns n) i (getD ix (holeOf i) 0 - 1)) (filledRow (storeOf ws ns n) (framesOf (storeOf ws ns n) (holeKid (storeOf ws ns n) ix i)) j)
   unfolding filledRow
   filled-step j = ap (λ (fs : List Frame). filledRow x fs j) frames-step
 
   -- THE ROW with another one at the hole
-  pub next-none : (j : ℕ) → j ≡ 0 → nextRow (storeOf ws ns n) (frameAt (storeOf ws ns n) i (getD hs i 0 - 1)) j ≡ 0
+  pub next-none : (j : ℕ) → j ≡ 0 → nextRow (storeOf ws ns n) (frameAt (storeOf ws ns n) i (getD ix (holeOf i) 0 - 1)) j ≡ 0
   next-none j e = ap (λ (b : Bool). cond b 0 (findRow x (symbolAt x i) (filledKids (frameAt x i place) j))) (eq-eqb j 0 e)
 
   module _ (j : ℕ) (v : j < n) (some : j ≡ 0 → ⊥) (a : ℕ) (ps : List ℕ) (p : a ≡ symbolIn ws i) (s : ps ≡ placesIn ws i) where
-    next-found : nextRow (storeOf ws ns n) (frameAt (storeOf ws ns n) i (getD hs i 0 - 1)) j ≡ findIn ws n a (set ps (getD hs i 0 - 1) j)
+    next-found : nextRow (storeOf ws ns n) (frameAt (storeOf ws ns n) i (getD ix (holeOf i) 0 - 1)) j ≡ findIn ws n a (set ps (getD ix (holeOf i) 0 - 1) j)
     next-found =
         let q = above-asks r i place j l v frame-fits .unused in
         let k = above-kids r i place j l v frame-fits in
@@ -115,8 +115,8 @@ module _ {ws ns : List ℕ} {n : ℕ} {hs he ne m : List ℕ} (r : Ready ws ns n
         ap (λ (b : Bool). cond b 0 (findRow x (symbolAt x i) (filledKids (frameAt x i place) j))) (ne-eqb j 0 some) ∙
         (λ t. findIn ws n ((symbol-in ws ns n i l ∙ sym p) t) ((sym e ∙ ap (λ (l : List ℕ). set l place j) (sym s)) t))
 
-    pub next-row : (f : ℕ) → f ≡ findIn ws n a (set ps (getD hs i 0 - 1) j) →
-        (f ≡ nextRow (storeOf ws ns n) (frameAt (storeOf ws ns n) i (getD hs i 0 - 1)) j) × (f < n)
+    pub next-row : (f : ℕ) → f ≡ findIn ws n a (set ps (getD ix (holeOf i) 0 - 1) j) →
+        (f ≡ nextRow (storeOf ws ns n) (frameAt (storeOf ws ns n) i (getD ix (holeOf i) 0 - 1)) j) × (f < n)
     next-row f e = (e ∙ sym next-found, within)
       where
         within : f < n
@@ -130,5 +130,5 @@ module _ (x : Store) (i : ℕ) (c : isContext x i ≡ true) where
   pub context-hole : hasHole x i ≡ true
   context-hole = both-true (ltb i (used x)) (hasHole x i) c .1
 
-pub hole-marked : {ws ns : List ℕ} {n : ℕ} {hs he ne m : List ℕ} → Ready ws ns n hs he ne m → (i : ℕ) → i < n → (i ≡ 0 → ⊥) → hasHole (storeOf ws ns n) i ≡ true → getD hs i 0 ≡ 0 → ⊥
-hole-marked {hs = hs} r i l z h e = true≢false (sym h ∙ sym (hole-ready r i l) ∙ rw (ne-eqb i 0 z, eq-eqb (getD hs i 0) 0 e) refl)
+pub hole-marked : {ws ns : List ℕ} {n : ℕ} {ix : List ℕ} → Ready ws ns n ix → (i : ℕ) → i < n → (i ≡ 0 → ⊥) → hasHole (storeOf ws ns n) i ≡ true → getD ix (holeOf i) 0 ≡ 0 → ⊥
+hole-marked {ix = ix} r i l z h e = true≢false (sym h ∙ sym (hole-ready r i l) ∙ rw (ne-eqb i 0 z, eq-eqb (getD ix (holeOf i) 0) 0 e) refl)

@@ -16,7 +16,7 @@ use Rattle.model.specs.Store.{Store}
 use Rattle.model.specs.Table.{answerIn, answersOf}
 use Rattle.table.specs.Answers.{rowAt, Observed, KnownRows}
 use Rattle.table.proofs.Laws.Rows.{row-at, row-length}
-use Rattle.bank.proofs.Laws.Chains.{by-equal}
+use Rattle.bank.proofs.Laws.Trees.{by-equal}
 
 map-at : (f : ℕ → ℕ) (ks : List ℕ) (j : ℕ) → j < length ks → getD (map f ks) j 0 ≡ f (getD ks j 0)
 map-at f [] j l = absurd (omega arith)

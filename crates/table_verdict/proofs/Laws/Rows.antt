@@ -20,7 +20,7 @@ use Rattle.model.specs.Facts.{Good}
 use Rattle.model.proofs.Laws.Tests.{both-true}
 use Rattle.model.proofs.Laws.Lists.{map-below}
 use Rattle.model.proofs.Laws.Fold.{fold-eq, earlier}
-use Rattle.bank.proofs.Laws.Chains.{by-equal}
+use Rattle.bank.proofs.Laws.Trees.{by-equal}
 use Rattle.bank_t1.proofs.Laws.Kids.{below-at}
 use Rattle.bank_listed.proofs.Laws.ArrayStack.{places-more}
 use Rattle.table_verdict.specs.Rules.{ruleBy, rulesBy, Ruled, repOf}

@@ -35,7 +35,7 @@ final-at w (i ∷ s) zero l = go (eqb (answerAt w i) 2)
     go false = refl
 final-at w (i ∷ s) (suc q) l = final-at w s q (omega arith)
 
-module _ {ws ns : List ℕ} {n : ℕ} {hs he ne mix s t reps : List ℕ} (r : Ready ws ns n hs he ne mix) (d : Ruled (storeOf ws ns n) s t reps) where
+module _ {ws ns : List ℕ} {n : ℕ} {ix s t reps : List ℕ} (r : Ready ws ns n ix) (d : Ruled (storeOf ws ns n) s t reps) where
   rep-row : {k : ℕ} → Rep s k → k < n
   rep-row h = omega (arith, used-of ws ns n, rep-within (r .good) d h)
 

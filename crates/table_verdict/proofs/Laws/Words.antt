@@ -15,14 +15,14 @@ use Rattle.bank.specs.Index.{Finding, findIn}
 use Rattle.bank.specs.Ready.{Ready}
 use Rattle.bank.proofs.Laws.Words.{used-of, symbol-in, kids-in}
 use Rattle.bank.proofs.Laws.Finding.{found-in}
-use Rattle.bank.proofs.Laws.Chains.{by-equal}
+use Rattle.bank.proofs.Laws.Trees.{by-equal}
 use Rattle.bank_t1.proofs.Laws.Kids.{place-at}
 use Rattle.table_verdict.specs.Rules.{Ruled}
 
-pub find-used : {mix ws : List ℕ} {n : ℕ} {head next : List ℕ} → Finding mix ws n head next → (a : ℕ) (ps : List ℕ) → findIn ws n a ps < n
+pub find-used : {ws : List ℕ} {n : ℕ} {ix : List ℕ} → Finding ws n ix → (a : ℕ) (ps : List ℕ) → findIn ws n a ps < n
 find-used {ws = ws} {n = n} f a ps = by-equal (findIn ws n a ps) 0 (λ e. omega (arith, f .some)) (λ e. found-in ws n (f .room) a ps e .0)
 
-module _ {ws ns : List ℕ} {n : ℕ} {hs he ne mix : List ℕ} (r : Ready ws ns n hs he ne mix) where
+module _ {ws ns : List ℕ} {n : ℕ} {ix : List ℕ} (r : Ready ws ns n ix) where
   pub few-rows : used (storeOf ws ns n) ≤ mostRows
   few-rows = omega (arith, used-of ws ns n, r .finding .few)
 

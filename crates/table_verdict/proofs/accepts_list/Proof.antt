@@ -14,7 +14,7 @@ enum-known-rep c = search needs
 is-final-requires : tie.Need-is-final-requires
 is-final-requires c κs =
     let m = c .before .before .before in
-    let s = m .before .before .before .before .before .before .before .before in
+    let s = m .before .before .before .before .before .before in
     verdict.list-lent (s .pre .0) (s .pre .1) (s .args .symbols .now) (c .before .rep .given .0 .0) (sym (c .before .rep .given .1) ∙ m .run-list .ensures)
 
 enum-told : tie.Need-enum-told
@@ -23,13 +23,13 @@ enum-told c = search needs
 returns : tie.Need-returns
 returns c =
     let m = c .before .before .before .before in
-    let s = m .before .before .before .before .before .before .before .before in
+    let s = m .before .before .before .before .before .before in
     verdict.list-says (s .pre .0) (s .pre .1) (s .args .symbols .now) (c .before .before .rep .given .0 .0) (sym (c .before .before .rep .given .1) ∙ m .run-list .ensures) (c .is-final .ensures)
 
 returns-2 : tie.Need-returns-2
 returns-2 c =
     let m = c .before .before in
-    let s = m .before .before .before .before .before .before .before .before in
+    let s = m .before .before .before .before .before .before in
     verdict.list-no (s .pre .0) (s .pre .1) (s .args .symbols .now) (c .enum-told .given .0 .0) (sym (c .enum-told .given .1) ∙ m .run-list .ensures)
 
 pub accepts-list-spec : {M : Type 1} → statement M

@@ -22,12 +22,12 @@ same-length c = search needs
 
 returns : tie.Need-returns
 returns c =
-    let s = c .before .before .before .before .before .before .before .before .before .before .before .before .before .before in
+    let s = c .before .before .before .before .before .before .before .before .before .before .before .before in
     verdict.row-no (s .pre .0) (s .pre .1) (s .args .row .0) (c .before .before .before .before .before .row-reps .ensures .1 (s .args .row .0) (omega arith)) (c .if1 .taken)
 
 is-final-requires : tie.Need-is-final-requires
 is-final-requires c κs =
-    let s = c .before .before .before .before .before .before .before .before .before .before .before .before .before .before in
+    let s = c .before .before .before .before .before .before .before .before .before .before .before .before in
     verdict.row-lent (s .pre .0) (s .pre .1) (s .args .row .0) (c .before .before .before .before .before .row-reps .ensures .1 (s .args .row .0) (omega arith))
 
 same-length-2 : tie.Need-same-length-2
@@ -35,7 +35,7 @@ same-length-2 c = search needs
 
 returns-2 : tie.Need-returns-2
 returns-2 c =
-    let s = c .before .before .before .before .before .before .before .before .before .before .before .before .before .before .before in
+    let s = c .before .before .before .before .before .before .before .before .before .before .before .before .before in
     verdict.row-says (s .pre .0) (s .pre .1) (s .args .row .0) (c .before .before .before .before .before .before .row-reps .ensures .1 (s .args .row .0) (omega arith)) (c .before .if1 .left) (c .is-final .ensures)
 
 pub accepts-with-spec : {M : Type 1} → statement M

@@ -20,11 +20,11 @@ use Rattle.bank.proofs.rows.symbol_of.Reads as symbol-of-reads
 use Rattle.table_verdict.proofs.target_of.Reads as target-of-reads
 
 abbrev Inv-loop : tie.InvT-loop
-Inv-loop words counts used holes head next mix s states t rules reps led row symbol count places₀ k₀ places k =
+Inv-loop words counts used index s states t rules reps led row symbol count places₀ k₀ places k =
     KidsLed (storeOf words counts used) (take states s) led (row .0) places k × (count ≡ length (kidsAt (storeOf words counts used) (row .0)))
 
 abbrev μ-loop : tie.MeasureT-loop
-μ-loop words counts used holes head next mix s states t rules reps led row symbol count places₀ k₀ places k =
+μ-loop words counts used index s states t rules reps led row symbol count places₀ k₀ places k =
     count - k
 
 abbrev Start : Type 0
@@ -41,7 +41,7 @@ abbrev Turn : Type 0
 Turn = lts.In-loop (symbol-of-reads.Asked, symbol-of-reads.Learnt, kid-of-reads.Asked, kid-of-reads.Learnt, target-of-reads.Asked, target-of-reads.Learnt) reads.Pre reads.Post Inv-loop μ-loop
 
 abbrev start : Turn → Start
-start t = t .before .before .before .before .before .before .before .before .before .before .before
+start t = t .before .before .before .before .before .before .before .before .before
 
 within : (t : Turn) → t .before .loop .k < length (kids (start t))
 within t = omega (arith, t .loop-test .taken, t .before .loop .inv .1)
@@ -64,22 +64,22 @@ early c =
     omega (arith, kid c, R.kid-earlier (s .pre .0 .good) (s .pre .1) (s .args .led .now) (s .args .row .0) (s .pre .3) u (s .pre .5) (c .before .before .loop .k) (within (c .before)))
 
 symbol-of-requires : tie.Need-symbol-of-requires Inv-loop μ-loop
-symbol-of-requires c κs = let s : Start = c .before .before .before .before .before .before .before in W.row-within (s .pre .0) (s .args .row .0) (s .pre .4)
+symbol-of-requires c κs = let s : Start = c .before .before .before .before .before in W.row-within (s .pre .0) (s .args .row .0) (s .pre .4)
 
 cast-count : tie.Need-cast-count Inv-loop μ-loop
 cast-count c = search needs
 
 shared-slice-read-count : tie.Need-shared-slice-read-count Inv-loop μ-loop
 shared-slice-read-count c =
-    let s : Start = c .before .before .before .before .before .before .before .before .before in
+    let s : Start = c .before .before .before .before .before .before .before in
     omega (arith, c .before .symbol-of .ensures, W.row-known (s .pre .0) (s .args .row .0) (s .pre .4) (s .pre .3))
 
 cast-count-2 : tie.Need-cast-count-2 Inv-loop μ-loop
-cast-count-2 c = omega (arith, c .shared-slice-known8 .given (c .before .symbol-of .result))
+cast-count-2 c = omega (arith, c .shared-slice-known6 .given (c .before .symbol-of .result))
 
 loop-holds : tie.Need-loop-holds Inv-loop μ-loop
 loop-holds c =
-    let s : Start = c .before .before .before .before .before .before .before .before .before in
+    let s : Start = c .before .before .before .before .before .before .before in
     let i : ℕ = s .args .row .0 in (
       R.kids-start (s .pre .0 .good) (s .pre .1) (s .args .led .now) i (s .pre .3) (W.row-used (s .pre .0) i (s .pre .4)) (s .pre .5),
       ap (λ (a : ℕ). getD (s .args .counts .now) a 0) (c .before .symbol-of .ensures) ∙ W.row-count (s .pre .0) i (s .pre .4) (s .pre .3),
@@ -135,12 +135,12 @@ loop-again c =
     )
 
 target-of-requires : tie.Need-target-of-requires Inv-loop μ-loop
-target-of-requires c κs = let s : Start = c .before .before .before .before .before .before .before .before .before .before .before in (s .pre .0, W.reps-long (s .pre .0) (s .pre .1))
+target-of-requires c κs = let s : Start = c .before .before .before .before .before .before .before .before .before in (s .pre .0, W.reps-long (s .pre .0) (s .pre .1))
 
 returns-2 : tie.Need-returns-2 Inv-loop μ-loop
 returns-2 c =
     let l = c .before .before in
-    let s : Start = l .before .before .before .before .before .before .before .before .before .before in
+    let s : Start = l .before .before .before .before .before .before .before .before in
     let i : ℕ = s .args .row .0 in
     let a = l .before .before .symbol-of .ensures ∙ W.row-symbol (s .pre .0) i (s .pre .4) in
     R.kids-end (s .pre .0 .good) (s .pre .1) (s .args .led .now) i (s .pre .3) (W.row-used (s .pre .0) i (s .pre .4)) (s .pre .5) (l .loop .inv .0)

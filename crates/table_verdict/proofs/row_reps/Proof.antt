@@ -17,11 +17,11 @@ use Rattle.table_verdict.proofs.row_reps.Lts as lts
 use Rattle.table_verdict.proofs.row_rep.Reads as row-rep-reads
 
 abbrev Inv-loop : tie.InvT-loop
-Inv-loop words counts used holes head next mix s states t rules reps upto led₀ i₀ led i =
+Inv-loop words counts used index s states t rules reps upto led₀ i₀ led i =
     (0 < i) × (i ≤ upto .0 + 1) × LedBelow (storeOf words counts used) (take states s) (take rules t) reps led i × (length led ≡ length led₀)
 
 abbrev μ-loop : tie.MeasureT-loop
-μ-loop words counts used holes head next mix s states t rules reps upto led₀ i₀ led i = upto .0 + 1 - i
+μ-loop words counts used index s states t rules reps upto led₀ i₀ led i = upto .0 + 1 - i
 
 abbrev Start : Type 0
 Start = lts.Start (row-rep-reads.Asked, row-rep-reads.Learnt) reads.Pre reads.Post Inv-loop μ-loop
@@ -39,19 +39,19 @@ abbrev After : Type 0
 After = lts.After-row-rep (row-rep-reads.Asked, row-rep-reads.Learnt) reads.Pre reads.Post Inv-loop μ-loop
 
 abbrev start : After → Start
-start c = c .before .before .before .before .before .before .before .before .before .before .before .before
+start c = c .before .before .before .before .before .before .before .before .before .before
 
 slice-write-led : tie.Need-slice-write-led Inv-loop μ-loop
 slice-write-led c = search needs
 
 loop-holds : tie.Need-loop-holds Inv-loop μ-loop
 loop-holds c =
-    let s = c .before .before .before .before .before .before .before in
+    let s = c .before .before .before .before .before in
     (omega arith, omega arith, R.led-start (s .pre .0 .good) (s .pre .1) (s .args .led .now) (led-long s), refl)
 
 row-rep-requires : tie.Need-row-rep-requires Inv-loop μ-loop
 row-rep-requires c κs =
-    let s = c .before .before .before .before .before .before .before .before .before .before .before in
+    let s = c .before .before .before .before .before .before .before .before .before in
     let l = c .before .before .before .loop in
     (s .pre .0, s .pre .1, omega (arith, l .inv .2 .long, rows-used s), l .inv .0, omega arith, l .inv .2 .right)
 

@@ -22,12 +22,12 @@ use Rattle.bank_listed.proofs.top_places.Reads as top-places-reads
 use Rattle.table_verdict.proofs.target_of.Reads as target-of-reads
 
 abbrev Inv-loop : tie.InvT-loop
-Inv-loop words counts used holes head next mix s states t rules reps symbols stack₀ height₀ at₀ stack height at =
+Inv-loop words counts used index s states t rules reps symbols stack₀ height₀ at₀ stack height at =
     Running counts (take states s) symbols stack height at ×
     (left (hypothesis words counts used s states t rules reps) (take states s) symbols stack height at ≡ runFrom (hypothesis words counts used s states t rules reps) 0 symbols [])
 
 abbrev μ-loop : tie.MeasureT-loop
-μ-loop words counts used holes head next mix s states t rules reps symbols stack₀ height₀ at₀ stack height at = length symbols - at
+μ-loop words counts used index s states t rules reps symbols stack₀ height₀ at₀ stack height at = length symbols - at
 
 -- a turn: its start, the store, and what is known of the run there
 abbrev Start : Type 0
@@ -37,7 +37,7 @@ abbrev Turn : Type 0
 Turn = lts.In-loop (top-places-reads.Asked, top-places-reads.Learnt, target-of-reads.Asked, target-of-reads.Learnt) reads.Pre reads.Post Inv-loop μ-loop
 
 abbrev start : Turn → Start
-start t = t .before .before .before .before .before .before .before .before .before
+start t = t .before .before .before .before .before .before .before
 
 abbrev s : Start → List ℕ
 s c = take (c .args .states) (c .args .s .now)
@@ -58,17 +58,17 @@ turn c = c .before .before .before .before .before
 loop-holds : tie.Need-loop-holds Inv-loop μ-loop
 unfolding backwards
 loop-holds c =
-    let b : Start = c .before .before .before .before .before .before .before in
+    let b : Start = c .before .before .before .before .before in
     (R.running-start (b .args .counts .now) (s b) (b .args .symbols .now) _ (b .pre .2) refl (b .pre .3), refl)
 
 shared-slice-read-symbol : tie.Need-shared-slice-read-symbol Inv-loop μ-loop
 shared-slice-read-symbol c = search needs
 
 cast-symbol : tie.Need-cast-symbol Inv-loop μ-loop
-cast-symbol c = omega (arith, c .shared-slice-known8 .given (c .before .before .loop .at))
+cast-symbol c = omega (arith, c .shared-slice-known6 .given (c .before .before .loop .at))
 
 cast-count : tie.Need-cast-count Inv-loop μ-loop
-cast-count c = omega (arith, c .shared-slice-known8 .given (c .before .before .loop .at))
+cast-count c = omega (arith, c .shared-slice-known6 .given (c .before .before .loop .at))
 
 shared-slice-read-count : tie.Need-shared-slice-read-count Inv-loop μ-loop
 shared-slice-read-count c = R.known (running (c .before .before)) (c .before .before .loop-test .taken)
@@ -76,7 +76,7 @@ shared-slice-read-count c = R.known (running (c .before .before)) (c .before .be
 cast-count-2 : tie.Need-cast-count-2 Inv-loop μ-loop
 cast-count-2 c =
     let t : Turn = c .before .before in
-    omega (arith, c .shared-slice-known9 .given (getD (start t .args .symbols .now) (t .before .loop .at) 0))
+    omega (arith, c .shared-slice-known7 .given (getD (start t .args .symbols .now) (t .before .loop .at) 0))
 
 top-places-requires : tie.Need-top-places-requires Inv-loop μ-loop
 top-places-requires c κs =
@@ -135,12 +135,12 @@ loop-again c =
     (m .before .top-places .result) (m .target-of .ensures) (m .before .top-places .ensures) (c .if1 .left) in
     (R.pushed (running t) (t .loop-test .taken) k i, sym e ∙ t .before .loop .inv .1)
 
-array-read-t31 : tie.Need-array-read-t31 Inv-loop μ-loop
-array-read-t31 c = omega arith
+array-read-t28 : tie.Need-array-read-t28 Inv-loop μ-loop
+array-read-t28 c = omega arith
 
 returns-2 : tie.Need-returns-2 Inv-loop μ-loop
 returns-2 c =
-    let b : Start = c .before .before .before .before .before .before .before .before .before in
+    let b : Start = c .before .before .before .before .before .before .before in
     sym (R.run-ends (c .before .loop .inv .0) (c .loop-test .left) (hypothesis (b .args .words .now) (b .args .counts .now) (b .args .used) (b .args .s .now) (b .args .states)
     (b .args .t .now) (b .args .rules) (b .args .reps .now))) ∙ ap (ledBy (s b)) (c .before .loop .inv .1)
 
@@ -166,5 +166,5 @@ run-list-spec =
     add-at
     loop-less
     loop-again
-    array-read-t31
+    array-read-t28
     returns-2)

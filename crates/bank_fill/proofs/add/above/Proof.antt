@@ -6,14 +6,13 @@ use Prim.Native.Nat.{ℕ}
 use borrow.Author.Needs.{needs}
 use lib.ListN.{set}
 use Rattle.bank.specs.Rows.{symbolIn, placesIn}
-use Rattle.bank.specs.Index.{findIn}
-use Rattle.bank_fill.specs.Adding.{holeAbove, found}
+use Rattle.bank_fill.specs.Adding.{holeAbove}
 use Rattle.bank_fill.proofs.Laws.Adding.{put-as, mark-there, mark-nowhere}
 use Rattle.bank_fill.proofs.add.above.Statement.{statement}
 use Rattle.bank_fill.proofs.add.above.Tie as tie
 
 abbrev start : tie.Joined1 → tie.Start
-start c = c .before .before .before .before .before .before .before .before .before .before .before .before
+start c = c .before .before .before .before .before .before .before .before .before .before
 
 symbol : (c : tie.Joined1) → c .before .before .before .before .before .before .symbol-of .result ≡ symbolIn (start c .args .words .now) (start c .args .row .0)
 symbol c = c .before .before .before .before .before .before .symbol-of .ensures
@@ -21,7 +20,7 @@ symbol c = c .before .before .before .before .before .before .symbol-of .ensures
 places : (c : tie.Joined1) → set (c .before .before .before .before .places-of .result) (start c .args .place) (start c .args .kid .0) ≡ set (placesIn (start c .args .words .now) (start c .args .row .0)) (start c .args .place) (start c .args .kid .0)
 places c = ap (λ (ps : List ℕ). set ps (start c .args .place) (start c .args .kid .0)) (c .before .before .before .before .places-of .ensures)
 
-hole : (c : tie.Joined1) → c .if1 .hole ≡ holeAbove (start c .args .holes .now) (start c .args .kid .0) (start c .args .place)
+hole : (c : tie.Joined1) → c .if1 .hole ≡ holeAbove (start c .args .index .now) (start c .args .kid .0) (start c .args .place)
 hole c =
     let e = c .before .has-hole .ensures in
     ⊎-elim (λ w. mark-there (start c .args .place) (sym e ∙ w .0 .taken) (w .1)) (λ w. mark-nowhere (start c .args .place) (sym e ∙ w .0 .left) (w .1)) (c .if1 .came)
@@ -50,8 +49,8 @@ cast-hole c = search needs
 add-hole : tie.Need-add-hole
 add-hole c = search needs
 
-find-requires : tie.Need-find-requires
-find-requires c κs = search needs
+put-requires : tie.Need-put-requires
+put-requires c κs = search needs
 
 same-length : tie.Need-same-length
 same-length c = search needs
@@ -59,36 +58,10 @@ same-length c = search needs
 same-length-2 : tie.Need-same-length-2
 same-length-2 c = search needs
 
-same-length-3 : tie.Need-same-length-3
-same-length-3 c = search needs
-
-same-length-4 : tie.Need-same-length-4
-same-length-4 c = search needs
-
 returns : tie.Need-returns
 returns c =
-    let d : tie.Joined1 = c .before .before .before .before .before .before in
-    found (c .before .before .find .ensures ∙ (λ t. findIn (start d .args .words .now) (start d .args .used) (symbol d t) (places d t))) (c .if2 .taken)
-
-add-row-requires : tie.Need-add-row-requires
-add-row-requires c κs = search needs
-
-same-length-5 : tie.Need-same-length-5
-same-length-5 c = search needs
-
-same-length-6 : tie.Need-same-length-6
-same-length-6 c = search needs
-
-same-length-7 : tie.Need-same-length-7
-same-length-7 c = search needs
-
-same-length-8 : tie.Need-same-length-8
-same-length-8 c = search needs
-
-returns-2 : tie.Need-returns-2
-returns-2 c =
-    let d : tie.Joined1 = c .before .before .before .before .before .before .before .before .before .before .before .before .before .before .before .before .before .before .before in
-    put-as (symbol d) (places d) (hole d) (c .before .before .before .before .before .before .before .before .add-row .ensures)
+    let d : tie.Joined1 = c .before .before .before .before .before .before .before in
+    put-as (symbol d) (places d) (hole d) (c .before .before .before .before .put .ensures)
 
 pub above-spec : {M : Type 1} → statement M
 above-spec =
@@ -102,15 +75,7 @@ above-spec =
     has-hole-requires
     cast-hole
     add-hole
-    find-requires
+    put-requires
     same-length
     same-length-2
-    same-length-3
-    same-length-4
-    returns
-    add-row-requires
-    same-length-5
-    same-length-6
-    same-length-7
-    same-length-8
-    returns-2)
+    returns)

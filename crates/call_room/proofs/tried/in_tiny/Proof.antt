@@ -16,16 +16,10 @@ slice-aggregate-call-in-2 c = search needs
 slice-aggregate-call-in-3 : tie.Need-slice-aggregate-call-in-3
 slice-aggregate-call-in-3 c = search needs
 
-slice-aggregate-call-in-4 : tie.Need-slice-aggregate-call-in-4
-slice-aggregate-call-in-4 c = search needs
-
-slice-aggregate-call-in-5 : tie.Need-slice-aggregate-call-in-5
-slice-aggregate-call-in-5 c = search needs
-
 call-in-requires : tie.Need-call-in-requires
 call-in-requires c κs =
-    let s = c .before .before .before .before .before .before .before .before .before .before .before .before in
-    (s .pre .0, s .pre .1, s .pre .2, room-for tinyRows (s .pre .3) refl (omega arith) (omega arith) refl refl (omega (arith, s .pre .4)) refl refl, omega (arith, s .pre .4))
+    let s = c .before .before .before .before .before .before .before .before .before in
+    (s .pre .0, s .pre .1, s .pre .2, room-for tinyRows (s .pre .3) (omega arith) (omega arith) refl (omega (arith, s .pre .4)) refl refl, omega (arith, s .pre .4))
 
 same-length : tie.Need-same-length
 same-length c = search needs
@@ -43,8 +37,6 @@ in-tiny-spec =
     slice-aggregate-call-in
     slice-aggregate-call-in-2
     slice-aggregate-call-in-3
-    slice-aggregate-call-in-4
-    slice-aggregate-call-in-5
     call-in-requires
     same-length
     same-length-2

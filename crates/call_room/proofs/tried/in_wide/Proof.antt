@@ -17,17 +17,11 @@ slice-aggregate-call-in-2 c = search needs
 slice-aggregate-call-in-3 : tie.Need-slice-aggregate-call-in-3
 slice-aggregate-call-in-3 c = search needs
 
-slice-aggregate-call-in-4 : tie.Need-slice-aggregate-call-in-4
-slice-aggregate-call-in-4 c = search needs
-
-slice-aggregate-call-in-5 : tie.Need-slice-aggregate-call-in-5
-slice-aggregate-call-in-5 c = search needs
-
 call-in-requires : tie.Need-call-in-requires
 call-in-requires c κs =
-    let s = c .before .before .before .before .before .before .before .before .before .before .before .before in
+    let s = c .before .before .before .before .before .before .before .before .before in
     let f = listsFit-facts (s .args .lists) (s .pre .1) in
-    (s .pre .0, s .pre .1, s .pre .2, room-for mostRows (words-few (s .args .words .now) (s .pre .0)) refl (omega arith) (omega arith) refl refl (omega (arith, f .rules)) refl refl, omega (arith, f .rules))
+    (s .pre .0, s .pre .1, s .pre .2, room-for mostRows (words-few (s .args .words .now) (s .pre .0)) (omega arith) (omega arith) refl (omega (arith, f .rules)) refl refl, omega (arith, f .rules))
 
 same-length : tie.Need-same-length
 same-length c = search needs
@@ -45,8 +39,6 @@ in-wide-spec =
     slice-aggregate-call-in
     slice-aggregate-call-in-2
     slice-aggregate-call-in-3
-    slice-aggregate-call-in-4
-    slice-aggregate-call-in-5
     call-in-requires
     same-length
     same-length-2

@@ -13,7 +13,7 @@ t2-requires c κs = search needs
 
 returns : tie.Need-returns
 returns c =
-    let s = c .before .before .before .before .before .before .before .before .before in
+    let s = c .before .before .before .before .before .before .before in
     stops _ _ (sym (t2-given (s .pre .0) (s .args .s .now) (s .args .states) (s .args .t .now) (s .args .rules) (s .args .c .now) (s .args .contexts) (omega (arith, s .pre .1)) (s .pre .2) (omega (arith, s .pre .3)) (s .pre .4)) ∙ sym (c .before .t2 .ensures) ∙ not-true (c .before .t2 .result) (c .if1 .taken))
 
 t3-requires : tie.Need-t3-requires
@@ -21,7 +21,7 @@ t3-requires c κs = search needs
 
 returns-2 : tie.Need-returns-2
 returns-2 c =
-    let s = c .before .before .before .before .before .before .before .before .before .before .before .before .before in
+    let s = c .before .before .before .before .before .before .before .before .before .before .before in
     stops _ _ (sym (t3-given (s .pre .0) (s .args .s .now) (s .args .states) (s .args .t .now) (s .args .rules) (s .args .c .now) (s .args .contexts) (omega (arith, s .pre .1)) (s .pre .2) (omega (arith, s .pre .3)) (s .pre .4)) ∙ sym (c .before .t3 .ensures) ∙ not-true (c .before .t3 .result) (c .if2 .taken)) ∙ goes-on _ _ (sym (t2-given (s .pre .0) (s .args .s .now) (s .args .states) (s .args .t .now) (s .args .rules) (s .args .c .now) (s .args .contexts) (omega (arith, s .pre .1)) (s .pre .2) (omega (arith, s .pre .3)) (s .pre .4)) ∙ sym (c .before .before .before .before .before .t2 .ensures) ∙ not-false (c .before .before .before .before .before .t2 .result) (c .before .before .before .before .if1 .left))
 
 add-contexts-fit : tie.Need-add-contexts-fit
@@ -32,7 +32,7 @@ contexts-fit-requires c κs = search needs
 
 returns-3 : tie.Need-returns-3
 returns-3 c =
-    let s = c .before .before .before .before .before .before .before .before .before .before .before .before .before .before .before in
+    let s = c .before .before .before .before .before .before .before .before .before .before .before .before .before in
     c .contexts-fit .ensures ∙ t4-given (s .pre .0) (s .args .s .now) (s .args .states) (s .args .t .now) (s .args .rules) (s .args .c .now) (s .args .contexts) (omega (arith, s .pre .1)) (s .pre .2) (omega (arith, s .pre .3)) (s .pre .4) ∙ goes-on _ _ (sym (t3-given (s .pre .0) (s .args .s .now) (s .args .states) (s .args .t .now) (s .args .rules) (s .args .c .now) (s .args .contexts) (omega (arith, s .pre .1)) (s .pre .2) (omega (arith, s .pre .3)) (s .pre .4)) ∙ sym (c .before .before .before .t3 .ensures) ∙ not-false (c .before .before .before .t3 .result) (c .before .before .if2 .left)) ∙ goes-on _ _ (sym (t2-given (s .pre .0) (s .args .s .now) (s .args .states) (s .args .t .now) (s .args .rules) (s .args .c .now) (s .args .contexts) (omega (arith, s .pre .1)) (s .pre .2) (omega (arith, s .pre .3)) (s .pre .4)) ∙ sym (c .before .before .before .before .before .before .before .t2 .ensures) ∙ not-false (c .before .before .before .before .before .before .before .t2 .result) (c .before .before .before .before .before .before .if1 .left))
 
 pub roles-fit-spec : {M : Type 1} → statement M

@@ -15,55 +15,55 @@ use Rattle.sound_roles.proofs.transitions.kids_in.Statement.{statement}
 use Rattle.sound_roles.proofs.transitions.kids_in.Tie as tie
 
 abbrev Inv-loop : tie.InvT-loop
-Inv-loop words counts used holes head next mix row s states symbol count k₀ k =
+Inv-loop words counts used index row s states symbol count k₀ k =
     (count ≡ getD counts (symbolIn words (row .0)) 0) × (k ≤ count) ×
     (all (λ (j : ℕ). among j (take states s)) (drop k (kidsAt (storeOf words counts used) (row .0))) ≡ all (λ (j : ℕ). among j (take states s)) (kidsAt (storeOf words counts used) (row .0)))
 
 abbrev μ-loop : tie.MeasureT-loop
-μ-loop words counts used holes head next mix row s states symbol count k₀ k = count - k
+μ-loop words counts used index row s states symbol count k₀ k = count - k
 
 symbol-of-requires : tie.Need-symbol-of-requires Inv-loop μ-loop
-symbol-of-requires c κs = let s = c .before .before .before .before .before .before in row-within (s .pre .0) (s .args .row .0) (s .pre .2)
+symbol-of-requires c κs = let s = c .before .before .before .before in row-within (s .pre .0) (s .args .row .0) (s .pre .2)
 
 cast-count : tie.Need-cast-count Inv-loop μ-loop
 cast-count c = search needs
 
 shared-slice-read-count : tie.Need-shared-slice-read-count Inv-loop μ-loop
-shared-slice-read-count c = let s = c .before .before .before .before .before .before .before .before in omega (arith, symbol-known (s .pre .0) (s .args .row .0) (s .pre .2) (s .pre .1), c .before .symbol-of .ensures)
+shared-slice-read-count c = let s = c .before .before .before .before .before .before in omega (arith, symbol-known (s .pre .0) (s .args .row .0) (s .pre .2) (s .pre .1), c .before .symbol-of .ensures)
 
 cast-count-2 : tie.Need-cast-count-2 Inv-loop μ-loop
-cast-count-2 c = omega (arith, c .before .before .before .before .before .before .before .before .pre .0 .good .wide (c .before .symbol-of .result))
+cast-count-2 c = omega (arith, c .before .before .before .before .before .before .pre .0 .good .wide (c .before .symbol-of .result))
 
 loop-holds : tie.Need-loop-holds Inv-loop μ-loop
-loop-holds c = let s = c .before .before .before .before .before .before .before .before in (ap (λ (a : ℕ). getD (s .args .counts .now) a 0) (c .before .symbol-of .ensures), omega arith, refl)
+loop-holds c = let s = c .before .before .before .before .before .before in (ap (λ (a : ℕ). getD (s .args .counts .now) a 0) (c .before .symbol-of .ensures), omega arith, refl)
 
 kid-of-requires : tie.Need-kid-of-requires Inv-loop μ-loop
 kid-of-requires c κs =
-    let s = c .before .before .before .before .before .before .before .before .before .before in
+    let s = c .before .before .before .before .before .before .before .before in
     let e = c .before .loop .inv .0 in
     let f = kids-few (s .pre .0) (s .args .row .0) (s .pre .2) (s .pre .1) in
     (row-within (s .pre .0) (s .args .row .0) (s .pre .2), omega arith)
 
 cast-is-among : tie.Need-cast-is-among Inv-loop μ-loop
 cast-is-among c =
-    let s = c .before .before .before .before .before .before .before .before .before .before .before in
+    let s = c .before .before .before .before .before .before .before .before .before in
     let l = c .before .before .loop in
     let d = kid-earlier (s .pre .0) (s .args .row .0) (s .pre .2) (s .pre .1) (l .k) (omega (arith, l .inv .0)) in
     omega (arith, c .kid-of .ensures, s .pre .0 .finding .few)
 
 is-among-requires : tie.Need-is-among-requires Inv-loop μ-loop
-is-among-requires c κs = c .before .before .before .before .before .before .before .before .before .before .before .pre .3
+is-among-requires c κs = c .before .before .before .before .before .before .before .before .before .pre .3
 
 returns : tie.Need-returns Inv-loop μ-loop
 returns c =
-    let s = c .before .before .before .before .before .before .before .before .before .before .before .before .before in
+    let s = c .before .before .before .before .before .before .before .before .before .before .before in
     let l = c .before .before .before .before .loop in
     kid-strange (s .pre .0) (s .args .row .0) (s .pre .2) (s .pre .1) (take (s .args .states) (s .args .s .now)) (l .k) _ (l .inv .2 ∙ kids-each (s .pre .0) (s .args .row .0) (s .pre .2) (s .pre .1) (take (s .args .states) (s .args .s .now))) (omega (arith, l .inv .0))
     (ap (λ (j : ℕ). among j (take (s .args .states) (s .args .s .now))) (sym (c .before .before .kid-of .ensures)) ∙ sym (c .before .is-among .ensures) ∙ not-true (c .before .is-among .result) (c .if1 .taken))
 
 add-k : tie.Need-add-k Inv-loop μ-loop
 add-k c =
-    let s = c .before .before .before .before .before .before .before .before .before .before .before .before .before in
+    let s = c .before .before .before .before .before .before .before .before .before .before .before in
     omega (arith, c .before .before .before .before .loop .inv .0, kids-few (s .pre .0) (s .args .row .0) (s .pre .2) (s .pre .1))
 
 loop-less : tie.Need-loop-less Inv-loop μ-loop
@@ -71,13 +71,13 @@ loop-less c = search needs
 
 loop-again : tie.Need-loop-again Inv-loop μ-loop
 loop-again c =
-    let s = c .before .before .before .before .before .before .before .before .before .before .before .before .before in
+    let s = c .before .before .before .before .before .before .before .before .before .before .before in
     let l = c .before .before .before .before .loop in
     (l .inv .0, omega arith, kid-among (s .pre .0) (s .args .row .0) (s .pre .2) (s .pre .1) (take (s .args .states) (s .args .s .now)) (l .k) _ (l .inv .2) (omega (arith, l .inv .0)) (ap (λ (j : ℕ). among j (take (s .args .states) (s .args .s .now))) (sym (c .before .before .kid-of .ensures)) ∙ sym (c .before .is-among .ensures) ∙ not-false (c .before .is-among .result) (c .if1 .left)))
 
 returns-2 : tie.Need-returns-2 Inv-loop μ-loop
 returns-2 c =
-    let s = c .before .before .before .before .before .before .before .before .before .before in
+    let s = c .before .before .before .before .before .before .before .before in
     let l = c .before .loop in
     kids-done (s .pre .0) (s .args .row .0) (s .pre .2) (s .pre .1) (take (s .args .states) (s .args .s .now)) (l .k) _ (l .inv .2 ∙ kids-each (s .pre .0) (s .args .row .0) (s .pre .2) (s .pre .1) (take (s .args .states) (s .args .s .now))) (omega (arith, l .inv .0))
 

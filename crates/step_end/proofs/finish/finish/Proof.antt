@@ -37,11 +37,11 @@ cast-letters : tie.Need-cast-letters
 cast-letters c = search needs
 
 array-share-prefix-counts : tie.Need-array-share-prefix-counts
-array-share-prefix-counts c = letters (c .before .before .before .before .before .before .before .before .before .before .before)
+array-share-prefix-counts c = letters (c .before .before .before .before .before .before .before .before .before)
 
 slice-aggregate-settle : tie.Need-slice-aggregate-settle
 slice-aggregate-settle c =
-    let s : Start = c .before .before .before .before .before .before .before .before .before .before .before .before in
+    let s : Start = c .before .before .before .before .before .before .before .before .before .before in
     sym (length-take-le (s .args .lists .letters) (s .args .lists .counts) (letters s))
 
 cast-settle : tie.Need-cast-settle
@@ -55,7 +55,7 @@ cast-settle-3 c = search needs
 
 settle-requires : tie.Need-settle-requires
 settle-requires c κs =
-    let s : Start = c .before .before .before .before .before .before .before .before .before .before .before .before .before .before .before .before .before .before .before .before .before .before in
+    let s : Start = c .before .before .before .before .before .before .before .before .before .before .before .before .before .before .before .before .before .before in
     (s .pre .0 .ready, settling (s .pre .0) (arrays s), s .pre .1)
 
 left-by-requires : tie.Need-left-by-requires
@@ -70,17 +70,11 @@ same-length-2 c = search needs
 same-length-3 : tie.Need-same-length-3
 same-length-3 c = search needs
 
-same-length-4 : tie.Need-same-length-4
-same-length-4 c = search needs
-
-same-length-5 : tie.Need-same-length-5
-same-length-5 c = search needs
-
 returns : tie.Need-returns
 returns c =
-    let w = c .before .before .before .before .before .before .before .before .before .before .before in
-    let s : Start = w .before .before .before .before .before .before .before .before .before .before .before .before .before .before .before .before .before .before .before .before .before .before .before in
-    finished (s .pre .0) (arrays s) (s .pre .2) (s .pre .3) (s .pre .4) (w .settle .result) (w .settle .last .1 .1 .1 .1 .1 .1 .1 .0) (w .settle .last .0) (w .settle .ensures) (c .left-by .ensures) .ended
+    let w = c .before .before .before .before .before .before .before in
+    let s : Start = w .before .before .before .before .before .before .before .before .before .before .before .before .before .before .before .before .before .before .before in
+    finished (s .pre .0) (arrays s) (s .pre .2) (s .pre .3) (s .pre .4) (w .settle .result) (w .settle .last .1 .1 .1 .1 .0) (w .settle .last .0) (w .settle .ensures) (c .left-by .ensures) .ended
 
 pub finish-spec : {M : Type 1} → statement M
 finish-spec =
@@ -97,6 +91,4 @@ finish-spec =
     same-length
     same-length-2
     same-length-3
-    same-length-4
-    same-length-5
     returns)

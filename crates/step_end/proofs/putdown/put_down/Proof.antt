@@ -54,10 +54,10 @@ abbrev Entered : Type 0
 Entered = lts.After-with-context claims reads.Pre reads.Post
 
 abbrev start : Filled → Start
-start c = c .before .before .before .before .before .before .before .before .before .before .before .before .before .before
+start c = c .before .before .before .before .before .before .before .before .before .before
 
 abbrev filled : Entered → Filled
-filled c = c .before .before .before .before .before .before .before .before .before .before .before .before
+filled c = c .before .before .before .before .before .before .before .before
 
 abbrev begun : Entered → Start
 begun c = start (filled c)
@@ -88,12 +88,12 @@ letters s = few-letters (s .pre .0) (arrays s)
 -- how filling ended
 came : (c : Filled) →
     Comes (start c .args .words .now) (countsIn (start c .args .lists)) (start c .args .lists .used) (fill (tablesOf (start c .args .words .now) (start c .args .lists) .store) (way (start c)) 0)
-    (c .fill .result) (c .fill .last .0) (c .fill .last .1 .1 .1 .0) (c .fill .last .1 .1 .1 .1 .0) (c .fill .last .1 .1 .1 .1 .1 .0) (start c .args .mix .now)
+    (c .fill .result) (c .fill .last .0) (c .fill .last .1 .1 .1 .0)
 came c = record { came = c .fill .ensures }
 
 down : (c : Entered) →
     Reached (begun c .args .words .now) (countsIn (begun c .args .lists)) (begun c .args .lists .used) (way (begun c)) 0 (context c) (count c) (filled c .fill .last .0)
-    (filled c .fill .last .1 .1 .1 .0) (filled c .fill .last .1 .1 .1 .1 .0) (filled c .fill .last .1 .1 .1 .1 .1 .0) (begun c .args .mix .now)
+    (filled c .fill .last .1 .1 .1 .0)
 down c =
     let s : Start = begun c in
     reached (s .args .words .now) (countsIn (s .args .lists)) (s .args .lists .used) (way s) 0 (s .pre .0 .ready .good) (s .pre .5) (s .pre .0 .ready .finding .some)
@@ -103,16 +103,16 @@ cast-letters : tie.Need-cast-letters
 cast-letters c = search needs
 
 array-share-prefix-counts : tie.Need-array-share-prefix-counts
-array-share-prefix-counts c = letters (c .before .before .before .before .before .before .before .before .before)
+array-share-prefix-counts c = letters (c .before .before .before .before .before .before .before)
 
 slice-aggregate-fill : tie.Need-slice-aggregate-fill
 slice-aggregate-fill c =
-    let s : Start = c .before .before .before .before .before .before .before .before .before .before in
+    let s : Start = c .before .before .before .before .before .before .before .before in
     sym (length-take-le (s .args .lists .letters) (s .args .lists .counts) (letters s))
 
 fill-requires : tie.Need-fill-requires
 fill-requires c κs =
-    let s : Start = c .before .before .before .before .before .before .before .before .before .before .before .before .before in
+    let s : Start = c .before .before .before .before .before .before .before .before .before in
     let h : s .args .hand .0 < s .args .lists .used = omega (arith, s .pre .4 .within, used-of (s .args .words .now) (countsIn (s .args .lists)) (s .args .lists .used)) in
     (s .pre .0 .ready, s .pre .2, h, s .pre .0 .ready .finding .some, s .pre .5)
 
@@ -139,9 +139,9 @@ forget-requires c κs =
 
 finish-requires : tie.Need-finish-requires
 finish-requires c κs =
-    let e : Entered = c .before .before .before .before .before .before .before .before .before .before in
+    let e : Entered = c .before .before .before .before .before .before .before .before in
     let s : Start = begun e in
-    let f = c .before .before .before .before .before .before .before .forget in
+    let f = c .before .before .before .before .before .forget in
     let w = e .with-context .ensures in (
       stepping-after (s .pre .0) (arrays s) (s .pre .3) (down e) (e .with-context .result) w,
       known-after (s .pre .0) (arrays s) (s .pre .3) (down e) (e .with-context .result) w (f .ensures) (omega (arith, s .pre .1, f .kept .0)),
@@ -156,38 +156,26 @@ same-length c = search needs
 same-length-2 : tie.Need-same-length-2
 same-length-2 c = search needs
 
-same-length-3 : tie.Need-same-length-3
-same-length-3 c = search needs
-
-same-length-4 : tie.Need-same-length-4
-same-length-4 c = search needs
-
 returns : tie.Need-returns
 returns c =
-    let f : Filled = c .before .before .before .before .before .before .before .before .before .before .before in
+    let f : Filled = c .before .before .before .before .before .before .before in
     put-none (start f .args .words .now) (start f .args .lists) (way (start f)) (c .short .result) (comes-as (c .before .enum-told .given .1) (came f)) (c .short .ensures .0) .ended
 
+same-length-3 : tie.Need-same-length-3
+same-length-3 c = c .before .before .before .before .before .before .finish .kept .0 ∙ c .before .before .before .before .before .before .before .before .before .before .before .before .before .before .before .before .before .before .before .before .before .before .before .fill .kept .0
+
+same-length-4 : tie.Need-same-length-4
+same-length-4 c = c .before .before .before .before .before .before .finish .kept .1 .1 .0 ∙ c .before .before .before .before .before .before .before .before .before .before .before .before .before .before .before .before .before .before .before .before .before .before .before .fill .kept .1 .1 .1 .0
+
 same-length-5 : tie.Need-same-length-5
-same-length-5 c = c .before .before .before .before .before .before .before .before .before .before .finish .kept .0 ∙ c .before .before .before .before .before .before .before .before .before .before .before .before .before .before .before .before .before .before .before .before .before .before .before .before .before .before .before .before .before .before .before .before .before .fill .kept .0
-
-same-length-6 : tie.Need-same-length-6
-same-length-6 c = c .before .before .before .before .before .before .before .before .before .before .finish .kept .1 .1 .0 ∙ c .before .before .before .before .before .before .before .before .before .before .before .before .before .before .before .before .before .before .before .before .before .before .before .before .before .before .before .before .before .before .before .before .before .fill .kept .1 .1 .1 .0
-
-same-length-7 : tie.Need-same-length-7
-same-length-7 c = c .before .before .before .before .before .before .before .before .before .before .finish .kept .1 .1 .1 .0 ∙ c .before .before .before .before .before .before .before .before .before .before .before .before .before .before .before .before .before .before .before .before .before .before .before .before .before .before .before .before .before .before .before .before .before .fill .kept .1 .1 .1 .1 .0
-
-same-length-8 : tie.Need-same-length-8
-same-length-8 c = c .before .before .before .before .before .before .before .before .before .before .finish .kept .1 .1 .1 .1 .0 ∙ c .before .before .before .before .before .before .before .before .before .before .before .before .before .before .before .before .before .before .before .before .before .before .before .before .before .before .before .before .before .before .before .before .before .fill .kept .1 .1 .1 .1 .1 .0
-
-same-length-9 : tie.Need-same-length-9
-same-length-9 c = search needs
+same-length-5 c = search needs
 
 returns-2 : tie.Need-returns-2
 returns-2 c =
-    let e : Entered = c .before .before .before .before .before .before .before .before .before .before .before .before .before .before .before .before .before .before .before .before .before in
+    let e : Entered = c .before .before .before .before .before .before .before .before .before .before .before .before .before .before .before in
     let s : Start = begun e in
-    put-ends (s .pre .0) (arrays s) (s .pre .3) (down e) (e .with-context .result) (e .with-context .ensures) (c .before .before .before .before .before .before .before .before .before .before .finish .result) (c .before .before .before .before .before .before .before .before .before .before .finish .last .0)
-    (record { ended = c .before .before .before .before .before .before .before .before .before .before .finish .ensures }) .ended
+    put-ends (s .pre .0) (arrays s) (s .pre .3) (down e) (e .with-context .result) (e .with-context .ensures) (c .before .before .before .before .before .before .finish .result) (c .before .before .before .before .before .before .finish .last .0)
+    (record { ended = c .before .before .before .before .before .before .finish .ensures }) .ended
 
 pub put-down-spec : {M : Type 1} → statement M
 put-down-spec =
@@ -206,12 +194,8 @@ put-down-spec =
     finish-requires
     same-length
     same-length-2
+    returns
     same-length-3
     same-length-4
-    returns
     same-length-5
-    same-length-6
-    same-length-7
-    same-length-8
-    same-length-9
     returns-2)

@@ -13,25 +13,25 @@ use Rattle.table_answers.proofs.gap.gap_with.Statement.{statement}
 use Rattle.table_answers.proofs.gap.gap_with.Tie as tie
 
 abbrev Inv-loop : tie.InvT-loop
-Inv-loop words counts used holes head next mix t rules c contexts table₀ list filled₀ n k₀ table filled k =
+Inv-loop words counts used index t rules c contexts table₀ list filled₀ n k₀ table filled k =
     (k ≤ rules) × (length filled ≡ length filled₀) × (length table ≡ length table₀) × Observed (storeOf words counts used) (answersIn used words) t k c contexts table × KnownRows (storeOf words counts used) (answersIn used words) t rules c contexts table
 
 abbrev μ-loop : tie.MeasureT-loop
-μ-loop words counts used holes head next mix t rules c contexts table₀ list filled₀ n k₀ table filled k = rules - k
+μ-loop words counts used index t rules c contexts table₀ list filled₀ n k₀ table filled k = rules - k
 
 holed-rows-requires : tie.Need-holed-rows-requires Inv-loop μ-loop
 holed-rows-requires c κs =
-    let s = c .before .before .before .before .before .before .before .before .before in
-    (omega (arith, s .pre .0 .holes-long, s .pre .0 .finding .room), s .pre .9, s .pre .0 .finding .some, s .pre .0 .finding .few)
+    let s = c .before .before .before .before .before .before .before in
+    (omega (arith, s .pre .0 .finding .roomy .long, s .pre .0 .finding .room), s .pre .9, s .pre .0 .finding .some, s .pre .0 .finding .few)
 
 loop-holds : tie.Need-loop-holds Inv-loop μ-loop
 loop-holds c =
-    let s = c .before .before .before .before .before .before .before .before .before .before .before .before in
+    let s = c .before .before .before .before .before .before .before .before .before .before in
     (omega arith, refl, refl, observed-none (storeOf (s .args .words .now) (s .args .counts .now) (s .args .used)) (answersIn (s .args .used) (s .args .words .now)) (s .args .t .now) (s .args .c .now) (s .args .contexts) (s .args .table .now) (s .pre .7), s .pre .8)
 
 update-row-requires : tie.Need-update-row-requires Inv-loop μ-loop
 update-row-requires c κs =
-    let s = c .before .before .before .before .before .before .before .before .before .before .before .before .before .before .before .before .before in
+    let s = c .before .before .before .before .before .before .before .before .before .before .before .before .before .before .before in
     let l = c .before .before .before .before .loop in
     let more = c .before .before .before .loop-test .taken in
     (s .pre .0, s .pre .1, c .before .before .before .before .before .before .before .holed-rows .ensures, s .pre .3, more, s .pre .2 (l .k) more, s .pre .5, s .pre .6, omega (arith, l .inv .1, s .pre .10), l .inv .3, l .inv .4)
@@ -65,7 +65,7 @@ loop-again c =
     let u = c .before .before .before .before .before .update-row .ensures in
     let more = c .before .before .before .before .before .before .before .before .before .loop-test .taken in
     let l = c .before .before .before .before .before .before .before .before .before .before .loop in
-    (omega (arith, more), u .2 ∙ l .inv .1, c .before .before .before .before .before .update-row .kept .1 .1 .1 .1 .1 .1 .1 .1 .1 .1 .1 .1 .1 .1 .1 .0 ∙ l .inv .2, u .0, u .1)
+    (omega (arith, more), u .2 ∙ l .inv .1, c .before .before .before .before .before .update-row .kept .1 .1 .1 .1 .1 .1 .1 .1 .1 .1 .1 .1 .0 ∙ l .inv .2, u .0, u .1)
 
 same-length-4 : tie.Need-same-length-4 Inv-loop μ-loop
 same-length-4 c = search needs
@@ -78,7 +78,7 @@ same-length-6 c = search needs
 
 returns-2 : tie.Need-returns-2 Inv-loop μ-loop
 returns-2 c =
-    let s = c .before .before .before .before .before .before .before .before .before .before .before .before .before .before in
+    let s = c .before .before .before .before .before .before .before .before .before .before .before .before in
     let l = c .before .loop in
     let e : l .k ≡ s .args .rules = omega arith in
     record { few = omega arith; observed = subst (λ (k : ℕ). Observed (storeOf (s .args .words .now) (s .args .counts .now) (s .args .used)) (answersIn (s .args .used) (s .args .words .now)) (s .args .t .now) k (s .args .c .now) (s .args .contexts) (l .table)) e (l .inv .3); whole = λ g. refl }

@@ -18,14 +18,14 @@ same-length c = search needs
 
 returns : tie.Need-returns
 returns c =
-    let s = c .before .before .before .before .before .before .before .before .before .before .before in
+    let s = c .before .before .before .before .before .before .before .before .before in
     let h = c .before .has-answer in
     let e : h .result ≡ false = not-true _ (c .if1 .taken) in
     (observed-known (s .pre .10) (s .args .k) (s .pre .4) (sym (h .ensures) ∙ e) (s .pre .9), s .pre .10, refl, sym e ∙ h .ensures)
 
 observe-row-requires : tie.Need-observe-row-requires
 observe-row-requires c κs =
-    let s = c .before .before .before .before .before .before .before .before .before .before .before .before .before in
+    let s = c .before .before .before .before .before .before .before .before .before .before .before in
     let z = s .pre .10 .sized in
     (s .pre .0, s .pre .1, s .pre .2, s .pre .3, omega (arith, s .pre .4, z .few-t), s .pre .5, s .pre .6, s .pre .7, z .few-c, s .pre .8, omega (arith, z .long, s .pre .4), s .pre .9)
 
@@ -40,7 +40,7 @@ same-length-3 c = search needs
 
 returns-2 : tie.Need-returns-2
 returns-2 c =
-    let s = c .before .before .before .before .before .before .before .before .before .before .before .before .before .before .before .before .before .before .before .before in
+    let s = c .before .before .before .before .before .before .before .before .before .before .before .before .before .before .before .before .before .before in
     let o = c .before .before .before .before .before .before .observe-row .ensures in
     (o .0, rw (o .1 .1) (known-more (s .pre .10) (s .args .k) (s .pre .4) (omega (arith, s .pre .7, s .pre .10 .sized .few-c))), o .1 .0, c .has-answer2 .ensures)
 
