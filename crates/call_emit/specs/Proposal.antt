@@ -6,8 +6,8 @@ use Prim.Native.Nat.{ℕ, _+_, _*_, _<_}
 use lib.Dec.{leb, eqb}
 use lib.ListN.{length, getD, drop}
 use Rattle.model.specs.Limits.{mostRules}
-use Rattle.model.specs.Base.{over}
-use Rattle.model.specs.Store.{Store}
+use Rattle.model.specs.Base.{In, Each, over}
+use Rattle.model.specs.Store.{Store, used, kidsAt}
 use Rattle.model.specs.Automata.{Automaton}
 use Rattle.model.specs.Listing.{emitted}
 use Rattle.model.specs.declared.Emitted.{Emitted}
@@ -18,6 +18,13 @@ use Rattle.list.specs.Flat.{ruleWidth, flatRule}
 -- 1 for a state that is final, by its representative
 abbrev pub finalByte : (words : List ℕ) → (rep : ℕ) → ℕ
 finalByte ws i = cond (eqb (answerIn ws i) 2) 1 0
+
+-- a row whose rule has bytes: its children and its representative are in S
+pub record Transition (x : Store) (s reps : List ℕ) (row : ℕ) : Type 0 where
+  pub some : 0 < row
+  pub within : row < used x
+  pub kids : Each (λ (k : ℕ). In k s) (kidsAt x row)
+  pub target : In (getD reps row 0) s
 
 -- the first n rules, six bytes each
 pub record Flat (x : Store) (s t reps : List ℕ) (n : ℕ) (flat : List ℕ) : Type 0 where

@@ -9,11 +9,11 @@ ghost use Rattle.model.specs.Table.{finalsOf};
 ghost use Rattle.model.specs.Sound.{isSound};
 ghost use Rattle.model.specs.Entry.{storeOf, answersIn, sizeFits, listsFit, tablesOf, emitSeen, emitOut};
 ghost use Rattle.bank.specs.Rows.{Within};
-ghost use Rattle.bank.specs.Ready.{Ready};
+ghost use Rattle.table_verdict.specs.Rows.{RowsIn};
 ghost use Rattle.table_verdict.specs.Rules.{ruleBy, Ruled};
 ghost use Rattle.list.specs.Flat.{flatRule, flatAutomaton, Short, ruleWidth};
 ghost use Rattle.sound.specs.Working.{Working};
-ghost use Rattle.call_emit.specs.Proposal.{finalByte, Flat, SixAt, listedSeen, listedOut};
+ghost use Rattle.call_emit.specs.Proposal.{finalByte, Transition, Flat, SixAt, listedSeen, listedOut};
 use bank::index::INDEX_WIDTH;
 use bank::rows;
 use model::Emitted;
@@ -36,18 +36,19 @@ fn final_byte(words: &[u32], rep: Row) -> u8
 }
 
 // A final byte for each state.
-fn write_finals(
-    words: &[u32],
-    used: u16,
-    s: &[u16; MOST_STATES],
-    states: usize,
-    finals: &mut [u8; MOST_STATES],
-)
-    requires { ⌜ (rowWidth * used ≤ length (now words)) × (length (now s) ≡ mostStates) × (states ≤ mostStates) × ((i : ℕ) → i < states → getD (now s) i 0 < used) × (length (now finals) ≡ mostStates) ⌝ }
-    ensures { λ _. ⌜ (take states (now (finals .exit)) ≡ finalsOf (answersIn used (now (words .entry))) (take states (now (s .entry)))) × (length (now (finals .exit)) ≡ mostStates) ⌝ }
+fn write_finals(words: &[u32], used: u16, s: &[u16], finals: &mut [u8; MOST_STATES])
+    requires { ⌜ (rowWidth * used ≤ length (now words))
+        × (length (now s) ≤ mostStates)
+        × ((i : ℕ) → i < length (now s) → getD (now s) i 0 < used)
+        × (length (now finals) ≡ mostStates) ⌝ }
+    ensures { λ _.
+        let states = length (now (s .entry)) in
+        let answers = answersIn used (now (words .entry)) in
+        ⌜ (take states (now (finals .exit)) ≡ finalsOf answers (now (s .entry)))
+        × (length (now (finals .exit)) ≡ mostStates) ⌝ }
 {
     let mut q = 0;
-    while q < states {
+    while q < s.len() {
         let byte = final_byte(words, Row(s[q]));
         finals[q] = byte;
         q += 1;
@@ -59,18 +60,20 @@ fn rule_bytes(
     words: &[u32],
     counts: &[u8],
     used: u16,
-    index: &[u16],
-    s: &[u16; MOST_STATES],
-    states: usize,
-    t: &[u16; MOST_RULES],
-    rules: usize,
+    s: &[u16],
     reps: &[u16],
-    k: usize,
+    row: Row,
 ) -> [u8; list::RULE_WIDTH]
-    requires { ⌜ Ready (now words) (now counts) used (now index) × Ruled (storeOf (now words) (now counts) used) (take states (now s)) (take rules (now t)) (now reps) × (length (now s) ≡ mostStates) × (states ≤ mostStates) × (length (now t) ≡ mostRules) × (rules ≤ mostRules) × (k < rules) ⌝ }
-    ensures { λ r. ⌜ (length r ≡ ruleWidth) × (flatRule (now (counts .entry)) r ≡ ruleBy (storeOf (now (words .entry)) (now (counts .entry)) used) (take states (now (s .entry))) (now (reps .entry)) (getD (now (t .entry)) k 0)) ⌝ }
+    requires { let x = storeOf (now words) (now counts) used in
+        ⌜ RowsIn (now words) (now counts) used
+        × (length (now s) ≤ mostStates)
+        × (used ≤ length (now reps))
+        × Transition x (now s) (now reps) (row .0) ⌝ }
+    ensures { λ r.
+        let x = storeOf (now (words .entry)) (now (counts .entry)) used in
+        ⌜ (length r ≡ ruleWidth)
+        × (flatRule (now (counts .entry)) r ≡ ruleBy x (now (s .entry)) (now (reps .entry)) (row .0)) ⌝ }
 {
-    let row = Row(t[k]);
     let symbol = rows::symbol_of(words, row);
     let count = counts[symbol as usize] as usize;
     let mut bytes = [0u8; list::RULE_WIDTH];
@@ -78,11 +81,11 @@ fn rule_bytes(
     let mut i = 0;
     while i < count {
         let kid = rows::kid_of(words, row, i) as u16;
-        let state = run_lists::place_of(s, states, kid);
+        let state = run_lists::place_of(s, Row(kid));
         bytes[1 + i] = state as u8;
         i += 1;
     }
-    let target = run_lists::place_of(s, states, reps[row.0 as usize]);
+    let target = run_lists::place_of(s, Row(reps[row.0 as usize]));
     bytes[5] = target as u8;
     bytes
 }
@@ -105,20 +108,24 @@ fn write_rules(
     words: &[u32],
     counts: &[u8],
     used: u16,
-    index: &[u16],
-    s: &[u16; MOST_STATES],
-    states: usize,
-    t: &[u16; MOST_RULES],
-    rules: usize,
+    s: &[u16],
+    t: &[u16],
     reps: &[u16],
     flat: &mut [u8; list::RULE_WIDTH * MOST_RULES],
 )
-    requires { ⌜ Ready (now words) (now counts) used (now index) × Ruled (storeOf (now words) (now counts) used) (take states (now s)) (take rules (now t)) (now reps) × (length (now s) ≡ mostStates) × (states ≤ mostStates) × (length (now t) ≡ mostRules) × (rules ≤ mostRules) × (length (now flat) ≡ ruleWidth * mostRules) ⌝ }
-    ensures { λ _. ⌜ Flat (storeOf (now (words .entry)) (now (counts .entry)) used) (take states (now (s .entry))) (now (t .entry)) (now (reps .entry)) rules (now (flat .exit)) ⌝ }
+    requires { let x = storeOf (now words) (now counts) used in
+        ⌜ RowsIn (now words) (now counts) used
+        × Ruled x (now s) (now t) (now reps)
+        × (length (now t) ≤ mostRules)
+        × (length (now flat) ≡ ruleWidth * mostRules) ⌝ }
+    ensures { λ _.
+        let x = storeOf (now (words .entry)) (now (counts .entry)) used in
+        let rules = length (now (t .entry)) in
+        ⌜ Flat x (now (s .entry)) (now (t .entry)) (now (reps .entry)) rules (now (flat .exit)) ⌝ }
 {
     let mut k = 0;
-    while k < rules {
-        let bytes = rule_bytes(words, counts, used, index, s, states, t, rules, reps, k);
+    while k < t.len() {
+        let bytes = rule_bytes(words, counts, used, s, reps, Row(t[k]));
         put_six(flat, list::RULE_WIDTH * k, bytes);
         k += 1;
     }
@@ -166,28 +173,20 @@ fn emit_proposed(
     ensures bytes { λ r. ⌜ now (out .exit) ≡ emitOut (now (words .entry)) lists (now (out .entry)) ⌝ }
 {
     let letters = lists.letters as usize;
-    let counts = lists.counts;
-    let s = lists.s;
-    let t = lists.t;
     let states = lists.states as usize;
     let rules = lists.rules as usize;
+    let all_counts = lists.counts;
+    let all_s = lists.s;
+    let all_t = lists.t;
+    let counts = &all_counts[..letters];
+    let s = &all_s[..states];
+    let t = &all_t[..rules];
     let mut finals = [0u8; MOST_STATES];
     let mut flat = [0u8; list::RULE_WIDTH * MOST_RULES];
-    write_finals(words, lists.used, &s, states, &mut finals);
-    write_rules(
-        words,
-        &counts[..letters],
-        lists.used,
-        index,
-        &s,
-        states,
-        &t,
-        rules,
-        reps,
-        &mut flat,
-    );
+    write_finals(words, lists.used, s, &mut finals);
+    write_rules(words, counts, lists.used, s, t, reps, &mut flat);
     write_listed(
-        &counts[..letters],
+        counts,
         &finals[..states],
         &flat[..list::RULE_WIDTH * rules],
         out,

@@ -50,17 +50,11 @@ fn verdict_is(
 {
     let letters = lists.letters as usize;
     let counts = lists.counts;
-    let s = lists.s;
-    let t = lists.t;
     let yes = table_verdict::accepts_list(
         words,
         &counts[..letters],
         lists.used,
         index,
-        &s,
-        lists.states as usize,
-        &t,
-        lists.rules as usize,
         reps,
         symbols,
     );

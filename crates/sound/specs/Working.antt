@@ -6,7 +6,6 @@ use Prim.Native.Nat.{ℕ, _*_, _≤_}
 use lib.Dec.{eqb}
 use lib.ListN.{length, take}
 use Rattle.model.specs.Limits.{rowWidth, mostContexts, mostRules, mostStates}
-use Rattle.model.specs.Automata.{acceptsRow}
 use Rattle.model.specs.Table.{Tables}
 use Rattle.model.specs.Sound.{isT1, contextsFew, isT5, isT6, isT7, isT8}
 use Rattle.model.specs.Entry.{storeOf, answersIn}
@@ -15,7 +14,7 @@ use Rattle.bank.specs.Index.{Roomy}
 use Rattle.bank.specs.Ready.{Ready}
 use Rattle.table.specs.Answers.{Observed, Placing, Placed, gapFrom, isOpen}
 use Rattle.sound_roles.specs.Marked.{recordBy}
-use Rattle.table_verdict.specs.Rules.{RepsBy, hypothesis}
+use Rattle.table_verdict.specs.Rules.{RepsBy, acceptsBy}
 use Rattle.sound_parts.specs.Given.{rolesFit}
 
 -- the run's lists in their arrays
@@ -50,7 +49,7 @@ preparedFit x = isT1 x && rolesFit x
 abbrev pub judgedFit : Tables → Bool
 judgedFit x = (contextsFew x && (isT5 x && isT6 x)) && (isT7 x && isT8 x)
 
--- T7 by the marks of holes and the hypothesis
-abbrev pub handFits : (words counts : List ℕ) → (u : ℕ) → (s : List ℕ) → (q : ℕ) → (t : List ℕ) → (n : ℕ) → (reps index : List ℕ) → (hand : ℕ) → (missing : Bool) → Bool
-handFits ws ns u s q t n reps ix h b =
-    eqb h 0 || (recordBy ix u h && (eqb (answerIn ws h) (cond (acceptsRow (hypothesis ws ns u s q t n reps) (storeOf ws ns u) h) 1 2) && not b))
+-- T7 by the marks of holes and the representatives
+abbrev pub handFits : (words counts : List ℕ) → (u : ℕ) → (reps index : List ℕ) → (hand : ℕ) → (missing : Bool) → Bool
+handFits ws ns u reps ix h b =
+    eqb h 0 || (recordBy ix u h && (eqb (answerIn ws h) (cond (acceptsBy (storeOf ws ns u) (answersIn u ws) reps h) 1 2) && not b))

@@ -11,7 +11,7 @@ ghost use Rattle.model.specs.Entry.{storeOf, answersIn, sizeFits, listsFit, tab
 ghost use Rattle.bank.specs.Index.{Roomy};
 ghost use Rattle.bank.specs.Ready.{Ready};
 ghost use Rattle.table.specs.Answers.{Sized, Observed, Placing, Placed, gapFrom, isOpen};
-ghost use Rattle.table_verdict.specs.Rules.{RepsBy, Ruled};
+ghost use Rattle.table_verdict.specs.Rules.{RepsBy, RepsIn};
 ghost use Rattle.sound_parts.specs.Given.{given};
 ghost use Rattle.sound.specs.Working.{Arrays, Room, Working, preparedFit, judgedFit, handFits};
 use bank::rows;
@@ -36,11 +36,20 @@ fn represent(
     requires { ⌜ Sized (now table) rules contexts × (length (now s) ≡ mostStates) × (states ≤ mostStates) × (length (now t) ≡ mostRules) × (rules ≤ mostRules) × (length (now places) ≡ mostStates) × (allAmong (take states (now s)) (take rules (now t)) ≡ true) × ((k : ℕ) → k < rules → getD (now t) k 0 < length (now reps)) × (noRepeats (take rules (now t)) ≡ true) ⌝ }
     ensures { λ r. ⌜ (r ≡ isOpen (gapFrom (now (table .entry)) contexts 0 rules)) × Placing (now (places .exit)) states rules × Placed (now (t .entry)) rules (now (s .entry)) states (now (places .exit)) × (isOpen (gapFrom (now (table .entry)) contexts 0 rules) ≡ false → RepsBy (now (table .entry)) contexts (take states (now (places .exit))) (take states (now (s .entry))) (take rules (now (t .entry))) (now (reps .exit))) ⌝ }
 {
-    judge::find_places(s, states, t, rules, places);
+    let all_s = &s[..];
+    let all_t = &t[..];
+    judge::find_s_in_t(&all_s[..states], &all_t[..rules], places);
     if judge::is_missing(table, rules, contexts) {
         return true;
     }
-    table_verdict::find_reps(table, contexts, places, s, states, t, rules, reps);
+    table_verdict::find_reps(
+        table,
+        contexts,
+        places,
+        &all_s[..states],
+        &all_t[..rules],
+        reps,
+    );
     false
 }
 
@@ -65,7 +74,18 @@ fn prepare(
     if !bank_t1::t1(words, counts, used, index) {
         return false;
     }
-    if !judge::roles_fit(words, counts, used, index, s, states, t, rules, c, contexts) {
+    let all_s = &s[..];
+    let all_t = &t[..];
+    let all_c = &c[..];
+    if !judge::roles_fit(
+        words,
+        counts,
+        used,
+        index,
+        &all_s[..states],
+        &all_t[..rules],
+        &all_c[..contexts],
+    ) {
         return false;
     }
     table_answers::observe(words, counts, used, index, t, rules, c, contexts, table);
@@ -77,17 +97,14 @@ fn hand_fits(
     words: &[u32],
     counts: &[u8],
     used: u16,
-    s: &[u16; MOST_STATES],
-    states: usize,
-    t: &[u16; MOST_RULES],
-    rules: usize,
     index: &[u16],
     reps: &[u16],
     hand: u16,
     missing: bool,
 ) -> bool
-    requires { ⌜ Ready (now words) (now counts) used (now index) × (missing ≡ false → Ruled (storeOf (now words) (now counts) used) (take states (now s)) (take rules (now t)) (now reps)) ⌝ }
-    ensures { λ r. ⌜ r ≡ handFits (now (words .entry)) (now (counts .entry)) used (now (s .entry)) states (now (t .entry)) rules (now (reps .entry)) (now (index .entry)) hand missing ⌝ }
+    requires { ⌜ Ready (now words) (now counts) used (now index)
+        × (missing ≡ false → RepsIn used (now reps)) ⌝ }
+    ensures { λ r. ⌜ r ≡ handFits (now (words .entry)) (now (counts .entry)) used (now (reps .entry)) (now (index .entry)) hand missing ⌝ }
 {
     if hand == 0 {
         return true;
@@ -99,18 +116,7 @@ fn hand_fits(
         return false;
     }
     let answer = rows::answer_of(words, Row(hand));
-    if table_verdict::accepts_row(
-        words,
-        counts,
-        used,
-        index,
-        s,
-        states,
-        t,
-        rules,
-        reps,
-        Row(hand),
-    ) {
+    if table_verdict::accepts_row(words, counts, used, index, reps, Row(hand)) {
         return answer == 1;
     }
     answer == 2
@@ -147,19 +153,7 @@ fn judged(
     if !judge::table_fits(table, places, states, rules, contexts, missing) {
         return false;
     }
-    if !hand_fits(
-        words,
-        counts,
-        used,
-        s,
-        states,
-        t,
-        rules,
-        index,
-        reps,
-        standing.hand,
-        missing,
-    ) {
+    if !hand_fits(words, counts, used, index, reps, standing.hand, missing) {
         return false;
     }
     judge::question_fits(

@@ -1,6 +1,5 @@
 -- The tables that a call is given, by their parts, and the parts of the soundness test in the order in which a call makes them.
-use mathlib.Core.Path.{_≡_}
-use mathlib.Core.Bool.{Bool, true, false, _&&_, _||_, not, cond}
+use mathlib.Core.Bool.{Bool, _&&_, _||_, not, cond}
 use mathlib.Core.List.{List, map}
 use Prim.Native.Nat.{ℕ, _+_}
 use lib.Dec.{leb, eqb}
@@ -24,13 +23,13 @@ rolesFit x = isT2 x && (isT3 x && contextsFit x)
 abbrev pub fewFit : (q n m : ℕ) → (missing : Bool) → Bool
 fewFit q n m b = b || leb m (cond (eqb (q + n) 0) 1 (q + n))
 
-abbrev pub tableFits : (table places : List ℕ) → (q n m : ℕ) → (missing : Bool) → Bool
+abbrev pub tableFits : (table s-in-t : List ℕ) → (q n m : ℕ) → (missing : Bool) → Bool
 tableFits tb ps q n m b =
     fewFit q n m b &&
     ((allDiffer (map (rowAt tb m) (take q ps)) && all (λ (k : ℕ). among 2 (rowAt tb m k)) (placesFrom 0 n)) &&
     (b || all (λ (k : ℕ). eqb (countSame (rowAt tb m k) (map (rowAt tb m) (take q ps))) 1) (placesFrom 0 n)))
 
 -- T8 by the marks of holes
-abbrev pub questionFits : (words holes : List ℕ) → (u hand asked accepted : ℕ) → (missing : Bool) → Bool
+abbrev pub questionFits : (words index : List ℕ) → (u hand asked accepted : ℕ) → (missing : Bool) → Bool
 questionFits ws ix u h o z b =
     cond (eqb o 0) (eqb h 0 && not b) (recordBy ix u o && (eqb (answerIn ws o) 0 && not (eqb z 1)))

@@ -1,18 +1,18 @@
 // T2 to T8 (§2.3) in parts, over a record table that T1 has passed.
 ghost use mathlib.Core.Path.{_≡_};
 ghost use mathlib.Core.Bool.{true, false};
-ghost use Prim.Native.Nat.{_*_, _≤_, _<_};
-ghost use lib.ListN.{length, take};
-ghost use Rattle.model.specs.Limits.{mostContexts, mostRules, mostStates, rowWidth};
+ghost use Prim.Native.Nat.{_*_, _≤_};
+ghost use lib.ListN.{length};
+ghost use Rattle.model.specs.Limits.{mostRules, mostStates, rowWidth};
 ghost use Rattle.model.specs.Base.{allAmong};
+ghost use Rattle.model.specs.Table.{tables};
+ghost use Rattle.model.specs.Entry.{storeOf, answersIn};
 ghost use Rattle.bank.specs.Ready.{Ready};
 ghost use Rattle.bank.specs.Index.{sizeIn};
 ghost use Rattle.table.specs.Answers.{Sized, gapFrom, isOpen, Placing, Placed};
-ghost use Rattle.sound_parts.specs.Given.{given, rolesFit, fewFit, tableFits, questionFits};
+ghost use Rattle.sound_parts.specs.Given.{rolesFit, fewFit, tableFits, questionFits};
 use bank::rows;
 use model::Row;
-use model::limits::MOST_CONTEXTS;
-use model::limits::MOST_RULES;
 use model::limits::MOST_STATES;
 use table::Gap;
 use table::judge;
@@ -23,40 +23,43 @@ pub fn roles_fit(
     counts: &[u8],
     used: u16,
     index: &[u16],
-    s: &[u16; MOST_STATES],
-    states: usize,
-    t: &[u16; MOST_RULES],
-    rules: usize,
-    c: &[u16; MOST_CONTEXTS],
-    contexts: usize,
+    s: &[u16],
+    t: &[u16],
+    c: &[u16],
 ) -> bool
-    requires { ⌜ Ready (now words) (now counts) used (now index) × (length (now s) ≡ mostStates) × (states ≤ mostStates) × (length (now t) ≡ mostRules) × (rules ≤ mostRules) × (length (now c) ≡ mostContexts) × (contexts ≤ mostContexts) ⌝ }
-    ensures { λ r. ⌜ r ≡ rolesFit (given (now (words .entry)) (now (counts .entry)) used (now (s .entry)) states (now (t .entry)) rules (now (c .entry)) contexts 0 0 false) ⌝ }
+    requires { ⌜ Ready (now words) (now counts) used (now index)
+        × (length (now s) ≤ mostStates)
+        × (length (now t) ≤ mostRules) ⌝ }
+    ensures { λ r.
+        let store = storeOf (now (words .entry)) (now (counts .entry)) used in
+        let answers = answersIn used (now (words .entry)) in
+        ⌜ r ≡ rolesFit (tables store answers (now (s .entry)) (now (t .entry)) (now (c .entry)) 0 0 false) ⌝ }
 {
-    if !sound_roles::transitions::t2(words, counts, used, index, t, rules, s, states) {
+    if !sound_roles::transitions::t2(words, counts, used, index, t, s) {
         return false;
     }
-    if !sound_roles::t3(s, states, t, rules) {
+    if !sound_roles::t3(s, t) {
         return false;
     }
-    sound_roles::contexts_fit(used, index, states + rules, c, contexts)
+    sound_roles::contexts_fit(used, index, s.len() + t.len(), c)
 }
 
-// The places of S in T.
-pub fn find_places(
-    s: &[u16; MOST_STATES],
-    states: usize,
-    t: &[u16; MOST_RULES],
-    rules: usize,
-    places: &mut [u16; MOST_STATES],
-)
-    requires { ⌜ (length (now s) ≡ mostStates) × (states ≤ mostStates) × (length (now t) ≡ mostRules) × (rules ≤ mostRules) × (length (now places) ≡ mostStates) × (allAmong (take states (now s)) (take rules (now t)) ≡ true) ⌝ }
-    ensures { λ _. ⌜ Placing (now (places .exit)) states rules × Placed (now (t .entry)) rules (now (s .entry)) states (now (places .exit)) ⌝ }
+// S by its places in T.
+pub fn find_s_in_t(s: &[u16], t: &[u16], s_in_t: &mut [u16; MOST_STATES])
+    requires { ⌜ (length (now s) ≤ mostStates)
+        × (length (now t) ≤ mostRules)
+        × (length (now s_in_t) ≡ mostStates)
+        × (allAmong (now s) (now t) ≡ true) ⌝ }
+    ensures { λ _.
+        let states = length (now (s .entry)) in
+        let rules = length (now (t .entry)) in
+        ⌜ Placing (now (s_in_t .exit)) states rules
+        × Placed (now (t .entry)) rules (now (s .entry)) states (now (s_in_t .exit)) ⌝ }
 {
     let mut i = 0;
-    while i < states {
-        let at = run_lists::place_of(t, rules, s[i]);
-        places[i] = at as u16;
+    while i < s.len() {
+        let at = run_lists::place_of(t, Row(s[i]));
+        s_in_t[i] = at as u16;
         i += 1;
     }
 }
@@ -89,19 +92,19 @@ fn few_fit(states: usize, rules: usize, contexts: usize, missing: bool) -> bool
 // T4's last clause, T5 and T6.
 pub fn table_fits(
     table: &[u8],
-    places: &[u16; MOST_STATES],
+    s_in_t: &[u16; MOST_STATES],
     states: usize,
     rules: usize,
     contexts: usize,
     missing: bool,
 ) -> bool
-    requires { ⌜ Sized (now table) rules contexts × Placing (now places) states rules ⌝ }
-    ensures { λ r. ⌜ r ≡ tableFits (now (table .entry)) (now (places .entry)) states rules contexts missing ⌝ }
+    requires { ⌜ Sized (now table) rules contexts × Placing (now s_in_t) states rules ⌝ }
+    ensures { λ r. ⌜ r ≡ tableFits (now (table .entry)) (now (s_in_t .entry)) states rules contexts missing ⌝ }
 {
     if !few_fit(states, rules, contexts, missing) {
         return false;
     }
-    if !judge::all_differ(table, rules, contexts, places, states) {
+    if !judge::all_differ(table, rules, contexts, s_in_t, states) {
         return false;
     }
     if !judge::all_yes(table, rules, contexts) {
@@ -110,7 +113,7 @@ pub fn table_fits(
     if missing {
         return true;
     }
-    judge::all_once(table, rules, contexts, places, states)
+    judge::all_once(table, rules, contexts, s_in_t, states)
 }
 
 // T8: the open question, or none.

@@ -27,26 +27,25 @@ fn find(
     at: &mut [u16],
     exchanged: &mut [u16],
 ) -> Found
-    requires { ⌜ Stepping (now words) lists (now index) × InHand (now words) lists (now reps) × (lists .used ≤ length (now down)) × (lists .used ≤ length (now at)) × (lists .used ≤ length (now exchanged)) ⌝ }
-    ensures { λ r. ⌜ Descended (tablesOf (now (words .entry)) lists .s) (now (reps .entry)) (tablesOf (now (words .entry)) lists .store) (now (down .exit)) (now (at .exit)) (now (exchanged .exit)) (lists .used) ⌝ }
-    ensures ended { λ r. ⌜ searchBy (tablesOf (now (words .entry)) lists .s) (now (reps .entry)) (tablesOf (now (words .entry)) lists .store) r ≡ search (tablesOf (now (words .entry)) lists .store) (tablesOf (now (words .entry)) lists .answers) (tablesOf (now (words .entry)) lists .s) (tablesOf (now (words .entry)) lists .t) (tablesOf (now (words .entry)) lists .c) (lists .hand) ⌝ }
+    requires { ⌜ Stepping (now words) lists (now index)
+        × InHand (now words) lists (now reps)
+        × (lists .used ≤ length (now down))
+        × (lists .used ≤ length (now at))
+        × (lists .used ≤ length (now exchanged)) ⌝ }
+    ensures { λ r.
+        let x = tablesOf (now (words .entry)) lists in
+        ⌜ Descended (x .s) (now (reps .entry)) (x .store) (now (down .exit)) (now (at .exit)) (now (exchanged .exit)) (lists .used) ⌝ }
+    ensures ended { λ r.
+        let x = tablesOf (now (words .entry)) lists in
+        ⌜ searchBy (x .s) (now (reps .entry)) (x .store) r ≡ search (x .store) (x .answers) (x .s) (x .t) (x .c) (lists .hand) ⌝ }
 {
     let letters = lists.letters as usize;
     let counts = lists.counts;
-    let s = lists.s;
-    let t = lists.t;
-    let c = lists.c;
     step_search::find(
         words,
         &counts[..letters],
         lists.used,
         index,
-        &s,
-        lists.states as usize,
-        &t,
-        lists.rules as usize,
-        &c,
-        lists.contexts as usize,
         reps,
         down,
         at,

@@ -27,7 +27,7 @@ fn with_context(lists: Lists, context: Row, used: u16) -> Lists
     left.accepted = 0;
     let c = lists.c;
     let n = lists.contexts;
-    if !run_lists::is_among(&c, n as usize, context.0) {
+    if !run_lists::is_among(&c[..n as usize], context) {
         left.c[n as usize] = context.0;
         left.contexts = n + 1;
     }

@@ -1,6 +1,7 @@
 pub mod Place
 pub mod Steps
 pub mod Reps
+pub mod Among
 pub mod Children
 pub mod Scan
 pub mod Descent

@@ -1,40 +1,23 @@
 // step: the search with a record in hand, one lookup a row (§4.1).
 // The leftmost innermost row outside S is exchanged for its representative while the answers agree. What a row becomes depends on the row
-// alone, so one loop from the bottom works it out for all rows, and the turns follow that.
+// alone, so one loop from the bottom works it out for all rows, and the turns follow that. A row is in S if it is its own representative.
 ghost use mathlib.Core.Path.{_≡_};
-ghost use Prim.Native.Nat.{_+_, _≤_, _<_};
-ghost use lib.ListN.{length, take};
-ghost use Rattle.model.specs.Limits.{mostRows};
-ghost use Rattle.model.specs.Base.{among};
-ghost use Rattle.model.specs.Store.{kidsAt, nextRow, spotOf};
-ghost use Rattle.model.specs.Steps.{search as searchOf};
-ghost use Rattle.model.specs.TableFacts.{HandFits};
+ghost use Prim.Native.Nat.{_*_, _≤_, _<_};
+ghost use lib.ListN.{length, getD};
+ghost use Rattle.model.specs.Limits.{rowWidth, mostRows};
+ghost use Rattle.model.specs.Store.{kidsAt, nextRow};
+ghost use Rattle.model.specs.Facts.{Good};
 ghost use Rattle.model.specs.Entry.{storeOf, answersIn};
 ghost use Rattle.bank.specs.Ready.{Ready, frameAt};
-ghost use Rattle.step_search.specs.Spots.{outsideAt, Handling, exchangedRow, Descended, searchBy};
+ghost use Rattle.step_search.specs.Spots.{exchangedBy, TurnsBy, DescendedBy, ownRep, notOwn, outsideBy, spotBy, Handed, EndsAt};
 use bank::index;
 use bank::rows;
 use model::Row;
-use model::limits::MOST_CONTEXTS;
-use model::limits::MOST_RULES;
-use model::limits::MOST_STATES;
 
-// Whether a row is a representative: it is then its own.
-fn is_rep(
-    words: &[u32],
-    counts: &[u8],
-    used: u16,
-    s: &[u16; MOST_STATES],
-    states: usize,
-    t: &[u16; MOST_RULES],
-    rules: usize,
-    c: &[u16; MOST_CONTEXTS],
-    contexts: usize,
-    reps: &[u16],
-    row: Row,
-) -> bool
-    requires { ⌜ Handling (storeOf (now words) (now counts) used) (answersIn used (now words)) (take states (now s)) (take rules (now t)) (take contexts (now c)) (now reps) × (used ≤ mostRows) × (row .0 < used) ⌝ }
-    ensures { λ r. ⌜ r ≡ among (row .0) (take states (now (s .entry))) ⌝ }
+// Whether a row is its own representative.
+fn is_rep(reps: &[u16], row: Row) -> bool
+    requires { ⌜ row .0 < length (now reps) ⌝ }
+    ensures { λ r. ⌜ r ≡ ownRep (now (reps .entry)) (row .0) ⌝ }
 {
     let i = row.0;
     if i == 0 {
@@ -43,42 +26,23 @@ fn is_rep(
     reps[i as usize] == i
 }
 
-// The place, plus one, of a row's first child outside S; 0 for none.
-fn first_outside(
-    words: &[u32],
-    counts: &[u8],
-    used: u16,
-    index: &[u16],
-    s: &[u16; MOST_STATES],
-    states: usize,
-    t: &[u16; MOST_RULES],
-    rules: usize,
-    c: &[u16; MOST_CONTEXTS],
-    contexts: usize,
-    reps: &[u16],
-    row: Row,
-) -> u8
-    requires { ⌜ Ready (now words) (now counts) used (now index) × Handling (storeOf (now words) (now counts) used) (answersIn used (now words)) (take states (now s)) (take rules (now t)) (take contexts (now c)) (now reps) × (0 < row .0) × (row .0 < used) ⌝ }
-    ensures { λ r. ⌜ r ≡ outsideAt (take states (now (s .entry))) (storeOf (now (words .entry)) (now (counts .entry)) used) (row .0) ⌝ }
+// The place, plus one, of a row's first child that is not its own representative; 0 for none.
+fn first_outside(words: &[u32], counts: &[u8], used: u16, reps: &[u16], row: Row) -> u8
+    requires { ⌜ Good (storeOf (now words) (now counts) used)
+        × (rowWidth * used ≤ length (now words))
+        × (used ≤ length (now reps))
+        × (0 < row .0)
+        × (row .0 < used) ⌝ }
+    ensures { λ r.
+        let x = storeOf (now (words .entry)) (now (counts .entry)) used in
+        ⌜ r ≡ outsideBy (now (reps .entry)) x (row .0) ⌝ }
 {
     let symbol = rows::symbol_of(words, row);
     let count = counts[symbol as usize];
     let mut k: u8 = 0;
     while k < count {
         let kid = rows::kid_of(words, row, k as usize) as u16;
-        if !is_rep(
-            words,
-            counts,
-            used,
-            s,
-            states,
-            t,
-            rules,
-            c,
-            contexts,
-            reps,
-            Row(kid),
-        ) {
+        if !is_rep(reps, Row(kid)) {
             return k + 1;
         }
         k += 1;
@@ -96,8 +60,14 @@ fn with_child(
     place: usize,
     with: Row,
 ) -> Row
-    requires { ⌜ Ready (now words) (now counts) used (now index) × (0 < row .0) × (row .0 < used) × (place < length (kidsAt (storeOf (now words) (now counts) used) (row .0))) ⌝ }
-    ensures { λ r. ⌜ (r .0 ≡ nextRow (storeOf (now (words .entry)) (now (counts .entry)) used) (frameAt (storeOf (now (words .entry)) (now (counts .entry)) used) (row .0) place) (with .0)) × (r .0 < used) ⌝ }
+    requires { ⌜ Ready (now words) (now counts) used (now index)
+        × (0 < row .0)
+        × (row .0 < used)
+        × (place < length (kidsAt (storeOf (now words) (now counts) used) (row .0))) ⌝ }
+    ensures { λ r.
+        let x = storeOf (now (words .entry)) (now (counts .entry)) used in
+        ⌜ (r .0 ≡ nextRow x (frameAt x (row .0) place) (with .0))
+        × (r .0 < used) ⌝ }
 {
     if with.0 == 0 {
         return Row(0);
@@ -108,33 +78,41 @@ fn with_child(
     index::find(words, used, index, symbol, places)
 }
 
-// A row's spot, and the row after the exchange.
+// The place down of a row, plus one, or 0; the row at its spot; and the row after the exchange.
 pub struct Turn {
+    pub place: u8,
     pub spot: Row,
     pub row: Row,
 }
 
-// The turn of a row whose first child outside S is at a place, plus one, from the turns of earlier rows.
+// The turn of a row, from the turns of earlier rows.
 fn turn_of(
     words: &[u32],
     counts: &[u8],
     used: u16,
     index: &[u16],
-    s: &[u16; MOST_STATES],
-    states: usize,
     reps: &[u16],
-    down: &[u16],
     at: &[u16],
     exchanged: &[u16],
     row: Row,
-    code: u8,
 ) -> Turn
-    requires { ⌜ Ready (now words) (now counts) used (now index) × (used ≤ length (now reps)) × Descended (take states (now s)) (now reps) (storeOf (now words) (now counts) used) (now down) (now at) (now exchanged) (row .0) × (0 < row .0) × (row .0 < used) × (code ≡ outsideAt (take states (now s)) (storeOf (now words) (now counts) used) (row .0)) ⌝ }
-    ensures { λ r. ⌜ (r .spot .0 ≡ spotOf (take states (now (s .entry))) (storeOf (now (words .entry)) (now (counts .entry)) used) (row .0) .row) × (r .row .0 ≡ exchangedRow (take states (now (s .entry))) (now (reps .entry)) (storeOf (now (words .entry)) (now (counts .entry)) used) (row .0)) ⌝ }
+    requires { ⌜ Ready (now words) (now counts) used (now index)
+        × (used ≤ length (now reps))
+        × TurnsBy (notOwn (now reps)) (now reps) (storeOf (now words) (now counts) used) (now at) (now exchanged) (row .0)
+        × (0 < row .0)
+        × (row .0 < used) ⌝ }
+    ensures { λ r.
+        let x = storeOf (now (words .entry)) (now (counts .entry)) used in
+        let own = now (reps .entry) in
+        ⌜ (r .place ≡ outsideBy own x (row .0))
+        × (r .spot .0 ≡ spotBy own x (row .0) .row)
+        × (r .row .0 ≡ exchangedBy (notOwn own) own x (row .0)) ⌝ }
 {
+    let code = first_outside(words, counts, used, reps, row);
     if code == 0 {
         let rep = reps[row.0 as usize];
         return Turn {
+            place: 0,
             spot: row,
             row: Row(rep),
         };
@@ -145,64 +123,10 @@ fn turn_of(
     let inner = exchanged[kid];
     let outer = with_child(words, counts, used, index, row, place, Row(inner));
     Turn {
+        place: code,
         spot: Row(spot),
         row: outer,
     }
-}
-
-// The entries of a row, from those of earlier rows.
-fn descend_row(
-    words: &[u32],
-    counts: &[u8],
-    used: u16,
-    index: &[u16],
-    s: &[u16; MOST_STATES],
-    states: usize,
-    t: &[u16; MOST_RULES],
-    rules: usize,
-    c: &[u16; MOST_CONTEXTS],
-    contexts: usize,
-    reps: &[u16],
-    down: &mut [u16],
-    at: &mut [u16],
-    exchanged: &mut [u16],
-    row: Row,
-)
-    requires { ⌜ Ready (now words) (now counts) used (now index) × Handling (storeOf (now words) (now counts) used) (answersIn used (now words)) (take states (now s)) (take rules (now t)) (take contexts (now c)) (now reps) × Descended (take states (now s)) (now reps) (storeOf (now words) (now counts) used) (now down) (now at) (now exchanged) (row .0) × (0 < row .0) × (row .0 < used) ⌝ }
-    ensures { λ _. ⌜ Descended (take states (now (s .entry))) (now (reps .entry)) (storeOf (now (words .entry)) (now (counts .entry)) used) (now (down .exit)) (now (at .exit)) (now (exchanged .exit)) (row .0 + 1) ⌝ }
-{
-    let code = first_outside(
-        words,
-        counts,
-        used,
-        index,
-        s,
-        states,
-        t,
-        rules,
-        c,
-        contexts,
-        reps,
-        row,
-    );
-    let turn = turn_of(
-        words,
-        counts,
-        used,
-        index,
-        s,
-        states,
-        reps,
-        down,
-        at,
-        exchanged,
-        row,
-        code,
-    );
-    let n = row.0 as usize;
-    down[n] = code as u16;
-    at[n] = turn.spot.0;
-    exchanged[n] = turn.row.0;
 }
 
 // All rows from the bottom: the place down, the row at the spot, the exchanged row.
@@ -211,42 +135,32 @@ fn descend(
     counts: &[u8],
     used: u16,
     index: &[u16],
-    s: &[u16; MOST_STATES],
-    states: usize,
-    t: &[u16; MOST_RULES],
-    rules: usize,
-    c: &[u16; MOST_CONTEXTS],
-    contexts: usize,
     reps: &[u16],
     down: &mut [u16],
     at: &mut [u16],
     exchanged: &mut [u16],
 )
-    requires { ⌜ Ready (now words) (now counts) used (now index) × Handling (storeOf (now words) (now counts) used) (answersIn used (now words)) (take states (now s)) (take rules (now t)) (take contexts (now c)) (now reps) × (used ≤ length (now down)) × (used ≤ length (now at)) × (used ≤ length (now exchanged)) ⌝ }
-    ensures { λ _. ⌜ Descended (take states (now (s .entry))) (now (reps .entry)) (storeOf (now (words .entry)) (now (counts .entry)) used) (now (down .exit)) (now (at .exit)) (now (exchanged .exit)) used ⌝ }
+    requires { ⌜ Ready (now words) (now counts) used (now index)
+        × (used ≤ length (now reps))
+        × (getD (now reps) 0 0 ≡ 0)
+        × (used ≤ length (now down))
+        × (used ≤ length (now at))
+        × (used ≤ length (now exchanged)) ⌝ }
+    ensures { λ _.
+        let x = storeOf (now (words .entry)) (now (counts .entry)) used in
+        let own = now (reps .entry) in
+        ⌜ DescendedBy (notOwn own) own x (now (down .exit)) (now (at .exit)) (now (exchanged .exit)) used ⌝ }
 {
     down[0] = 0;
     at[0] = 0;
     exchanged[0] = 0;
     let mut i: u16 = 1;
     while i < used {
-        descend_row(
-            words,
-            counts,
-            used,
-            index,
-            s,
-            states,
-            t,
-            rules,
-            c,
-            contexts,
-            reps,
-            down,
-            at,
-            exchanged,
-            Row(i),
-        );
+        let turn = turn_of(words, counts, used, index, reps, at, exchanged, Row(i));
+        let n = i as usize;
+        down[n] = turn.place as u16;
+        at[n] = turn.spot.0;
+        exchanged[n] = turn.row.0;
         i += 1;
     }
 }
@@ -263,21 +177,18 @@ fn search(
     words: &[u32],
     counts: &[u8],
     used: u16,
-    index: &[u16],
-    s: &[u16; MOST_STATES],
-    states: usize,
-    t: &[u16; MOST_RULES],
-    rules: usize,
-    c: &[u16; MOST_CONTEXTS],
-    contexts: usize,
     reps: &[u16],
-    down: &[u16],
     at: &[u16],
     exchanged: &[u16],
     hand: Row,
 ) -> Found
-    requires { ⌜ Ready (now words) (now counts) used (now index) × Handling (storeOf (now words) (now counts) used) (answersIn used (now words)) (take states (now s)) (take rules (now t)) (take contexts (now c)) (now reps) × Descended (take states (now s)) (now reps) (storeOf (now words) (now counts) used) (now down) (now at) (now exchanged) used × HandFits (storeOf (now words) (now counts) used) (answersIn used (now words)) (take states (now s)) (take rules (now t)) (take contexts (now c)) (hand .0) ⌝ }
-    ensures { λ r. ⌜ searchBy (take states (now (s .entry))) (now (reps .entry)) (storeOf (now (words .entry)) (now (counts .entry)) used) r ≡ searchOf (storeOf (now (words .entry)) (now (counts .entry)) used) (answersIn used (now (words .entry))) (take states (now (s .entry))) (take rules (now (t .entry))) (take contexts (now (c .entry))) (hand .0) ⌝ }
+    requires { ⌜ (rowWidth * used ≤ length (now words))
+        × (used ≤ mostRows)
+        × TurnsBy (notOwn (now reps)) (now reps) (storeOf (now words) (now counts) used) (now at) (now exchanged) used
+        × Handed (storeOf (now words) (now counts) used) (answersIn used (now words)) (now reps) (hand .0) ⌝ }
+    ensures { λ r.
+        let x = storeOf (now (words .entry)) (now (counts .entry)) used in
+        ⌜ EndsAt x (answersIn used (now (words .entry))) (now (reps .entry)) (hand .0) r ⌝ }
 {
     let mut h = hand.0;
     loop {
@@ -303,53 +214,25 @@ pub fn find(
     counts: &[u8],
     used: u16,
     index: &[u16],
-    s: &[u16; MOST_STATES],
-    states: usize,
-    t: &[u16; MOST_RULES],
-    rules: usize,
-    c: &[u16; MOST_CONTEXTS],
-    contexts: usize,
     reps: &[u16],
     down: &mut [u16],
     at: &mut [u16],
     exchanged: &mut [u16],
     hand: Row,
 ) -> Found
-    requires { ⌜ Ready (now words) (now counts) used (now index) × Handling (storeOf (now words) (now counts) used) (answersIn used (now words)) (take states (now s)) (take rules (now t)) (take contexts (now c)) (now reps) × HandFits (storeOf (now words) (now counts) used) (answersIn used (now words)) (take states (now s)) (take rules (now t)) (take contexts (now c)) (hand .0) × (used ≤ length (now down)) × (used ≤ length (now at)) × (used ≤ length (now exchanged)) ⌝ }
-    ensures { λ r. ⌜ Descended (take states (now (s .entry))) (now (reps .entry)) (storeOf (now (words .entry)) (now (counts .entry)) used) (now (down .exit)) (now (at .exit)) (now (exchanged .exit)) used ⌝ }
-    ensures ended { λ r. ⌜ searchBy (take states (now (s .entry))) (now (reps .entry)) (storeOf (now (words .entry)) (now (counts .entry)) used) r ≡ searchOf (storeOf (now (words .entry)) (now (counts .entry)) used) (answersIn used (now (words .entry))) (take states (now (s .entry))) (take rules (now (t .entry))) (take contexts (now (c .entry))) (hand .0) ⌝ }
+    requires { ⌜ Ready (now words) (now counts) used (now index)
+        × Handed (storeOf (now words) (now counts) used) (answersIn used (now words)) (now reps) (hand .0)
+        × (used ≤ length (now down))
+        × (used ≤ length (now at))
+        × (used ≤ length (now exchanged)) ⌝ }
+    ensures { λ r.
+        let x = storeOf (now (words .entry)) (now (counts .entry)) used in
+        let own = now (reps .entry) in
+        ⌜ DescendedBy (notOwn own) own x (now (down .exit)) (now (at .exit)) (now (exchanged .exit)) used ⌝ }
+    ensures ended { λ r.
+        let x = storeOf (now (words .entry)) (now (counts .entry)) used in
+        ⌜ EndsAt x (answersIn used (now (words .entry))) (now (reps .entry)) (hand .0) r ⌝ }
 {
-    descend(
-        words,
-        counts,
-        used,
-        index,
-        s,
-        states,
-        t,
-        rules,
-        c,
-        contexts,
-        reps,
-        down,
-        at,
-        exchanged,
-    );
-    search(
-        words,
-        counts,
-        used,
-        index,
-        s,
-        states,
-        t,
-        rules,
-        c,
-        contexts,
-        reps,
-        down,
-        at,
-        exchanged,
-        hand,
-    )
+    descend(words, counts, used, index, reps, down, at, exchanged);
+    search(words, counts, used, reps, at, exchanged, hand)
 }

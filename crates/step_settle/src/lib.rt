@@ -63,7 +63,9 @@ fn propose(
     ensures { λ r. ⌜ StepAs (now (words .entry)) (now (counts .entry)) used (now (s .entry)) (settled (given (now (words .entry)) (now (counts .entry)) used (now (s .entry)) states (now (t .entry)) rules (now (c .entry)) contexts 0 0 false)) r (now (words .entry)) (now (s .exit)) ⌝ }
 {
     let mut places = [0u16; MOST_STATES];
-    judge::find_places(s, states, t, rules, &mut places);
+    let all_s = &s[..];
+    let all_t = &t[..];
+    judge::find_s_in_t(&all_s[..states], &all_t[..rules], &mut places);
     let old = states as u16;
     let grown = table::grow(table, rules, contexts, places, old);
     let ok = grown.ok;

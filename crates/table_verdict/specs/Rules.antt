@@ -1,15 +1,17 @@
 -- The hypothesis by its representatives: a state is told by the row of its representative, and 0 is none.
+-- Runs and verdicts are defined over the representatives alone; where they are those of rules (Ruled), the laws say that these are model's.
 use mathlib.Core.Path.{_≡_}
-use mathlib.Core.Bool.{cond}
-use mathlib.Core.List.{List, map}
+use mathlib.Core.Bool.{Bool, false, _&&_, _||_, not, cond}
+use mathlib.Core.List.{List, [], _∷_, map}
 use mathlib.Core.Option.{Option, none, some}
-use Prim.Native.Nat.{ℕ, _≤_, _<_}
-use lib.ListN.{length, getD, take}
+use Prim.Native.Nat.{ℕ, suc, _≤_, _<_}
+use lib.Dec.{eqb}
+use lib.ListN.{length, getD, take, drop}
 use Rattle.model.specs.Limits.{mostRows, mostStates}
-use Rattle.model.specs.Base.{In, Each, Distinct, among, placeOf}
-use Rattle.model.specs.Store.{Store, used, symbolAt, kidsAt}
+use Rattle.model.specs.Base.{In, Each, Distinct, among, placeOf, top}
+use Rattle.model.specs.Store.{Store, used, symbolAt, countOf, kidsAt, fold, findRow}
 use Rattle.model.specs.Automata.{Rule, Automaton, Verdict, gives, stuck}
-use Rattle.model.specs.Table.{finalsOf}
+use Rattle.model.specs.Table.{answerAt, finalsOf}
 use Rattle.model.specs.Entry.{storeOf, answersIn}
 use Rattle.table.specs.Answers.{stateAt}
 use Rattle.table_verdict.specs.declared.Led.{Led}
@@ -17,6 +19,42 @@ use Rattle.table_verdict.specs.declared.Led.{Led}
 -- THE REPRESENTATIVE of each transition, by the table of answers: of the first state with its row, 0 for none; rows that are no transition have 0
 pub record RepsBy (table : List ℕ) (m : ℕ) (places s t reps : List ℕ) : Type 0 where
   pub right : (i : ℕ) → i < mostRows → getD reps i 0 ≡ cond (among i t) (getD s (stateAt table m places (placeOf i 0 t)) 0) 0
+
+-- REPRESENTATIVES to read: one for each of the first n rows, itself one of them, or 0
+pub record RepsIn (n : ℕ) (reps : List ℕ) : Type 0 where
+  pub long : n ≤ length reps
+  pub within : (i : ℕ) → i < n → getD reps i 0 < n
+
+-- A ROW'S REPRESENTATIVE: that of the row with its symbol over its children's representatives; 0 for row 0 and where a child has none
+abbrev pub repOver : Store → (reps : List ℕ) → (row symbol : ℕ) → (kids : List ℕ) → ℕ
+repOver x reps i a ks = cond (eqb i 0 || among 0 ks) 0 (getD reps (findRow x a ks) 0)
+
+abbrev pub repRow : Store → (reps : List ℕ) → (row : ℕ) → ℕ
+repRow x reps i = fold (repOver x reps) 0 x i
+
+-- A RUN on a listed record, by a stack of representatives; it stops at the first symbol that finds none, and says its place
+abbrev pub goOnBy : (place rep : ℕ) → (ℕ → Led) → Led
+goOnBy p r next = cond (eqb r 0) (Led.Stuck p) (next r)
+
+unfoldable pub runBy : Store → (reps : List ℕ) → (place : ℕ) → (symbols stack : List ℕ) → Led
+runBy x reps p [] [] = Led.Stuck p
+runBy x reps p [] (k ∷ ks) = Led.To (record { 0 = k })
+runBy x reps p (a ∷ xs) ks =
+    goOnBy p (getD reps (findRow x a (top (countOf x a) ks)) 0) (λ (r : ℕ). runBy x reps (suc p) xs (r ∷ drop (countOf x a) ks))
+
+abbrev pub ledList : Store → (reps symbols : List ℕ) → Led
+ledList x reps xs = runBy x reps 0 xs []
+
+-- VERDICTS: yes where the representative was answered yes
+abbrev pub acceptsBy : Store → (answers reps : List ℕ) → (row : ℕ) → Bool
+acceptsBy x w reps i = not (eqb (repRow x reps i) 0) && eqb (answerAt w (repRow x reps i)) 2
+
+abbrev pub isYesBy : (answers : List ℕ) → Led → Bool
+isYesBy w (Led.To k) = eqb (answerAt w (k .0)) 2
+isYesBy w (Led.Stuck p) = false
+
+abbrev pub acceptsListBy : Store → (answers reps symbols : List ℕ) → Bool
+acceptsListBy x w reps xs = isYesBy w (ledList x reps xs)
 
 -- A RULE for each transition: its target is the place of its representative
 abbrev pub ruleBy : Store → (s reps : List ℕ) → (transition : ℕ) → Rule

@@ -2,28 +2,25 @@
 // A rule is found through the index: the row with this symbol over the children's representatives, if it is a transition.
 ghost use mathlib.Core.Path.{_≡_};
 ghost use mathlib.Core.Bool.{true};
-ghost use mathlib.Core.List.{[]};
 ghost use Prim.Native.Nat.{ℕ, _<_, _≤_};
 ghost use lib.Dec.{eqb};
 ghost use lib.ListN.{length, getD, take};
 ghost use Rattle.bank.specs.Ladder.{smallRows};
-ghost use Rattle.model.specs.Limits.{mostListed, mostRules, mostStates};
+ghost use Rattle.model.specs.Limits.{mostListed, mostStates};
 ghost use Rattle.model.specs.Base.{noRepeats};
-ghost use Rattle.model.specs.Automata.{rowState, acceptsRow, runFrom, acceptsList};
 ghost use Rattle.model.specs.Facts.{Parses};
-ghost use Rattle.model.specs.Store.{findPlaces};
-ghost use Rattle.model.specs.Entry.{storeOf};
+ghost use Rattle.model.specs.Entry.{storeOf, answersIn};
 ghost use Rattle.bank.specs.Rows.{answerIn, Within};
+ghost use Rattle.bank.specs.Index.{Finding, findIn};
 ghost use Rattle.bank.specs.Ready.{Ready};
 ghost use Rattle.table.specs.Answers.{Sized};
-ghost use Rattle.table_verdict.specs.Rules.{RepsBy, rulesBy, hypothesis, Ruled, repOf, ledBy};
+ghost use Rattle.table_verdict.specs.Rules.{RepsBy, RepsIn, repRow, ledList, acceptsBy, acceptsListBy};
 use bank::index;
 use bank::ladder::SMALL_ROWS;
 use bank::rows;
 use model::Row;
 use model::limits::MOST_LISTED;
 use model::limits::MOST_ROWS;
-use model::limits::MOST_RULES;
 use model::limits::MOST_STATES;
 
 // All entries 0.
@@ -42,21 +39,26 @@ pub fn find_reps(
     table: &[u8],
     contexts: usize,
     places: &[u16; MOST_STATES],
-    s: &[u16; MOST_STATES],
-    states: usize,
-    t: &[u16; MOST_RULES],
-    rules: usize,
+    s: &[u16],
+    t: &[u16],
     reps: &mut [u16],
 )
-    requires { ⌜ Sized (now table) rules contexts × (states ≤ mostStates) × (length (now places) ≡ mostStates) × ((i : ℕ) → i < states → getD (now places) i 0 < rules) × (length (now s) ≡ mostStates) × (length (now t) ≡ mostRules) × (rules ≤ mostRules) × ((k : ℕ) → k < rules → getD (now t) k 0 < length (now reps)) × (noRepeats (take rules (now t)) ≡ true) ⌝ }
-    ensures { λ _. ⌜ RepsBy (now (table .entry)) contexts (take states (now (places .entry))) (take states (now (s .entry))) (take rules (now (t .entry))) (now (reps .exit)) ⌝ }
+    requires { ⌜ Sized (now table) (length (now t)) contexts
+        × (length (now s) ≤ mostStates)
+        × (length (now places) ≡ mostStates)
+        × ((i : ℕ) → i < length (now s) → getD (now places) i 0 < length (now t))
+        × ((k : ℕ) → k < length (now t) → getD (now t) k 0 < length (now reps))
+        × (noRepeats (now t) ≡ true) ⌝ }
+    ensures { λ _.
+        let in-t = take (length (now (s .entry))) (now (places .entry)) in
+        ⌜ RepsBy (now (table .entry)) contexts in-t (now (s .entry)) (now (t .entry)) (now (reps .exit)) ⌝ }
 {
     clear(reps);
     let mut k = 0;
-    while k < rules {
-        let q = table::state_of(table, rules, contexts, places, states, k);
+    while k < t.len() {
+        let q = table::state_of(table, t.len(), contexts, places, s.len(), k);
         let at = q.0 as usize;
-        if at < states {
+        if at < s.len() {
             let i = t[k] as usize;
             reps[i] = s[at];
         }
@@ -67,15 +69,17 @@ pub fn find_reps(
 // The representative of a symbol over children by their representatives; 0 where the rule is missing.
 fn target_of(
     words: &[u32],
-    counts: &[u8],
     used: u16,
     index: &[u16],
     reps: &[u16],
     symbol: u32,
     places: [u32; 4],
 ) -> Row
-    requires { ⌜ Ready (now words) (now counts) used (now index) × (used ≤ length (now reps)) ⌝ }
-    ensures { λ r. ⌜ r .0 ≡ getD (now (reps .entry)) (findPlaces (storeOf (now (words .entry)) (now (counts .entry)) used) symbol places) 0 ⌝ }
+    requires { ⌜ Finding (now words) used (now index)
+        × (used ≤ length (now reps)) ⌝ }
+    ensures { λ r.
+        let found = findIn (now (words .entry)) used symbol places in
+        ⌜ r .0 ≡ getD (now (reps .entry)) found 0 ⌝ }
 {
     let found = index::find(words, used, index, symbol, places);
     Row(reps[found.0 as usize])
@@ -87,16 +91,20 @@ fn row_rep(
     counts: &[u8],
     used: u16,
     index: &[u16],
-    s: &[u16; MOST_STATES],
-    states: usize,
-    t: &[u16; MOST_RULES],
-    rules: usize,
     reps: &[u16],
     led: &[u16],
     row: Row,
 ) -> Row
-    requires { ⌜ Ready (now words) (now counts) used (now index) × Ruled (storeOf (now words) (now counts) used) (take states (now s)) (take rules (now t)) (now reps) × (used ≤ length (now led)) × (0 < row .0) × (row .0 < used) × ((i : ℕ) → i < row .0 → getD (now led) i 0 ≡ repOf (take states (now s)) (rowState (rulesBy (storeOf (now words) (now counts) used) (take states (now s)) (take rules (now t)) (now reps)) (storeOf (now words) (now counts) used) i)) ⌝ }
-    ensures { λ r. ⌜ r .0 ≡ repOf (take states (now (s .entry))) (rowState (rulesBy (storeOf (now (words .entry)) (now (counts .entry)) used) (take states (now (s .entry))) (take rules (now (t .entry))) (now (reps .entry))) (storeOf (now (words .entry)) (now (counts .entry)) used) (row .0)) ⌝ }
+    requires { let x = storeOf (now words) (now counts) used in
+        ⌜ Ready (now words) (now counts) used (now index)
+        × (used ≤ length (now reps))
+        × (used ≤ length (now led))
+        × (0 < row .0)
+        × (row .0 < used)
+        × ((i : ℕ) → i < row .0 → getD (now led) i 0 ≡ repRow x (now reps) i) ⌝ }
+    ensures { λ r.
+        let x = storeOf (now (words .entry)) (now (counts .entry)) used in
+        ⌜ r .0 ≡ repRow x (now (reps .entry)) (row .0) ⌝ }
 {
     let symbol = rows::symbol_of(words, row);
     let count = counts[symbol as usize] as usize;
@@ -111,7 +119,7 @@ fn row_rep(
         places[k] = rep as u32;
         k += 1;
     }
-    target_of(words, counts, used, index, reps, symbol, places)
+    target_of(words, used, index, reps, symbol, places)
 }
 
 // The representative of the state of every row up to a row, by one loop from the bottom.
@@ -120,33 +128,23 @@ pub fn row_reps(
     counts: &[u8],
     used: u16,
     index: &[u16],
-    s: &[u16; MOST_STATES],
-    states: usize,
-    t: &[u16; MOST_RULES],
-    rules: usize,
     reps: &[u16],
     upto: Row,
     led: &mut [u16],
 )
-    requires { ⌜ Ready (now words) (now counts) used (now index) × Ruled (storeOf (now words) (now counts) used) (take states (now s)) (take rules (now t)) (now reps) × (used ≤ length (now led)) × (upto .0 < used) ⌝ }
-    ensures { λ _. ⌜ (length (now (led .exit)) ≡ length (now (led .entry))) × ((i : ℕ) → i ≤ upto .0 → getD (now (led .exit)) i 0 ≡ repOf (take states (now (s .entry))) (rowState (rulesBy (storeOf (now (words .entry)) (now (counts .entry)) used) (take states (now (s .entry))) (take rules (now (t .entry))) (now (reps .entry))) (storeOf (now (words .entry)) (now (counts .entry)) used) i)) ⌝ }
+    requires { ⌜ Ready (now words) (now counts) used (now index)
+        × (used ≤ length (now reps))
+        × (used ≤ length (now led))
+        × (upto .0 < used) ⌝ }
+    ensures { λ _.
+        let x = storeOf (now (words .entry)) (now (counts .entry)) used in
+        ⌜ (length (now (led .exit)) ≡ length (now (led .entry)))
+        × ((i : ℕ) → i ≤ upto .0 → getD (now (led .exit)) i 0 ≡ repRow x (now (reps .entry)) i) ⌝ }
 {
     led[0] = 0;
     let mut i: u16 = 1;
     while i <= upto.0 {
-        let rep = row_rep(
-            words,
-            counts,
-            used,
-            index,
-            s,
-            states,
-            t,
-            rules,
-            reps,
-            led,
-            Row(i),
-        );
+        let rep = row_rep(words, counts, used, index, reps, led, Row(i));
         led[i as usize] = rep.0;
         i += 1;
     }
@@ -158,33 +156,22 @@ pub fn accepts_row(
     counts: &[u8],
     used: u16,
     index: &[u16],
-    s: &[u16; MOST_STATES],
-    states: usize,
-    t: &[u16; MOST_RULES],
-    rules: usize,
     reps: &[u16],
     row: Row,
 ) -> bool
-    requires { ⌜ Ready (now words) (now counts) used (now index) × Ruled (storeOf (now words) (now counts) used) (take states (now s)) (take rules (now t)) (now reps) × (row .0 < used) ⌝ }
-    ensures { λ r. ⌜ r ≡ acceptsRow (hypothesis (now (words .entry)) (now (counts .entry)) used (now (s .entry)) states (now (t .entry)) rules (now (reps .entry))) (storeOf (now (words .entry)) (now (counts .entry)) used) (row .0) ⌝ }
+    requires { ⌜ Ready (now words) (now counts) used (now index)
+        × RepsIn used (now reps)
+        × (row .0 < used) ⌝ }
+    ensures { λ r.
+        let x = storeOf (now (words .entry)) (now (counts .entry)) used in
+        let answers = answersIn used (now (words .entry)) in
+        ⌜ r ≡ acceptsBy x answers (now (reps .entry)) (row .0) ⌝ }
 {
     if used as usize <= SMALL_ROWS {
-        return accepts_few(words, counts, used, index, s, states, t, rules, reps, row);
+        return accepts_few(words, counts, used, index, reps, row);
     }
     let mut led = [0u16; MOST_ROWS];
-    accepts_with(
-        words,
-        counts,
-        used,
-        index,
-        s,
-        states,
-        t,
-        rules,
-        reps,
-        row,
-        &mut led,
-    )
+    accepts_with(words, counts, used, index, reps, row, &mut led)
 }
 
 // The same over few rows.
@@ -193,30 +180,20 @@ fn accepts_few(
     counts: &[u8],
     used: u16,
     index: &[u16],
-    s: &[u16; MOST_STATES],
-    states: usize,
-    t: &[u16; MOST_RULES],
-    rules: usize,
     reps: &[u16],
     row: Row,
 ) -> bool
-    requires { ⌜ Ready (now words) (now counts) used (now index) × Ruled (storeOf (now words) (now counts) used) (take states (now s)) (take rules (now t)) (now reps) × (row .0 < used) × (used ≤ smallRows) ⌝ }
-    ensures { λ r. ⌜ r ≡ acceptsRow (hypothesis (now (words .entry)) (now (counts .entry)) used (now (s .entry)) states (now (t .entry)) rules (now (reps .entry))) (storeOf (now (words .entry)) (now (counts .entry)) used) (row .0) ⌝ }
+    requires { ⌜ Ready (now words) (now counts) used (now index)
+        × RepsIn used (now reps)
+        × (row .0 < used)
+        × (used ≤ smallRows) ⌝ }
+    ensures { λ r.
+        let x = storeOf (now (words .entry)) (now (counts .entry)) used in
+        let answers = answersIn used (now (words .entry)) in
+        ⌜ r ≡ acceptsBy x answers (now (reps .entry)) (row .0) ⌝ }
 {
     let mut led = [0u16; SMALL_ROWS];
-    accepts_with(
-        words,
-        counts,
-        used,
-        index,
-        s,
-        states,
-        t,
-        rules,
-        reps,
-        row,
-        &mut led,
-    )
+    accepts_with(words, counts, used, index, reps, row, &mut led)
 }
 
 // The same in an array that holds an entry for each used row.
@@ -225,30 +202,20 @@ fn accepts_with(
     counts: &[u8],
     used: u16,
     index: &[u16],
-    s: &[u16; MOST_STATES],
-    states: usize,
-    t: &[u16; MOST_RULES],
-    rules: usize,
     reps: &[u16],
     row: Row,
     led: &mut [u16],
 ) -> bool
-    requires { ⌜ Ready (now words) (now counts) used (now index) × Ruled (storeOf (now words) (now counts) used) (take states (now s)) (take rules (now t)) (now reps) × (row .0 < used) × (used ≤ length (now led)) ⌝ }
-    ensures { λ r. ⌜ r ≡ acceptsRow (hypothesis (now (words .entry)) (now (counts .entry)) used (now (s .entry)) states (now (t .entry)) rules (now (reps .entry))) (storeOf (now (words .entry)) (now (counts .entry)) used) (row .0) ⌝ }
+    requires { ⌜ Ready (now words) (now counts) used (now index)
+        × RepsIn used (now reps)
+        × (row .0 < used)
+        × (used ≤ length (now led)) ⌝ }
+    ensures { λ r.
+        let x = storeOf (now (words .entry)) (now (counts .entry)) used in
+        let answers = answersIn used (now (words .entry)) in
+        ⌜ r ≡ acceptsBy x answers (now (reps .entry)) (row .0) ⌝ }
 {
-    row_reps(
-        words,
-        counts,
-        used,
-        index,
-        s,
-        states,
-        t,
-        rules,
-        reps,
-        row,
-        led,
-    );
+    row_reps(words, counts, used, index, reps, row, led);
     let rep = led[row.0 as usize];
     if rep == 0 {
         return false;
@@ -276,15 +243,16 @@ pub fn run_list(
     counts: &[u8],
     used: u16,
     index: &[u16],
-    s: &[u16; MOST_STATES],
-    states: usize,
-    t: &[u16; MOST_RULES],
-    rules: usize,
     reps: &[u16],
     symbols: &[u8],
 ) -> Led
-    requires { ⌜ Ready (now words) (now counts) used (now index) × Ruled (storeOf (now words) (now counts) used) (take states (now s)) (take rules (now t)) (now reps) × Parses (now counts) 0 (now symbols) × (length (now symbols) ≤ mostListed) ⌝ }
-    ensures { λ r. ⌜ r ≡ ledBy (take states (now (s .entry))) (runFrom (hypothesis (now (words .entry)) (now (counts .entry)) used (now (s .entry)) states (now (t .entry)) rules (now (reps .entry))) 0 (now (symbols .entry)) []) ⌝ }
+    requires { ⌜ Ready (now words) (now counts) used (now index)
+        × (used ≤ length (now reps))
+        × Parses (now counts) 0 (now symbols)
+        × (length (now symbols) ≤ mostListed) ⌝ }
+    ensures { λ r.
+        let x = storeOf (now (words .entry)) (now (counts .entry)) used in
+        ⌜ r ≡ ledList x (now (reps .entry)) (now (symbols .entry)) ⌝ }
 {
     let mut stack = [0u16; MOST_LISTED];
     let mut height = 0;
@@ -293,7 +261,7 @@ pub fn run_list(
         let symbol = symbols[at] as u32;
         let count = counts[symbol as usize] as usize;
         let places = bank_listed::top_places(&stack, height, count);
-        let rep = target_of(words, counts, used, index, reps, symbol, places);
+        let rep = target_of(words, used, index, reps, symbol, places);
         if rep.0 == 0 {
             return Led::Stuck(at);
         }
@@ -311,28 +279,19 @@ pub fn accepts_list(
     counts: &[u8],
     used: u16,
     index: &[u16],
-    s: &[u16; MOST_STATES],
-    states: usize,
-    t: &[u16; MOST_RULES],
-    rules: usize,
     reps: &[u16],
     symbols: &[u8],
 ) -> bool
-    requires { ⌜ Ready (now words) (now counts) used (now index) × Ruled (storeOf (now words) (now counts) used) (take states (now s)) (take rules (now t)) (now reps) × Parses (now counts) 0 (now symbols) × (length (now symbols) ≤ mostListed) ⌝ }
-    ensures { λ r. ⌜ r ≡ acceptsList (hypothesis (now (words .entry)) (now (counts .entry)) used (now (s .entry)) states (now (t .entry)) rules (now (reps .entry))) (now (symbols .entry)) ⌝ }
+    requires { ⌜ Ready (now words) (now counts) used (now index)
+        × RepsIn used (now reps)
+        × Parses (now counts) 0 (now symbols)
+        × (length (now symbols) ≤ mostListed) ⌝ }
+    ensures { λ r.
+        let x = storeOf (now (words .entry)) (now (counts .entry)) used in
+        let answers = answersIn used (now (words .entry)) in
+        ⌜ r ≡ acceptsListBy x answers (now (reps .entry)) (now (symbols .entry)) ⌝ }
 {
-    match run_list(
-        words,
-        counts,
-        used,
-        index,
-        s,
-        states,
-        t,
-        rules,
-        reps,
-        symbols,
-    ) {
+    match run_list(words, counts, used, index, reps, symbols) {
         Led::To(rep) => is_final(words, rep),
         Led::Stuck(_) => false,
     }

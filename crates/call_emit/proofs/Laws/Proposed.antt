@@ -6,8 +6,8 @@ use mathlib.Core.List.{List}
 use Prim.Native.Nat.{ℕ, _*_, _<_}
 use native.Mathlib.Omega.{arith}
 use lib.Dec.{eqb}
-use lib.ListN.{getD, take}
-use lib.Seq.{length-take-le, getD-take}
+use lib.ListN.{length, getD, take}
+use lib.Seq.{length-take-le}
 use Rattle.model.specs.Automata.{Rule}
 use Rattle.model.specs.Table.{Tables, finalsOf, isMissing, automatonOf}
 use Rattle.model.specs.Sound.{isSound, contextsFew, isT5, isT6, isT7, isT8}
@@ -51,25 +51,24 @@ module _ {ws : List ℕ} (l : Lists) {index table places reps : List ℕ} (a : A
   pub rules-hold : Ruled (storeOf ws (take (l .letters) (l .counts)) (l .used)) (take (l .states) (l .s)) (take (l .rules) (l .t)) reps
   rules-hold = ruled a w prepared (l .hand) (l .asked) (eqb (l .accepted) 1) table-fits known
 
-  pub reps-used : (i : ℕ) → i < l .states → getD (l .s) i 0 < l .used
+  pub reps-used : (i : ℕ) → i < length (take (l .states) (l .s)) → getD (take (l .states) (l .s)) i 0 < l .used
   reps-used i h =
-      let e = length-take-le (l .states) (l .s) (omega (arith, a .s-long, a .few-s)) in
-      let d = getD-take (l .states) (l .s) i 0 h in
-      let m = at-place (take (l .states) (l .s)) i (omega (arith, e, h)) in
-      let r = rules-hold .row (getD (take (l .states) (l .s)) i 0) (rules-hold .among (getD (take (l .states) (l .s)) i 0) m) in
-      omega (arith, d, r .1, used-of ws ns (l .used))
+      let k : ℕ = getD (take (l .states) (l .s)) i 0 in
+      let r = rules-hold .row k (rules-hold .among k (at-place (take (l .states) (l .s)) i h)) in
+      omega (arith, r .1, used-of ws ns (l .used))
 
-  rules-are : (us : List ℕ) → Flat (storeOf ws (take (l .letters) (l .counts)) (l .used)) (take (l .states) (l .s)) (l .t) reps (l .rules) us →
+  rules-are : (us : List ℕ) → Flat (storeOf ws (take (l .letters) (l .counts)) (l .used)) (take (l .states) (l .s)) (take (l .rules) (l .t)) reps (length (take (l .rules) (l .t))) us →
       flatRules (take (l .letters) (l .counts)) (take (ruleWidth * l .rules) us) ≡ rulesBy (storeOf ws (take (l .letters) (l .counts)) (l .used)) (take (l .states) (l .s)) (take (l .rules) (l .t)) reps
   rules-are us f =
       let e = length-take-le (l .rules) (l .t) (omega (arith, a .t-long, a .few-t)) in
       let rule : ℕ → Rule = ruleBy (storeOf ws ns (l .used)) (take (l .states) (l .s)) reps in
       flat-part (l .rules) ns us (omega (arith, f .long, a .few-t)) ∙ ap (λ (n : ℕ). flatRulesIn n ns us) (sym e) ∙
-      flat-each rule ns (take (l .rules) (l .t)) us (λ k h. let g : k < l .rules = omega (arith, e, h) in f .rule k g ∙ sym (ap rule (getD-take (l .rules) (l .t) k 0 g)))
+      flat-each rule ns (take (l .rules) (l .t)) us (f .rule)
 
-  pub proposal-is : (fs us : List ℕ) → take (l .states) fs ≡ finalsOf (answersIn (l .used) ws) (take (l .states) (l .s)) →
-      Flat (storeOf ws (take (l .letters) (l .counts)) (l .used)) (take (l .states) (l .s)) (l .t) reps (l .rules) us →
+  pub proposal-is : (fs us : List ℕ) → take (length (take (l .states) (l .s))) fs ≡ finalsOf (answersIn (l .used) ws) (take (l .states) (l .s)) →
+      Flat (storeOf ws (take (l .letters) (l .counts)) (l .used)) (take (l .states) (l .s)) (take (l .rules) (l .t)) reps (length (take (l .rules) (l .t))) us →
       flatAutomaton (take (l .letters) (l .counts)) (take (l .states) fs) (take (ruleWidth * l .rules) us) ≡ automatonOf (tablesOf ws l)
   proposal-is fs us e f =
       let r = rules-are us f in
-      (λ i. record { counts = ns; finals = e i; rules = r i }) ∙ hypothesis-is a w prepared (l .hand) (l .asked) (eqb (l .accepted) 1) table-fits known
+      let n = length-take-le (l .states) (l .s) (omega (arith, a .s-long, a .few-s)) in
+      (λ i. record { counts = ns; finals = (ap (λ (q : ℕ). take q fs) (sym n) ∙ e) i; rules = r i }) ∙ hypothesis-is a w prepared (l .hand) (l .asked) (eqb (l .accepted) 1) table-fits known

@@ -9,6 +9,7 @@ use lib.Seq.{length-take-le}
 use Rattle.list.specs.Flat.{ruleWidth}
 use Rattle.model.specs.Limits.{mostContexts, mostSymbols}
 use Rattle.model.proofs.Laws.Lent.{listsFit-facts}
+use Rattle.table_verdict.proofs.Laws.Words.{rows-ready}
 use Rattle.sound.specs.Working.{Arrays}
 use Rattle.call_emit.proofs.Laws.Proposed.{rules-hold, reps-used, proposal-is}
 use Rattle.call_emit.proofs.Laws.Emitting.{parts-short, listed}
@@ -39,6 +40,18 @@ letters-within s =
 counts-long : (s : Start) → length (take (s .args .lists .letters) (s .args .lists .counts)) ≡ s .args .lists .letters
 counts-long s = length-take-le (s .args .lists .letters) (s .args .lists .counts) (letters-within s)
 
+states-within : (s : Start) → s .args .lists .states ≤ length (s .args .lists .s)
+states-within s = omega (arith, arrays s .s-long, arrays s .few-s)
+
+states-long : (s : Start) → length (take (s .args .lists .states) (s .args .lists .s)) ≡ s .args .lists .states
+states-long s = length-take-le (s .args .lists .states) (s .args .lists .s) (states-within s)
+
+rules-within : (s : Start) → s .args .lists .rules ≤ length (s .args .lists .t)
+rules-within s = omega (arith, arrays s .t-long, arrays s .few-t)
+
+rules-long : (s : Start) → length (take (s .args .lists .rules) (s .args .lists .t)) ≡ s .args .lists .rules
+rules-long s = length-take-le (s .args .lists .rules) (s .args .lists .t) (rules-within s)
+
 cast-letters : tie.Need-cast-letters
 cast-letters c = search needs
 
@@ -48,65 +61,64 @@ cast-states c = search needs
 cast-rules : tie.Need-cast-rules
 cast-rules c = search needs
 
+array-share-prefix-all-counts : tie.Need-array-share-prefix-all-counts
+array-share-prefix-all-counts c = letters-within (c .before .before .before .before .before .before .before .before .before .before .before)
+
+slice-aggregate-counts : tie.Need-slice-aggregate-counts
+slice-aggregate-counts c = sym (counts-long (c .before .before .before .before .before .before .before .before .before .before .before .before))
+
+array-share-prefix-all-s : tie.Need-array-share-prefix-all-s
+array-share-prefix-all-s c = states-within (c .before .before .before .before .before .before .before .before .before .before .before .before)
+
+slice-aggregate-s : tie.Need-slice-aggregate-s
+slice-aggregate-s c = sym (states-long (c .before .before .before .before .before .before .before .before .before .before .before .before .before))
+
+array-share-prefix-all-t : tie.Need-array-share-prefix-all-t
+array-share-prefix-all-t c = rules-within (c .before .before .before .before .before .before .before .before .before .before .before .before .before)
+
+slice-aggregate-t : tie.Need-slice-aggregate-t
+slice-aggregate-t c = sym (rules-long (c .before .before .before .before .before .before .before .before .before .before .before .before .before .before))
+
 write-finals-requires : tie.Need-write-finals-requires
 write-finals-requires c κs =
-    let s : Start = c .before .before .before .before .before .before .before .before .before .before .before .before .before in
-    (s .pre .4 .ready .finding .room, arrays s .s-long, arrays s .few-s, reps-used (s .args .lists) (arrays s) (s .pre .4) (s .pre .2) (s .pre .3), refl)
-
-array-share-prefix-counts : tie.Need-array-share-prefix-counts
-array-share-prefix-counts c = letters-within (c .before .before .before .before .before .before .before .before .before .before .before .before .before .before)
-
-slice-aggregate-write-rules : tie.Need-slice-aggregate-write-rules
-slice-aggregate-write-rules c = sym (counts-long (c .before .before .before .before .before .before .before .before .before .before .before .before .before .before .before))
+    let s : Start = c .before .before .before .before .before .before .before .before .before .before .before .before .before .before .before in
+    let d = rules-hold (s .args .lists) (arrays s) (s .pre .4) (s .pre .2) (s .pre .3) in
+    (s .pre .4 .ready .finding .room, d .few, reps-used (s .args .lists) (arrays s) (s .pre .4) (s .pre .2) (s .pre .3), refl)
 
 write-rules-requires : tie.Need-write-rules-requires
 write-rules-requires c κs =
-    let s : Start = c .before .before .before .before .before .before .before .before .before .before .before .before .before .before .before .before .before .before in
-    (s .pre .4 .ready, rules-hold (s .args .lists) (arrays s) (s .pre .4) (s .pre .2) (s .pre .3), arrays s .s-long, arrays s .few-s, arrays s .t-long, arrays s .few-t, refl)
-
-array-share-prefix-counts-2 : tie.Need-array-share-prefix-counts-2
-array-share-prefix-counts-2 c = letters-within (c .before .before .before .before .before .before .before .before .before .before .before .before .before .before .before .before .before .before .before)
-
-slice-aggregate-write-listed : tie.Need-slice-aggregate-write-listed
-slice-aggregate-write-listed c = sym (counts-long (c .before .before .before .before .before .before .before .before .before .before .before .before .before .before .before .before .before .before .before .before))
+    let s : Start = c .before .before .before .before .before .before .before .before .before .before .before .before .before .before .before .before .before in
+    (rows-ready (s .pre .4 .ready), rules-hold (s .args .lists) (arrays s) (s .pre .4) (s .pre .2) (s .pre .3), omega (arith, rules-long s, arrays s .few-t), refl)
 
 array-share-prefix-finals : tie.Need-array-share-prefix-finals
 array-share-prefix-finals c =
-    omega (
-      arith,
-      c .before .before .before .before .before .before .write-finals .ensures .1,
-      arrays (c .before .before .before .before .before .before .before .before .before .before .before .before .before .before .before .before .before .before .before .before) .few-s,
-    )
+    let s : Start = c .before .before .before .before .before .before .before .before .before .before .before .before .before .before .before .before .before .before in
+    omega (arith, c .before .before .write-finals .ensures .1, arrays s .few-s)
 
-slice-aggregate-write-listed-2 : tie.Need-slice-aggregate-write-listed-2
-slice-aggregate-write-listed-2 c =
-    let s : Start = c .before .before .before .before .before .before .before .before .before .before .before .before .before .before .before .before .before .before .before .before .before in
-    let w = c .before .before .before .before .before .before .before .write-finals in
-    sym (length-take-le (s .args .lists .states) _ (omega (arith, w .ensures .1, arrays s .few-s)))
+slice-aggregate-write-listed : tie.Need-slice-aggregate-write-listed
+slice-aggregate-write-listed c =
+    let s : Start = c .before .before .before .before .before .before .before .before .before .before .before .before .before .before .before .before .before .before .before in
+    sym (length-take-le (s .args .lists .states) _ (omega (arith, c .before .before .before .write-finals .ensures .1, arrays s .few-s)))
 
 mul-flat : tie.Need-mul-flat
 mul-flat c = search needs
 
 array-share-prefix-flat : tie.Need-array-share-prefix-flat
 array-share-prefix-flat c =
-    omega (
-      arith,
-      c .before .before .write-rules .ensures .long,
-      arrays (c .before .before .before .before .before .before .before .before .before .before .before .before .before .before .before .before .before .before .before .before .before) .few-t,
-    )
+    let s : Start = c .before .before .before .before .before .before .before .before .before .before .before .before .before .before .before .before .before .before .before in
+    omega (arith, c .before .write-rules .ensures .long, arrays s .few-t)
 
-slice-aggregate-write-listed-3 : tie.Need-slice-aggregate-write-listed-3
-slice-aggregate-write-listed-3 c =
-    let s : Start = c .before .before .before .before .before .before .before .before .before .before .before .before .before .before .before .before .before .before .before .before .before .before in
-    let w = c .before .before .before .write-rules in
-    sym (length-take-le (ruleWidth * s .args .lists .rules) _ (omega (arith, w .ensures .long, arrays s .few-t)))
+slice-aggregate-write-listed-2 : tie.Need-slice-aggregate-write-listed-2
+slice-aggregate-write-listed-2 c =
+    let s : Start = c .before .before .before .before .before .before .before .before .before .before .before .before .before .before .before .before .before .before .before .before in
+    sym (length-take-le (ruleWidth * s .args .lists .rules) _ (omega (arith, c .before .before .write-rules .ensures .long, arrays s .few-t)))
 
 write-listed-requires : tie.Need-write-listed-requires
 write-listed-requires c κs =
-    let s : Start = c .before .before .before .before .before .before .before .before .before .before .before .before .before .before .before .before .before .before .before .before .before .before .before in
-    let f = c .before .before .before .before .before .before .before .before .before .write-finals in
-    let w = c .before .before .before .before .write-rules in
-    parts-short (take (s .args .lists .letters) (s .args .lists .counts)) (f .last .1 .1 .1 .1 .0) (w .last .1 .1 .1 .1 .1 .1 .1 .1 .1 .0) (s .args .lists .states) (s .args .lists .rules)
+    let s : Start = c .before .before .before .before .before .before .before .before .before .before .before .before .before .before .before .before .before .before .before .before .before in
+    let f = c .before .before .before .before .before .write-finals in
+    let w = c .before .before .before .write-rules in
+    parts-short (take (s .args .lists .letters) (s .args .lists .counts)) (f .last .1 .1 .1 .0) (w .last .1 .1 .1 .1 .1 .1 .0) (s .args .lists .states) (s .args .lists .rules)
     (omega (arith, counts-long s, few-letters s)) (f .ensures .1) (arrays s .few-s) (w .ensures .long) (arrays s .few-t)
 
 same-length : tie.Need-same-length
@@ -114,9 +126,9 @@ same-length c = search needs
 
 returns : tie.Need-returns
 returns c =
-    let s : Start = c .before .before .before .before .before .before .before .before .before .before .before .before .before .before .before .before .before .before .before .before .before .before .before .before .before .before in
-    let f = c .before .before .before .before .before .before .before .before .before .before .before .before .write-finals in
-    let w = c .before .before .before .before .before .before .before .write-rules in
+    let s : Start = c .before .before .before .before .before .before .before .before .before .before .before .before .before .before .before .before .before .before .before .before .before .before .before .before in
+    let f = c .before .before .before .before .before .before .before .before .write-finals in
+    let w = c .before .before .before .before .before .before .write-rules in
     let r = c .before .before .write-listed in
     let is = proposal-is (s .args .lists) (arrays s) (s .pre .4) (s .pre .2) (s .pre .3) _ _ (f .ensures .0) (w .ensures) in
     let e = listed (s .args .words .now) (s .args .lists) (s .args .out .now) (s .pre .0) (s .pre .1) (s .pre .2) (s .pre .3) _ is in
@@ -129,17 +141,19 @@ emit-proposed-spec =
     cast-letters
     cast-states
     cast-rules
+    array-share-prefix-all-counts
+    slice-aggregate-counts
+    array-share-prefix-all-s
+    slice-aggregate-s
+    array-share-prefix-all-t
+    slice-aggregate-t
     write-finals-requires
-    array-share-prefix-counts
-    slice-aggregate-write-rules
     write-rules-requires
-    array-share-prefix-counts-2
-    slice-aggregate-write-listed
     array-share-prefix-finals
-    slice-aggregate-write-listed-2
+    slice-aggregate-write-listed
     mul-flat
     array-share-prefix-flat
-    slice-aggregate-write-listed-3
+    slice-aggregate-write-listed-2
     write-listed-requires
     same-length
     returns)

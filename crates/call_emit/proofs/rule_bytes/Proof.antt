@@ -5,13 +5,12 @@ use mathlib.Core.List.{List}
 use Prim.Native.Nat.{ℕ, _-_, _≤_, _<_}
 use native.Mathlib.Omega.{arith}
 use borrow.Author.Needs.{needs}
-use Rattle.table_verdict.proofs.Laws.Words.{reps-long}
-use lib.ListN.{length, getD, take, length-set}
+use lib.ListN.{length, getD, length-set}
 use Rattle.model.specs.Base.{placeOf}
 use Rattle.model.specs.Store.{Store, kidsAt}
 use Rattle.model.specs.Entry.{storeOf}
-use Rattle.table_verdict.proofs.Laws.Words.{row-within, row-symbol, row-known, row-count, row-few, row-kid}
-use Rattle.call_emit.proofs.Laws.Transition.{row-some, row-used, symbol-small, kid-used, kid-place, target-place}
+use Rattle.table_verdict.proofs.Laws.Words.{row-within, row-symbol, row-known, row-count, row-few, row-early, row-kid}
+use Rattle.call_emit.proofs.Laws.Transition.{row-used, symbol-small, kid-place, target-place}
 use Rattle.call_emit.proofs.Laws.Rule.{RuleTo, rule-start, rule-more, rule-end}
 use Rattle.call_emit.proofs.rule_bytes.Statement.{statement}
 use Rattle.call_emit.proofs.rule_bytes.Tie as tie
@@ -22,10 +21,11 @@ use Rattle.bank.proofs.rows.symbol_of.Reads as symbol-of-reads
 use Rattle.run_lists.proofs.place_of.Reads as place-of-reads
 
 abbrev Inv-loop : tie.InvT-loop
-Inv-loop words counts used index s states t rules reps k row symbol count bytes₀ i₀ bytes i = RuleTo (storeOf words counts used) (take states s) (getD t k 0) bytes i × (count ≡ length (kidsAt (storeOf words counts used) (getD t k 0)))
+Inv-loop words counts used s reps row symbol count bytes₀ i₀ bytes i =
+    RuleTo (storeOf words counts used) s (row .0) bytes i × (count ≡ length (kidsAt (storeOf words counts used) (row .0)))
 
 abbrev μ-loop : tie.MeasureT-loop
-μ-loop words counts used index s states t rules reps k row symbol count bytes₀ i₀ bytes i = count - i
+μ-loop words counts used s reps row symbol count bytes₀ i₀ bytes i = count - i
 
 abbrev Start : Type 0
 Start = lts.Start (symbol-of-reads.Asked, symbol-of-reads.Learnt, kid-of-reads.Asked, kid-of-reads.Learnt, place-of-reads.Asked, place-of-reads.Learnt) reads.Pre reads.Post Inv-loop μ-loop
@@ -34,26 +34,23 @@ abbrev store : Start → Store
 store s = storeOf (s .args .words .now) (s .args .counts .now) (s .args .used)
 
 abbrev states : Start → List ℕ
-states s = take (s .args .states) (s .args .s .now)
+states s = s .args .s .now
 
 abbrev row : Start → ℕ
-row s = getD (s .args .t .now) (s .args .k) 0
-
-within : (s : Start) → s .args .rules ≤ length (s .args .t .now)
-within s = omega (arith, s .pre .4, s .pre .5)
+row s = s .args .row .0
 
 some : (s : Start) → 0 < row s
-some s = row-some (s .pre .0) (s .args .s .now) (s .args .states) (s .args .t .now) (s .args .rules) (s .pre .1) (within s) (s .args .k) (s .pre .6)
+some s = s .pre .3 .some
 
 used : (s : Start) → row s < s .args .used
-used s = row-used (s .pre .0) (s .args .s .now) (s .args .states) (s .args .t .now) (s .args .rules) (s .pre .1) (within s) (s .args .k) (s .pre .6)
+used s = row-used (s .pre .0) (s .pre .1) (s .pre .3)
 
 -- a turn: its start, and the child that it reaches
 abbrev Turn : Type 0
 Turn = lts.In-loop (symbol-of-reads.Asked, symbol-of-reads.Learnt, kid-of-reads.Asked, kid-of-reads.Learnt, place-of-reads.Asked, place-of-reads.Learnt) reads.Pre reads.Post Inv-loop μ-loop
 
 abbrev start : Turn → Start
-start t = t .before .before .before .before .before .before .before .before .before
+start t = t .before .before .before .before .before .before .before .before
 
 turning : (t : Turn) → t .before .loop .i < length (kidsAt (store (start t)) (row (start t)))
 turning t = omega (arith, t .loop-test .taken, t .before .loop .inv .1)
@@ -73,27 +70,31 @@ abbrev Placed : Type 0
 Placed = lts.After-place-of (symbol-of-reads.Asked, symbol-of-reads.Learnt, kid-of-reads.Asked, kid-of-reads.Learnt, place-of-reads.Asked, place-of-reads.Learnt) reads.Pre reads.Post Inv-loop μ-loop
 
 abbrev turn : Placed → Turn
-turn c = c .before .before .before
+turn c = c .before .before
 
 state : (c : Placed) →
     c .place-of .result ≡ placeOf (getD (kidsAt (store (start (turn c))) (row (start (turn c)))) (turn c .before .loop .i) 0) 0 (states (start (turn c)))
-state c = c .place-of .ensures ∙ ap (λ (j : ℕ). placeOf j 0 (states (start (turn c)))) (kid (c .before .before))
+state c = c .place-of .ensures ∙ ap (λ (j : ℕ). placeOf j 0 (states (start (turn c)))) (kid (c .before))
 
-mul-place-of : tie.Need-mul-place-of Inv-loop μ-loop
-mul-place-of c = let s : Start = c .before .before .before .before in omega (arith, s .pre .6, s .pre .5)
+-- past the last search
+abbrev Ended : Type 0
+Ended = lts.After-place-of2 (symbol-of-reads.Asked, symbol-of-reads.Learnt, kid-of-reads.Asked, kid-of-reads.Learnt, place-of-reads.Asked, place-of-reads.Learnt) reads.Pre reads.Post Inv-loop μ-loop
 
-element-copy-out-place-of : tie.Need-element-copy-out-place-of Inv-loop μ-loop
-element-copy-out-place-of c = let s : Start = c .before .before .before .before in omega (arith, s .pre .6, s .pre .5)
+abbrev begun : Ended → Start
+begun c = c .before .before .before .before .before .before .before .before .before .before .before
+
+target : (c : Ended) → c .place-of2 .result ≡ placeOf (getD (begun c .args .reps .now) (row (begun c)) 0) 0 (states (begun c))
+target c = c .place-of2 .ensures
 
 symbol-of-requires : tie.Need-symbol-of-requires Inv-loop μ-loop
-symbol-of-requires c κs = let s : Start = c .before .before .before .before .before in row-within (s .pre .0) (row s) (used s)
+symbol-of-requires c κs = let s : Start = c .before .before .before .before in row-within (s .pre .0) (row s) (used s)
 
 cast-count : tie.Need-cast-count Inv-loop μ-loop
 cast-count c = search needs
 
 shared-slice-read-count : tie.Need-shared-slice-read-count Inv-loop μ-loop
 shared-slice-read-count c =
-    let s : Start = c .before .before .before .before .before .before .before in
+    let s : Start = c .before .before .before .before .before .before in
     omega (arith, c .before .symbol-of .ensures, row-known (s .pre .0) (row s) (used s) (some s))
 
 cast-count-2 : tie.Need-cast-count-2 Inv-loop μ-loop
@@ -101,11 +102,11 @@ cast-count-2 c = omega (arith, c .shared-slice-known5 .given (c .before .symbol-
 
 cast-bytes : tie.Need-cast-bytes Inv-loop μ-loop
 cast-bytes c =
-    let s : Start = c .before .before .before .before .before .before .before in
+    let s : Start = c .before .before .before .before .before .before in
     omega (
       arith,
       c .before .symbol-of .ensures,
-      symbol-small (s .pre .0) (s .args .s .now) (s .args .states) (s .args .t .now) (s .args .rules) (s .pre .1) (within s) (s .args .k) (s .pre .6),
+      symbol-small (s .pre .0) (s .pre .1) (s .pre .3),
     )
 
 array-write-bytes : tie.Need-array-write-bytes Inv-loop μ-loop
@@ -113,7 +114,7 @@ array-write-bytes c = search needs
 
 loop-holds : tie.Need-loop-holds Inv-loop μ-loop
 loop-holds c =
-    let s : Start = c .before .before .before .before .before .before .before in
+    let s : Start = c .before .before .before .before .before .before in
     let e = c .before .symbol-of .ensures in (
       rule-start (store s) (states s) (row s) (c .before .symbol-of .result) (e ∙ row-symbol (s .pre .0) (row s) (used s)),
       ap (λ (a : ℕ). getD (s .args .counts .now) a 0) e ∙ row-count (s .pre .0) (row s) (used s) (some s),
@@ -128,67 +129,61 @@ cast-kid c =
     omega (
       arith,
       kid c,
-      s .pre .0 .finding .few,
-      kid-used (s .pre .0) (s .args .s .now) (s .args .states) (s .args .t .now) (s .args .rules) (s .pre .1) (within s) (s .args .k) (s .pre .6) (c .before .before .loop .i) (turning (c .before)),
+      used s,
+      row-early (s .pre .0) (row s) (used s) (some s) (c .before .before .loop .i) (turning (c .before)),
     )
 
 place-of-requires : tie.Need-place-of-requires Inv-loop μ-loop
-place-of-requires c κs =
-    let s : Start = c .before .before .before .before .before .before .before .before .before .before .before in
-    omega (arith, s .pre .2, s .pre .3)
+place-of-requires c κs = omega arith
 
 cast-bytes-2 : tie.Need-cast-bytes-2 Inv-loop μ-loop
 cast-bytes-2 c =
-    let s : Start = start (c .before .before .before) in
+    let s : Start = start (c .before .before) in
     omega (
       arith,
       state c,
-      kid-place (s .pre .0) (s .args .s .now) (s .args .states) (s .args .t .now) (s .args .rules) (s .pre .1) (within s) (s .args .k) (s .pre .6) (c .before .before .before .before .loop .i) (turning (c .before .before .before)),
+      kid-place (s .pre .0) (s .pre .1) (s .pre .3) (c .before .before .before .loop .i) (turning (c .before .before)),
     )
 
 add-bytes : tie.Need-add-bytes Inv-loop μ-loop
-add-bytes c = omega (arith, few (c .before .before .before))
+add-bytes c = omega (arith, few (c .before .before))
 
 array-write-bytes-2 : tie.Need-array-write-bytes-2 Inv-loop μ-loop
-array-write-bytes-2 c = omega (arith, few (c .before .before .before))
+array-write-bytes-2 c = omega (arith, few (c .before .before))
 
 add-i : tie.Need-add-i Inv-loop μ-loop
-add-i c = omega (arith, few (c .before .before .before))
+add-i c = omega (arith, few (c .before .before))
 
 loop-less : tie.Need-loop-less Inv-loop μ-loop
 loop-less c = search needs
 
 loop-again : tie.Need-loop-again Inv-loop μ-loop
 loop-again c =
-    let t : Turn = c .before .before .before in
+    let t : Turn = c .before .before in
     let s : Start = start t in
     (rule-more (store s) (states s) (row s) (t .before .loop .inv .0) (few t) (c .place-of .result) (state c), t .before .loop .inv .1)
 
-cast-place-of : tie.Need-cast-place-of Inv-loop μ-loop
-cast-place-of c = search needs
+cast-t14 : tie.Need-cast-t14 Inv-loop μ-loop
+cast-t14 c = search needs
 
-mul-place-of-2 : tie.Need-mul-place-of-2 Inv-loop μ-loop
-mul-place-of-2 c =
-    let s : Start = c .before .before .before .before .before .before .before .before .before .before .before in
-    omega (arith, used s, s .pre .0 .finding .few)
+mul-t26 : tie.Need-mul-t26 Inv-loop μ-loop
+mul-t26 c = let s : Start = c .before .before .before .before .before .before .before .before .before in omega (arith, used s)
 
-shared-slice-read-place-of : tie.Need-shared-slice-read-place-of Inv-loop μ-loop
-shared-slice-read-place-of c =
-    let s : Start = c .before .before .before .before .before .before .before .before .before .before .before .before in
-    omega (arith, used s, reps-long (s .pre .0) (s .pre .1))
+shared-slice-read-t28 : tie.Need-shared-slice-read-t28 Inv-loop μ-loop
+shared-slice-read-t28 c =
+    let s : Start = c .before .before .before .before .before .before .before .before .before .before in
+    omega (arith, used s, s .pre .2)
 
 place-of-requires-2 : tie.Need-place-of-requires-2 Inv-loop μ-loop
-place-of-requires-2 c κs =
-    let s : Start = c .before .before .before .before .before .before .before .before .before .before .before .before in
-    omega (arith, s .pre .2, s .pre .3)
+place-of-requires-2 c κs = omega arith
 
 cast-bytes-3 : tie.Need-cast-bytes-3 Inv-loop μ-loop
 cast-bytes-3 c =
-    let s : Start = c .before .before .before .before .before .before .before .before .before .before .before .before .before in
+    let s : Start = begun c in
     omega (
       arith,
-      c .place-of2 .ensures,
-      target-place (s .pre .0) (s .args .s .now) (s .args .states) (s .args .t .now) (s .args .rules) (s .pre .1) (within s) (s .args .k) (s .pre .6),
+      target c,
+      target-place (s .pre .0) (s .pre .1) (s .pre .3),
     )
 
 array-write-bytes-3 : tie.Need-array-write-bytes-3 Inv-loop μ-loop
@@ -196,13 +191,13 @@ array-write-bytes-3 c = search needs
 
 returns : tie.Need-returns Inv-loop μ-loop
 returns c =
-    let s : Start = c .before .before .before .before .before .before .before .before .before .before .before .before .before in
-    let l = c .before .before .before .before .before .loop in
+    let s : Start = begun c in
+    let l = c .before .before .before .before .loop in
     let few-kids = row-few (s .pre .0) (row s) (used s) (some s) in
     let count = ap (λ (a : ℕ). getD (s .args .counts .now) a 0) (sym (row-symbol (s .pre .0) (row s) (used s))) ∙ row-count (s .pre .0) (row s) (used s) (some s) in
-    let whole : length (kidsAt (store s) (row s)) ≤ l .i = omega (arith, c .before .before .before .before .loop-test .left, l .inv .1) in (
+    let whole : length (kidsAt (store s) (row s)) ≤ l .i = omega (arith, c .before .before .before .loop-test .left, l .inv .1) in (
       length-set (l .bytes) 5 (c .place-of2 .result) ∙ l .inv .0 .long,
-      rule-end (store s) (states s) (row s) (s .args .reps .now) (l .inv .0) whole few-kids count (c .place-of2 .result) (c .place-of2 .ensures),
+      rule-end (store s) (states s) (row s) (s .args .reps .now) (l .inv .0) whole few-kids count (c .place-of2 .result) (target c),
     )
 
 pub rule-bytes-spec : {M : Type 1} → statement M
@@ -211,8 +206,6 @@ rule-bytes-spec =
     (tie.spec
     Inv-loop
     μ-loop
-    mul-place-of
-    element-copy-out-place-of
     symbol-of-requires
     cast-count
     shared-slice-read-count
@@ -229,9 +222,9 @@ rule-bytes-spec =
     add-i
     loop-less
     loop-again
-    cast-place-of
-    mul-place-of-2
-    shared-slice-read-place-of
+    cast-t14
+    mul-t26
+    shared-slice-read-t28
     place-of-requires-2
     cast-bytes-3
     array-write-bytes-3

@@ -12,9 +12,10 @@ use Rattle.model.specs.Store.{Store, used, countOf, padded, findRow}
 use Rattle.model.specs.Base.{top}
 use Rattle.model.specs.Terms.{orElse, unless, recordFault, knownFrom, knownRow}
 use Rattle.model.specs.Automata.{acceptsList}
-use Rattle.model.specs.Table.{Tables, answerAt, isMissing}
+use Rattle.model.specs.Table.{Tables, answerAt, isMissing, automatonOf}
 use Rattle.model.specs.Sound.{contextsFew, isT5, isT6, isT7, isT8, isSound}
 use Rattle.model.specs.Calls.{markFits, contradicts, verdictIs, offerFault}
+use Rattle.model.specs.Facts.{Parses}
 use Rattle.model.specs.Entry.{storeOf, answersIn, tablesOf}
 use Rattle.model.specs.declared.Lists.{Lists}
 use Rattle.model.proofs.Laws.Tests.{and-left, and-right}
@@ -23,7 +24,10 @@ use Rattle.model.proofs.Laws.ReflectTable.{idle-of, known-back}
 use Rattle.bank.specs.Ready.{Ready}
 use Rattle.bank.proofs.Laws.Trees.{by-equal}
 use Rattle.bank.proofs.Laws.Words.{used-of}
-use Rattle.table_verdict.specs.Rules.{hypothesis, Ruled}
+use Rattle.table_verdict.specs.Rules.{Ruled, RepsIn, acceptsListBy}
+use Rattle.table_verdict.proofs.Laws.Words.{few-rows}
+use Rattle.table_verdict.proofs.Laws.States.{reps-ruled}
+use Rattle.table_verdict.proofs.Laws.Verdict.{accepts-list-is}
 use Rattle.sound.specs.Working.{Arrays, Working, preparedFit, judgedFit}
 use Rattle.sound.proofs.Laws.Judged.{sound-parts, ruled, hypothesis-is}
 use Rattle.step_end.specs.Stepping.{countsIn}
@@ -147,15 +151,24 @@ module _ (ws : List ℕ) (l : Lists) {index table places reps : List ℕ} (a : A
   none-missing : isMissing tested ≡ false
   none-missing = known-back tested (idle-of tested z (and-right (isT7 tested) (isT8 tested) (and-right middle (isT7 tested && isT8 tested) judged)) .1)
 
-  pub offer-ruled : Ruled (storeOf ws (countsIn l) (l .used)) (take (l .states) (l .s)) (take (l .rules) (l .t)) reps
+  offer-ruled : Ruled (storeOf ws (countsIn l) (l .used)) (take (l .states) (l .s)) (take (l .rules) (l .t)) reps
   offer-ruled = ruled a w prepared (l .hand) (l .asked) (eqb (l .accepted) 1) tables-fit none-missing
+
+  pub offer-reps : RepsIn (l .used) reps
+  offer-reps = reps-ruled (w .ready) offer-ruled
 
   abbrev guess : Bool → ℕ → Bool
   guess b m = eqb (cond b 1 0) m
 
-  module _ (xs : List ℕ) (m : ℕ) (y : Bool) (h : m ≤ 1) (p : y ≡ acceptsList (hypothesis ws (countsIn l) (l .used) (l .s) (l .states) (l .t) (l .rules) reps) xs) where
+  module _ (xs : List ℕ) (m : ℕ) (y : Bool) (h : m ≤ 1) (q : Parses (countsIn l) 0 xs)
+      (p : y ≡ acceptsListBy (storeOf ws (countsIn l) (l .used)) (answersIn (l .used) ws) reps xs) where
+    verdict-of : y ≡ acceptsList (automatonOf (tablesOf ws l)) xs
+    verdict-of =
+        p ∙ accepts-list-is (w .ready .good) offer-ruled (few-rows (w .ready)) (answersIn (l .used) ws) xs q ∙
+        ap (λ A. acceptsList A xs) (hypothesis-is a w prepared (l .hand) (l .asked) (eqb (l .accepted) 1) tables-fit none-missing)
+
     verdict-by : verdictIs (tablesOf ws l) xs m ≡ eqb (cond y 1 0) m
-    verdict-by = λ i. guess ((ap (λ A. acceptsList A xs) (sym (hypothesis-is a w prepared (l .hand) (l .asked) (eqb (l .accepted) 1) tables-fit none-missing)) ∙ sym p) i) m
+    verdict-by = λ i. guess (sym verdict-of i) m
 
     verdict-same : Bool·beq y (eqb m 1) ≡ true → verdictIs (tablesOf ws l) xs m ≡ true
     verdict-same q = verdict-by ∙ mark-is y m h q

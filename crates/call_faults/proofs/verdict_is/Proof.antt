@@ -10,7 +10,7 @@ use Rattle.model.proofs.Laws.Lent.{listsFit-facts}
 use Rattle.model.proofs.Laws.Trees.{recordFault-parses}
 use Rattle.sound.specs.Working.{Arrays}
 use Rattle.step_end.specs.Stepping.{countsIn}
-use Rattle.call_faults.proofs.Laws.OfferLines.{offer-ruled, verdict-told}
+use Rattle.call_faults.proofs.Laws.OfferLines.{offer-reps, verdict-told}
 use Rattle.call_faults.proofs.verdict_is.Statement.{statement}
 use Rattle.call_faults.proofs.verdict_is.Tie as tie
 use Rattle.call_faults.proofs.verdict_is.Reads as reads
@@ -37,34 +37,29 @@ cast-letters c = search needs
 
 array-share-prefix-counts : tie.Need-array-share-prefix-counts
 array-share-prefix-counts c =
-    let s : Start = c .before .before .before .before .before .before .before .before .before in
+    let s : Start = c .before .before .before .before .before .before .before in
     let e : length (s .args .lists .counts) ≡ mostSymbols = search needs in
     omega (arith, listsFit-facts (s .args .lists) (s .pre .0) .letters)
 
 slice-aggregate-accepts-list : tie.Need-slice-aggregate-accepts-list
 slice-aggregate-accepts-list c =
-    let s : Start = c .before .before .before .before .before .before .before .before .before .before in
+    let s : Start = c .before .before .before .before .before .before .before .before in
     let e : length (s .args .lists .counts) ≡ mostSymbols = search needs in
     sym (length-take-le (s .args .lists .letters) (s .args .lists .counts) (omega (arith, listsFit-facts (s .args .lists) (s .pre .0) .letters)))
 
-cast-accepts-list : tie.Need-cast-accepts-list
-cast-accepts-list c = search needs
-
-cast-accepts-list-2 : tie.Need-cast-accepts-list-2
-cast-accepts-list-2 c = search needs
-
 accepts-list-requires : tie.Need-accepts-list-requires
 accepts-list-requires c κs =
-    let s : Start = c .before .before .before .before .before .before .before .before .before .before .before .before .before .before in
+    let s : Start = c .before .before .before .before .before .before .before .before in
     let q = s .pre .3 in
     let p = recordFault-parses (countsIn (s .args .lists)) (s .args .symbols .now) (q .faultless) in
-    (s .pre .2 .ready, offer-ruled (s .args .words .now) (s .args .lists) (arrays s) (s .pre .2) (s .pre .1) (q .idle), p .0, p .2)
+    (s .pre .2 .ready, offer-reps (s .args .words .now) (s .args .lists) (arrays s) (s .pre .2) (s .pre .1) (q .idle), p .0, p .2)
 
 returns : tie.Need-returns
 returns c =
-    let s : Start = c .before .before .before .before .before .before .before .before .before .before .before .before .before .before .before in
+    let s : Start = c .before .before .before .before .before .before .before .before .before in
     let q = s .pre .3 in
-    verdict-told (s .args .words .now) (s .args .lists) (arrays s) (s .pre .2) (s .pre .1) (q .idle) (s .args .symbols .now) (s .args .mark) (c .accepts-list .result) (q .mark) (c .accepts-list .ensures)
+    let p = recordFault-parses (countsIn (s .args .lists)) (s .args .symbols .now) (q .faultless) in
+    verdict-told (s .args .words .now) (s .args .lists) (arrays s) (s .pre .2) (s .pre .1) (q .idle) (s .args .symbols .now) (s .args .mark) (c .accepts-list .result) (q .mark) (p .0) (c .accepts-list .ensures)
 
 pub verdict-is-spec : {M : Type 1} → statement M
 verdict-is-spec =
@@ -73,7 +68,5 @@ verdict-is-spec =
     cast-letters
     array-share-prefix-counts
     slice-aggregate-accepts-list
-    cast-accepts-list
-    cast-accepts-list-2
     accepts-list-requires
     returns)

@@ -5,18 +5,18 @@ use mathlib.Core.Bool.{Bool, _||_}
 use Prim.Native.Nat.{_+_, _-_, _≤_}
 use native.Mathlib.Omega.{arith}
 use borrow.Author.Needs.{needs}
-use lib.ListN.{take}
+use lib.ListN.{length, drop}
 use Rattle.model.specs.Base.{among}
 use Rattle.model.proofs.Laws.Tests.{or-right, or-false}
-use Rattle.run_lists.proofs.Laws.{rest, among-here, among-later, among-end}
+use Rattle.run_lists.proofs.Laws.{among-here, among-later, among-end}
 use Rattle.run_lists.proofs.is_among.Statement.{statement}
 use Rattle.run_lists.proofs.is_among.Tie as tie
 
 abbrev Inv-loop : tie.InvT-loop
-Inv-loop xs n x found₀ i₀ found i = (i ≤ n) × (among x (take n xs) ≡ found || among x (rest xs n i))
+Inv-loop xs row found₀ i₀ found i = (i ≤ length xs) × (among (row .0) xs ≡ found || among (row .0) (drop i xs))
 
 abbrev μ-loop : tie.MeasureT-loop
-μ-loop xs n x found₀ i₀ found i = n - i
+μ-loop xs row found₀ i₀ found i = length xs - i
 
 loop-holds : tie.Need-loop-holds Inv-loop μ-loop
 loop-holds c = (omega arith, refl)
@@ -35,12 +35,12 @@ loop-less c = search needs
 
 loop-again : tie.Need-loop-again Inv-loop μ-loop
 loop-again c =
-    let s = c .before .before .before .before in
-    let l = c .before .before .before .loop in (
+    let s = c .before .before .before .before .before in
+    let l = c .before .before .before .before .loop in (
       omega arith,
       ⊎-elim
-          (λ w. l .inv .1 ∙ ap (λ (b : Bool). l .found || b) (among-here (s .args .xs .now) (s .args .n) (l .i) (omega arith) (s .pre) (s .args .x) (w .0 .taken)) ∙ or-right (l .found) refl ∙ sym (ap (λ (b : Bool). b || among (s .args .x) (rest (s .args .xs .now) (s .args .n) (l .i + 1))) (w .1)))
-          (λ w. l .inv .1 ∙ ap (λ (b : Bool). l .found || b) (among-later (s .args .xs .now) (s .args .n) (l .i) (omega arith) (s .pre) (s .args .x) (w .0 .left)) ∙ sym (ap (λ (b : Bool). b || among (s .args .x) (rest (s .args .xs .now) (s .args .n) (l .i + 1))) (w .1)))
+          (λ w. l .inv .1 ∙ ap (λ (b : Bool). l .found || b) (among-here (s .args .xs .now) (l .i) (omega arith) (s .args .row .0) (w .0 .taken)) ∙ or-right (l .found) refl ∙ sym (ap (λ (b : Bool). b || among (s .args .row .0) (drop (l .i + 1) (s .args .xs .now))) (w .1)))
+          (λ w. l .inv .1 ∙ ap (λ (b : Bool). l .found || b) (among-later (s .args .xs .now) (l .i) (omega arith) (s .args .row .0) (w .0 .left)) ∙ sym (ap (λ (b : Bool). b || among (s .args .row .0) (drop (l .i + 1) (s .args .xs .now))) (w .1)))
           (c .if1 .came),
     )
 
@@ -48,7 +48,7 @@ returns : tie.Need-returns Inv-loop μ-loop
 returns c =
     let s = c .before .before in
     let l = c .before .loop in
-    sym (l .inv .1 ∙ ap (λ (b : Bool). l .found || b) (among-end (s .args .xs .now) (s .args .n) (l .i) (omega arith) (s .pre) (s .args .x)) ∙ or-false (l .found))
+    sym (l .inv .1 ∙ ap (λ (b : Bool). l .found || b) (among-end (s .args .xs .now) (l .i) (omega arith) (s .args .row .0)) ∙ or-false (l .found))
 
 pub is-among-spec : {M : Type 1} → statement M
 is-among-spec =

@@ -3,17 +3,17 @@ use mathlib.Core.Path.{_≡_, refl, sym, _∙_}
 use Prim.Native.Nat.{_-_, _≤_}
 use native.Mathlib.Omega.{arith}
 use borrow.Author.Needs.{needs}
-use lib.ListN.{take}
+use lib.ListN.{length, drop}
 use Rattle.model.specs.Base.{placeOf}
-use Rattle.run_lists.proofs.Laws.{rest, place-here, place-later, place-end}
+use Rattle.run_lists.proofs.Laws.{place-here, place-later, place-end}
 use Rattle.run_lists.proofs.place_of.Statement.{statement}
 use Rattle.run_lists.proofs.place_of.Tie as tie
 
 abbrev Inv-loop : tie.InvT-loop
-Inv-loop xs n x i₀ i = (i ≤ n) × (placeOf x 0 (take n xs) ≡ placeOf x i (rest xs n i))
+Inv-loop xs row i₀ i = (i ≤ length xs) × (placeOf (row .0) 0 xs ≡ placeOf (row .0) i (drop i xs))
 
 abbrev μ-loop : tie.MeasureT-loop
-μ-loop xs n x i₀ i = n - i
+μ-loop xs row i₀ i = length xs - i
 
 loop-holds : tie.Need-loop-holds Inv-loop μ-loop
 loop-holds c = (omega arith, refl)
@@ -26,9 +26,9 @@ shared-slice-read-if1 c = search needs
 
 returns : tie.Need-returns Inv-loop μ-loop
 returns c =
-    let s = c .before .before .before .before in
-    let l = c .before .before .before .loop in
-    sym (l .inv .1 ∙ place-here (s .args .xs .now) (s .args .n) (l .i) (omega arith) (s .pre) (s .args .x) (l .i) (c .if1 .taken))
+    let s = c .before .before .before .before .before in
+    let l = c .before .before .before .before .loop in
+    sym (l .inv .1 ∙ place-here (s .args .xs .now) (l .i) (omega arith) (s .args .row .0) (l .i) (c .if1 .taken))
 
 add-i : tie.Need-add-i Inv-loop μ-loop
 add-i c = search needs
@@ -38,17 +38,17 @@ loop-less c = search needs
 
 loop-again : tie.Need-loop-again Inv-loop μ-loop
 loop-again c =
-    let s = c .before .before .before .before in
-    let l = c .before .before .before .loop in
-    (omega arith, l .inv .1 ∙ place-later (s .args .xs .now) (s .args .n) (l .i) (omega arith) (s .pre) (s .args .x) (l .i) (c .if1 .left))
+    let s = c .before .before .before .before .before in
+    let l = c .before .before .before .before .loop in
+    (omega arith, l .inv .1 ∙ place-later (s .args .xs .now) (l .i) (omega arith) (s .args .row .0) (l .i) (c .if1 .left))
 
 returns-2 : tie.Need-returns-2 Inv-loop μ-loop
 returns-2 c =
     let s = c .before .before in
     let l = c .before .loop in
     let e = l .inv .0 in
-    let p : s .args .n ≡ l .i = omega arith in
-    p ∙ sym (l .inv .1 ∙ place-end (s .args .xs .now) (s .args .n) (l .i) (omega arith) (s .pre) (s .args .x) (l .i))
+    let p : length (s .args .xs .now) ≡ l .i = omega arith in
+    p ∙ sym (l .inv .1 ∙ place-end (s .args .xs .now) (l .i) (omega arith) (s .args .row .0) (l .i))
 
 pub place-of-spec : {M : Type 1} → statement M
 place-of-spec =

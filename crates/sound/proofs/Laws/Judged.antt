@@ -3,7 +3,7 @@
 use mathlib.Core.Path.{_≡_, refl, sym, ap, _∙_}
 use mathlib.Core.Bool.{Bool, true, false, _&&_, _||_, not, cond}
 use mathlib.Core.List.{List}
-use Prim.Native.Nat.{ℕ, _+_, _≤_}
+use Prim.Native.Nat.{ℕ, _+_, _≤_, _<_}
 use native.Mathlib.Omega.{arith}
 use borrow.Author.Tests.{ltb-true}
 use lib.Dec.{ltb, leb, eqb}
@@ -11,7 +11,7 @@ use lib.ListN.{length, take}
 use lib.Seq.{length-take-le}
 use Rattle.model.specs.Limits.{mostRows}
 use Rattle.model.specs.Store.{used, isRecord}
-use Rattle.model.specs.Automata.{acceptsRow}
+use Rattle.model.specs.Automata.{Automaton, acceptsRow}
 use Rattle.model.specs.Table.{Tables, answerAt, answersOf, isMissing, automatonOf}
 use Rattle.model.specs.Sound.{isT1, isT2, isT3, contextsFit, contextsFew, isT5, isT6, isT7, isT8, isSound, verdictDiffers}
 use Rattle.model.specs.Entry.{storeOf, answersIn}
@@ -24,7 +24,9 @@ use Rattle.table.proofs.Laws.Tied.{missing-tied}
 use Rattle.table.proofs.Laws.Judged.{yes-tied, differ-tied, once-tied}
 use Rattle.sound_roles.specs.Marked.{recordBy}
 use Rattle.sound_roles.proofs.Laws.Marked.{record-ready}
-use Rattle.table_verdict.specs.Rules.{hypothesis, Ruled}
+use Rattle.table_verdict.specs.Rules.{hypothesis, Ruled, RepsIn, acceptsBy}
+use Rattle.table_verdict.proofs.Laws.States.{reps-ruled}
+use Rattle.table_verdict.proofs.Laws.Verdict.{accepts-row-is}
 use Rattle.table_verdict.proofs.Laws.Tied.{Covers, covers-shaped, RepsOf, reps-tied, ruled-tied, hypothesis-tied}
 use Rattle.bank_t1.specs.Pass.{holeBy}
 use Rattle.sound_parts.proofs.Laws.Parts.{and-assoc}
@@ -112,28 +114,35 @@ module _ {ws ns : List ℕ} {u : ℕ} {s : List ℕ} {q : ℕ} {t : List ℕ} {n
       pub ruled : Ruled (storeOf ws ns u) (take q s) (take n t) reps
       ruled = ruled-tied covers reps-are small (omega (arith, w .reps-long))
 
+      pub reps-read : RepsIn u reps
+      reps-read = reps-ruled (w .ready) ruled
+
       pub hypothesis-is : hypothesis ws ns u s q t n reps ≡ automatonOf (given ws ns u s q t n c m h o z)
       hypothesis-is = hypothesis-tied ws ns u s q t n (take m c) covers reps-are small h o z
+
+      verdict-is : h < used (storeOf ws ns u) → acceptsBy (storeOf ws ns u) (answersIn u ws) reps h ≡ acceptsRow (automatonOf (given ws ns u s q t n c m h o z)) (storeOf ws ns u) h
+      verdict-is l = accepts-row-is (w .ready .good) ruled small (answersIn u ws) h l ∙ ap (λ (d : Automaton). acceptsRow d (storeOf ws ns u) h) hypothesis-is
 
     abbrev verdict : Bool → Bool
     verdict y = eqb h 0 || y
 
-    pub hand-is : (b : Bool) → b ≡ isMissing (given ws ns u s q t n c m h o z) → handFits ws ns u s q t n reps index h b ≡ isT7 (given ws ns u s q t n c m h o z)
+    pub hand-is : (b : Bool) → b ≡ isMissing (given ws ns u s q t n c m h o z) → handFits ws ns u reps index h b ≡ isT7 (given ws ns u s q t n c m h o z)
     hand-is true e =
-        ap (λ (y : Bool). verdict (recordBy index u h && y)) (and-false (eqb (answerIn ws h) (cond (acceptsRow (hypothesis ws ns u s q t n reps) (storeOf ws ns u) h) 1 2))) ∙
+        ap (λ (y : Bool). verdict (recordBy index u h && y)) (and-false (eqb (answerIn ws h) (cond (acceptsBy (storeOf ws ns u) (answersIn u ws) reps h) 1 2))) ∙
         ap verdict (and-false (recordBy index u h)) ∙
         sym (ap (λ (y : Bool). verdict ((isRecord (storeOf ws ns u) h && verdictDiffers X h) && not y)) (sym e) ∙ ap verdict (and-false (isRecord (storeOf ws ns u) h && verdictDiffers X h)))
     hand-is false e = go (recordBy index u h) refl
       where
-        go : (k : Bool) → recordBy index u h ≡ k → handFits ws ns u s q t n reps index h false ≡ isT7 (given ws ns u s q t n c m h o z)
+        go : (k : Bool) → recordBy index u h ≡ k → handFits ws ns u reps index h false ≡ isT7 (given ws ns u s q t n c m h o z)
         go true r =
             let l = ltb-true h u (and-left (ltb h u) (not (holeBy index h)) r) in
             let v = answer-in u h ws l in
-            (λ i. verdict (record-ready (w .ready) h i && (eqb (sym v i) (cond (acceptsRow (hypothesis-is (sym e) i) (storeOf ws ns u) h) 1 2) && not (e i)))) ∙
+            let y = verdict-is (sym e) (omega (arith, used-of ws ns u)) in
+            (λ i. verdict (record-ready (w .ready) h i && (eqb (sym v i) (cond (y i) 1 2) && not (e i)))) ∙
             ap verdict (and-assoc (isRecord (storeOf ws ns u) h) (verdictDiffers X h) (not (isMissing X)))
         go false r =
             let g : isRecord (storeOf ws ns u) h ≡ false = sym (record-ready (w .ready) h) ∙ r in
-            ap (λ (y : Bool). verdict (y && (eqb (answerIn ws h) (cond (acceptsRow (hypothesis ws ns u s q t n reps) (storeOf ws ns u) h) 1 2) && not false))) r ∙
+            ap (λ (y : Bool). verdict (y && (eqb (answerIn ws h) (cond (acceptsBy (storeOf ws ns u) (answersIn u ws) reps h) 1 2) && not false))) r ∙
             sym (ap (λ (y : Bool). verdict ((y && verdictDiffers X h) && not (isMissing X))) g)
 
 -- THE TWO PARTS make the soundness test

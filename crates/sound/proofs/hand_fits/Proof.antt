@@ -10,16 +10,16 @@ use Rattle.sound.proofs.hand_fits.Statement.{statement}
 use Rattle.sound.proofs.hand_fits.Tie as tie
 
 returns : tie.Need-returns
-returns c = let s = c .before .before .before .before .before in none-in-hand (s .args .words .now) (s .args .counts .now) (s .args .used) (s .args .s .now) (s .args .states) (s .args .t .now) (s .args .rules) (s .args .reps .now) (s .args .index .now) (s .args .hand) (s .args .missing) (c .if1 .taken)
+returns c = let s = c .before .before .before .before .before in none-in-hand (s .args .words .now) (s .args .counts .now) (s .args .used) (s .args .reps .now) (s .args .index .now) (s .args .hand) (s .args .missing) (c .if1 .taken)
 
 is-record-requires : tie.Need-is-record-requires
 is-record-requires c κs = search needs
 
 returns-2 : tie.Need-returns-2
-returns-2 c = let s = c .before .before .before .before .before .before .before in no-record (s .args .words .now) (s .args .counts .now) (s .args .used) (s .args .s .now) (s .args .states) (s .args .t .now) (s .args .rules) (s .args .reps .now) (s .args .index .now) (s .args .hand) (s .args .missing) (c .before .before .if1 .left) (sym (c .before .is-record .ensures) ∙ not-true (c .before .is-record .result) (c .if2 .taken))
+returns-2 c = let s = c .before .before .before .before .before .before .before in no-record (s .args .words .now) (s .args .counts .now) (s .args .used) (s .args .reps .now) (s .args .index .now) (s .args .hand) (s .args .missing) (c .before .before .if1 .left) (sym (c .before .is-record .ensures) ∙ not-true (c .before .is-record .result) (c .if2 .taken))
 
 returns-3 : tie.Need-returns-3
-returns-3 c = let s = c .before .before .before .before .before .before .before .before in answer-missing (s .args .words .now) (s .args .counts .now) (s .args .used) (s .args .s .now) (s .args .states) (s .args .t .now) (s .args .rules) (s .args .reps .now) (s .args .index .now) (s .args .hand) (s .args .missing) (c .before .before .before .if1 .left) (c .if3 .taken)
+returns-3 c = let s = c .before .before .before .before .before .before .before .before in answer-missing (s .args .words .now) (s .args .counts .now) (s .args .used) (s .args .reps .now) (s .args .index .now) (s .args .hand) (s .args .missing) (c .before .before .before .if1 .left) (c .if3 .taken)
 
 answer-of-requires : tie.Need-answer-of-requires
 answer-of-requires c κs =
@@ -35,12 +35,12 @@ accepts-row-requires c κs =
 returns-4 : tie.Need-returns-4
 returns-4 c =
     let s = c .before .before .before .before .before .before .before .before .before .before .before in
-    hand-accepted (s .args .words .now) (s .args .counts .now) (s .args .used) (s .args .s .now) (s .args .states) (s .args .t .now) (s .args .rules) (s .args .reps .now) (s .args .index .now) (s .args .hand) (s .args .missing) (c .before .before .before .before .before .before .if1 .left) (sym (c .before .before .before .before .before .is-record .ensures) ∙ not-false (c .before .before .before .before .before .is-record .result) (c .before .before .before .before .if2 .left)) (c .before .before .before .if3 .left) (sym (c .before .accepts-row .ensures) ∙ c .if4 .taken) (c .before .before .answer-of .ensures)
+    hand-accepted (s .args .words .now) (s .args .counts .now) (s .args .used) (s .args .reps .now) (s .args .index .now) (s .args .hand) (s .args .missing) (c .before .before .before .before .before .before .if1 .left) (sym (c .before .before .before .before .before .is-record .ensures) ∙ not-false (c .before .before .before .before .before .is-record .result) (c .before .before .before .before .if2 .left)) (c .before .before .before .if3 .left) (sym (c .before .accepts-row .ensures) ∙ c .if4 .taken) (c .before .before .answer-of .ensures)
 
 returns-5 : tie.Need-returns-5
 returns-5 c =
     let s = c .before .before .before .before .before .before .before .before .before .before .before in
-    hand-rejected (s .args .words .now) (s .args .counts .now) (s .args .used) (s .args .s .now) (s .args .states) (s .args .t .now) (s .args .rules) (s .args .reps .now) (s .args .index .now) (s .args .hand) (s .args .missing) (c .before .before .before .before .before .before .if1 .left) (sym (c .before .before .before .before .before .is-record .ensures) ∙ not-false (c .before .before .before .before .before .is-record .result) (c .before .before .before .before .if2 .left)) (c .before .before .before .if3 .left) (sym (c .before .accepts-row .ensures) ∙ c .if4 .left) (c .before .before .answer-of .ensures)
+    hand-rejected (s .args .words .now) (s .args .counts .now) (s .args .used) (s .args .reps .now) (s .args .index .now) (s .args .hand) (s .args .missing) (c .before .before .before .before .before .before .if1 .left) (sym (c .before .before .before .before .before .is-record .ensures) ∙ not-false (c .before .before .before .before .before .is-record .result) (c .before .before .before .before .if2 .left)) (c .before .before .before .if3 .left) (sym (c .before .accepts-row .ensures) ∙ c .if4 .left) (c .before .before .answer-of .ensures)
 
 pub hand-fits-spec : {M : Type 1} → statement M
 hand-fits-spec =

@@ -1,7 +1,7 @@
 -- `sound::judged` meets its contract: T4's last clause, T5 and T6, then T7, then T8, by the laws of Judged.
 use native.Mathlib.Omega.{arith}
 use mathlib.Core.Path.{_≡_, sym, _∙_}
-use mathlib.Core.Bool.{true, false, _&&_}
+use mathlib.Core.Bool.{true, _&&_}
 use borrow.Author.Tests.{not-true, not-false}
 use borrow.Author.Needs.{needs}
 use lib.Dec.{eqb}
@@ -9,7 +9,7 @@ use Rattle.model.specs.Table.{Tables, isMissing}
 use Rattle.model.specs.Sound.{contextsFew, isT5, isT6, isT7}
 use Rattle.sound_roles.proofs.Laws.Scan.{stops, goes-on}
 use Rattle.sound_parts.specs.Given.{given, tableFits}
-use Rattle.sound.proofs.Laws.Judged.{missing-is, table-is, question-is, ruled, hand-is}
+use Rattle.sound.proofs.Laws.Judged.{missing-is, table-is, question-is, reps-read, hand-is}
 use Rattle.sound.proofs.judged.Statement.{statement}
 use Rattle.sound.proofs.judged.Tie as tie
 
@@ -42,7 +42,7 @@ returns c = stops _ _ (sym (table (c .before .before .before .before .before .be
 hand-fits-requires : tie.Need-hand-fits-requires
 hand-fits-requires c κs =
     let s = c .before .before .before .before .before .before .before in
-    (s .pre .1 .ready, λ e. ruled (s .pre .0) (s .pre .1) (s .pre .2) (s .args .standing .hand) (s .args .standing .asked) (eqb (s .args .standing .accepted) 1) (table-true c) (sym (missing s) ∙ e))
+    (s .pre .1 .ready, λ e. reps-read (s .pre .0) (s .pre .1) (s .pre .2) (s .args .standing .hand) (s .args .standing .asked) (eqb (s .args .standing .accepted) 1) (table-true c) (sym (missing s) ∙ e))
 
 returns-2 : tie.Need-returns-2
 returns-2 c =

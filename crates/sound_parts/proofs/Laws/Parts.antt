@@ -13,7 +13,8 @@ use Rattle.model.specs.Limits.{mostRules, mostStates}
 use Rattle.model.specs.Base.{In, all, allAmong, noRepeats, placeOf}
 use Rattle.model.specs.Store.{isRecord, kidsAt}
 use Rattle.model.specs.Sound.{isT2, isT3, contextsFit}
-use Rattle.model.specs.Entry.{storeOf}
+use Rattle.model.specs.Table.{Tables, tables}
+use Rattle.model.specs.Entry.{storeOf, answersIn}
 use Rattle.model.proofs.Laws.Lists.{place-at, place-within, in-members, each-at, at-place}
 use Rattle.bank.specs.Rows.{answerIn}
 use Rattle.bank.proofs.Laws.Trees.{by-equal}
@@ -21,7 +22,7 @@ use Rattle.table.specs.Answers.{Placing, Placed}
 use Rattle.bank.specs.Ready.{Ready}
 use Rattle.sound_roles.specs.Marked.{recordBy, contextsFitBy}
 use Rattle.sound_roles.proofs.Laws.Marked.{contexts-fit-ready}
-use Rattle.sound_parts.specs.Given.{given, fewFit, questionFits}
+use Rattle.sound_parts.specs.Given.{fewFit, questionFits}
 
 pub and-assoc : (a b c : Bool) → a && (b && c) ≡ (a && b) && c
 and-assoc true b c = refl
@@ -77,64 +78,69 @@ module _ (few differ yes : Bool) (missing once : Bool) where
         pub once-decides : missing ≡ false → once ≡ few && ((differ && yes) && (missing || once))
         once-decides m = rw (a, d, y, m)
 
--- T2, T3 AND T4's FIRST CLAUSES of the tables given
-module _ {ws ns : List ℕ} {u : ℕ} {ix : List ℕ} (r : Ready ws ns u ix) (s : List ℕ) (q : ℕ) (t : List ℕ) (n : ℕ) (c : List ℕ) (m : ℕ)
-    (a : q ≤ length s) (a' : q ≤ mostStates) (b : n ≤ length t) (b' : n ≤ mostRules) where
-  pub t2-given : noRepeats (take n t) && (all (isRecord (storeOf ws ns u)) (take n t) && all (λ (i : ℕ). allAmong (kidsAt (storeOf ws ns u) i) (take q s)) (take n t)) ≡
-      isT2 (given ws ns u s q t n c m 0 0 false)
+-- T2, T3 AND T4's FIRST CLAUSES of tables with nothing in hand and no question
+abbrev idle : (words counts : List ℕ) → (used : ℕ) → (s t c : List ℕ) → Tables
+idle ws ns u s t c = tables (storeOf ws ns u) (answersIn u ws) s t c 0 0 false
+
+module _ {ws ns : List ℕ} {u : ℕ} {ix : List ℕ} (r : Ready ws ns u ix) (s t c : List ℕ) (a : length s ≤ mostStates) (b : length t ≤ mostRules) where
+  pub t2-given : noRepeats t && (all (isRecord (storeOf ws ns u)) t && all (λ (i : ℕ). allAmong (kidsAt (storeOf ws ns u) i) s) t) ≡ isT2 (idle ws ns u s t c)
   t2-given =
-      let e = length-take-le n t b in
-      rw (le-leb (length (take n t)) mostRules (omega arith))
-      (and-assoc (noRepeats (take n t)) (all (isRecord (storeOf ws ns u)) (take n t)) (all (λ (i : ℕ). allAmong (kidsAt (storeOf ws ns u) i) (take q s)) (take n t)))
+      rw (le-leb (length t) mostRules b)
+      (and-assoc (noRepeats t) (all (isRecord (storeOf ws ns u)) t) (all (λ (i : ℕ). allAmong (kidsAt (storeOf ws ns u) i) s) t))
 
-  pub t3-given : noRepeats (take q s) && allAmong (take q s) (take n t) ≡ isT3 (given ws ns u s q t n c m 0 0 false)
-  t3-given = let e = length-take-le q s a in rw (le-leb (length (take q s)) mostStates (omega arith))
+  pub t3-given : noRepeats s && allAmong s t ≡ isT3 (idle ws ns u s t c)
+  t3-given = rw (le-leb (length s) mostStates a)
 
-  pub t4-given : contextsFitBy ix u (q + n) (take m c) ≡ contextsFit (given ws ns u s q t n c m 0 0 false)
-  t4-given =
-      let e : q + n ≡ length (take q s) + length (take n t) = let d = length-take-le q s a in let f = length-take-le n t b in omega arith in
-      ap (λ (k : ℕ). contextsFitBy ix u k (take m c)) e ∙ contexts-fit-ready r (given ws ns u s q t n c m 0 0 false) refl
+  pub t4-given : contextsFitBy ix u (length s + length t) c ≡ contextsFit (idle ws ns u s t c)
+  t4-given = contexts-fit-ready r (idle ws ns u s t c) refl
 
 -- PLACES of S in T, the first i of them found
-pub record Finding (s : List ℕ) (q : ℕ) (t : List ℕ) (n : ℕ) (places : List ℕ) (i : ℕ) : Type 0 where
-  pub long : length places ≡ mostStates
-  pub most : i ≤ q
-  pub within : (j : ℕ) → j < i → getD places j 0 < n
-  pub names : (j : ℕ) → j < i → getD t (getD places j 0) 0 ≡ getD s j 0
+pub record Finding (s t s-in-t : List ℕ) (i : ℕ) : Type 0 where
+  pub long : length s-in-t ≡ mostStates
+  pub most : i ≤ length s
+  pub within : (j : ℕ) → j < i → getD s-in-t j 0 < length t
+  pub names : (j : ℕ) → j < i → getD t (getD s-in-t j 0) 0 ≡ getD s j 0
 
-module _ (s : List ℕ) (q : ℕ) (t : List ℕ) (n : ℕ) (a : q ≤ length s) (b : n ≤ length t) (f : allAmong (take q s) (take n t) ≡ true) where
-  pub place-found : (i : ℕ) → i < q → (placeOf (getD s i 0) 0 (take n t) < n) × (getD t (placeOf (getD s i 0) 0 (take n t)) 0 ≡ getD s i 0)
+module _ (s t : List ℕ) (f : allAmong s t ≡ true) where
+  pub place-found : (i : ℕ) → i < length s → (placeOf (getD s i 0) 0 t < length t) × (getD t (placeOf (getD s i 0) 0 t) 0 ≡ getD s i 0)
   place-found i l =
-      let e = length-take-le q s a in
-      let d = length-take-le n t b in
-      let m : In (getD (take q s) i 0) (take n t) = each-at (in-members (take q s) (take n t) f) (getD (take q s) i 0) (at-place (take q s) i (omega arith)) in
-      let k : In (getD s i 0) (take n t) = rw (← getD-take q s i 0 l) m in
-      let w : placeOf (getD s i 0) 0 (take n t) < n = let z = place-within (getD s i 0) 0 (take n t) k in omega arith in
+      let k : In (getD s i 0) t = each-at (in-members s t f) (getD s i 0) (at-place s i l) in
       let p = place-at (getD s i 0) 0 k in
-      let g : placeOf (getD s i 0) 0 (take n t) ≡ p .0 = p .1 ∙ (let y : 0 + p .0 ≡ p .0 = omega arith in y) in
-      (w, sym (getD-take n t (placeOf (getD s i 0) 0 (take n t)) 0 w) ∙ ap (λ (j : ℕ). getD (take n t) j 0) g ∙ p .2)
+      let g : placeOf (getD s i 0) 0 t ≡ p .0 = p .1 ∙ (let y : 0 + p .0 ≡ p .0 = omega arith in y) in
+      (let z = place-within (getD s i 0) 0 t k in omega arith, ap (λ (j : ℕ). getD t j 0) g ∙ p .2)
 
-  pub place-next : {places : List ℕ} {i : ℕ} → q ≤ mostStates → Finding s q t n places i → i < q → Finding s q t n (set places i (placeOf (getD s i 0) 0 (take n t))) (i + 1)
-  place-next {places} {i} few y l =
-      let p : ℕ = placeOf (getD s i 0) 0 (take n t) in
-      let here : getD (set places i p) i 0 ≡ p = getD-set-same places i p 0 (omega (arith, y .long)) in
-      let there : (j : ℕ) → (j ≡ i → ⊥) → getD (set places i p) j 0 ≡ getD places j 0 = λ j d. getD-set-other places i j p 0 d in
+  pub place-next : {ps : List ℕ} {i : ℕ} → length s ≤ mostStates → Finding s t ps i → i < length s → Finding s t (set ps i (placeOf (getD s i 0) 0 t)) (i + 1)
+  place-next {ps} {i} few y l =
+      let p : ℕ = placeOf (getD s i 0) 0 t in
+      let here : getD (set ps i p) i 0 ≡ p = getD-set-same ps i p 0 (omega (arith, y .long)) in
+      let there : (j : ℕ) → (j ≡ i → ⊥) → getD (set ps i p) j 0 ≡ getD ps j 0 = λ j d. getD-set-other ps i j p 0 d in
       let found = place-found i l in
       record {
-        long = length-set places i p ∙ y .long;
+        long = length-set ps i p ∙ y .long;
         most = omega arith;
-        within = λ j h. by-equal j i (λ e. omega (arith, here, ap (λ (k : ℕ). getD (set places i p) k 0) e, found .0)) (λ d. omega (arith, there j d, y .within j (omega (arith, d))));
+        within = λ j h. by-equal j i (λ e. omega (arith, here, ap (λ (k : ℕ). getD (set ps i p) k 0) e, found .0)) (λ d. omega (arith, there j d, y .within j (omega (arith, d))));
         names = λ j h.
-            by-equal j i (λ e. ap (λ (k : ℕ). getD t (getD (set places i p) k 0) 0) e ∙ ap (λ (k : ℕ). getD t k 0) here ∙ found .1 ∙ ap (λ (k : ℕ). getD s k 0) (sym e))
+            by-equal j i (λ e. ap (λ (k : ℕ). getD t (getD (set ps i p) k 0) 0) e ∙ ap (λ (k : ℕ). getD t k 0) here ∙ found .1 ∙ ap (λ (k : ℕ). getD s k 0) (sym e))
             (λ d. ap (λ (k : ℕ). getD t k 0) (there j d) ∙ y .names j (omega (arith, d)));
       }
 
 -- all of them found
-pub places-found : {s : List ℕ} {q : ℕ} {t : List ℕ} {n : ℕ} {places : List ℕ} {i : ℕ} → q ≤ mostStates → n ≤ mostRules → Finding s q t n places i → q ≤ i → Placing places q n × Placed t n s q places
-places-found few b y l = (
-  record { long = y .long; few = few; within = λ j h. omega (arith, y .within j (omega arith)) },
+pub places-found : {s t ps : List ℕ} {i : ℕ} → length s ≤ mostStates → Finding s t ps i → length s ≤ i → Placing ps (length s) (length t) × Placed t (length t) s (length s) ps
+places-found few y l = (
+  record { long = y .long; few = few; within = λ j h. y .within j (omega arith) },
   λ j h. (y .within j (omega arith), y .names j (omega arith)),
 )
 
-pub places-none : (s : List ℕ) (q : ℕ) (t : List ℕ) (n : ℕ) (places : List ℕ) → length places ≡ mostStates → Finding s q t n places 0
-places-none s q t n places e = record { long = e; most = omega arith; within = λ j h. absurd (omega arith); names = λ j h. absurd (omega arith) }
+pub places-none : (s t ps : List ℕ) → length ps ≡ mostStates → Finding s t ps 0
+places-none s t ps e = record { long = e; most = omega arith; within = λ j h. absurd (omega arith); names = λ j h. absurd (omega arith) }
+
+-- S and T are the first members of longer arrays: their places there
+pub places-cut : (s : List ℕ) (q : ℕ) (t : List ℕ) (n : ℕ) {ps : List ℕ} → q ≤ length s → n ≤ length t →
+    Placing ps (length (take q s)) (length (take n t)) → Placed (take n t) (length (take n t)) (take q s) (length (take q s)) ps → Placing ps q n × Placed t n s q ps
+places-cut s q t n {ps} a b x y =
+    let e = length-take-le q s a in
+    let d = length-take-le n t b in
+    let within : (i : ℕ) → i < q → getD ps i 0 < n = λ i h. omega (arith, x .within i (omega arith)) in (
+      record { long = x .long; few = omega (arith, x .few); within = within },
+      λ i h. (within i h, sym (getD-take n t (getD ps i 0) 0 (within i h)) ∙ y i (omega arith) .1 ∙ getD-take q s i 0 h),
+    )

@@ -3,12 +3,11 @@
 use mathlib.Core.Path.{_≡_, refl, sym, ap, _∙_}
 use mathlib.Core.Bool.{Bool, true, false, _&&_, not}
 use mathlib.Core.List.{List}
-use Prim.Native.Nat.{ℕ, _≤_, _<_}
+use Prim.Native.Nat.{ℕ, _<_}
 use native.Mathlib.Omega.{arith}
 use borrow.Author.Tests.{ltb-true}
 use lib.Dec.{ltb}
-use lib.ListN.{length, getD, take}
-use lib.Seq.{getD-take, length-take-le}
+use lib.ListN.{length, getD}
 use Rattle.model.specs.Base.{all}
 use Rattle.model.specs.Store.{used, hasHole, isRecord, isContext}
 use Rattle.model.specs.Table.{Tables, size}
@@ -43,13 +42,11 @@ module _ {ws ns : List ℕ} {n : ℕ} {ix : List ℕ} (r : Ready ws ns n ix) whe
   pub contexts-ready : (rows : List ℕ) → contextsBy ix n rows ≡ all (isContext (storeOf ws ns n)) rows
   contexts-ready rows = λ i. all (λ (k : ℕ). context-ready k i) rows
 
-  -- the first m of a list that are records: each is a used row beyond row 0
-  pub record-at : (t : List ℕ) (m : ℕ) → m ≤ length t → all (isRecord (storeOf ws ns n)) (take m t) ≡ true → (k : ℕ) → k < m → (0 < getD t k 0) × (getD t k 0 < n)
-  record-at t m h e k l =
-      let z = length-take-le m t h in
-      let a = record-of (storeOf ws ns n) (getD (take m t) k 0) (all-getD (isRecord (storeOf ws ns n)) (take m t) k 0 e (omega arith)) in
-      let g = getD-take m t k 0 l in
-      (omega (arith, a .some), omega (arith, a .within, used-of ws ns n))
-
   pub contexts-fit-ready : (x : Tables) → x .store ≡ storeOf ws ns n → contextsFitBy ix n (size x) (x .c) ≡ contextsFit x
   contexts-fit-ready x e = rw (contexts-ready (x .c), e) refl
+
+-- a list of records: each is a used row beyond row 0
+pub record-at : (ws ns : List ℕ) (n : ℕ) (t : List ℕ) → all (isRecord (storeOf ws ns n)) t ≡ true → (k : ℕ) → k < length t → (0 < getD t k 0) × (getD t k 0 < n)
+record-at ws ns n t e k l =
+    let a = record-of (storeOf ws ns n) (getD t k 0) (all-getD (isRecord (storeOf ws ns n)) t k 0 e l) in
+    (a .some, omega (arith, a .within, used-of ws ns n))

@@ -81,7 +81,7 @@ module _ {ws : List ℕ} {l : Lists} {ix reps ds at ex : List ℕ} {f : Found} (
       let n = used-of ws (countsIn l) (l .used) in
       let g = q .stepping .ready .good in
       let b = row-low (z .record-row) in
-      let e = q .descended .at-is h b in
+      let e = q .descended .turns .at-is h b in
       let spot = subst (IsRecord (tablesOf ws l .store)) (sym e) (z .spot-row) in
       record {
         record-row = z .record-row;
@@ -96,7 +96,7 @@ module _ {ws : List ℕ} {l : Lists} {ix reps ds at ex : List ℕ} {f : Found} (
 
   -- entries that the arrays have
   pub in-at : {h : ℕ} → Held ws l ds at h → h < length at
-  in-at z = omega (arith, z .low, at-rows ws (countsIn l) (l .used) (q .descended))
+  in-at z = omega (arith, z .low, at-rows ws (countsIn l) (l .used) (q .descended .turns))
 
   pub in-reps : {h : ℕ} → Held ws l ds at h → getD at h 0 < length reps
   in-reps z = omega (arith, z .spot-low, reps-rows ws (countsIn l) (l .used) (q .hand .handling))

@@ -1,10 +1,11 @@
 -- The representatives as an array: a transition has a member of S there, another row has 0, and a row is in S if it is its own.
 -- A representative has its transition's row of answers, and members of S with equal rows are equal. Row 0 is no transition.
 use mathlib.Core.Path.{_≡_, refl, sym, ap, subst, _∙_}
-use mathlib.Core.Bool.{Bool, true, false}
+use mathlib.Core.Bool.{Bool, true, false, _&&_, not}
 use mathlib.Core.List.{List}
 use Prim.Native.Nat.{ℕ, _≤_, _<_}
 use native.Mathlib.Omega.{arith}
+use native.Mathlib.Decide.{ℕ-discrete}
 use lib.Dec.{eqb}
 use borrow.Author.Tests.{eq-eqb, ne-eqb}
 use lib.ListN.{length, getD}
@@ -16,7 +17,7 @@ use Rattle.model.specs.Entry.{storeOf}
 use Rattle.model.proofs.Laws.Lists.{member-in, not-in, in-not}
 use Rattle.model.proofs.Laws.Search.{rep-is}
 use Rattle.bank.proofs.Laws.Words.{used-of}
-use Rattle.step_search.specs.Spots.{Handling}
+use Rattle.step_search.specs.Spots.{Handling, ownRep}
 
 module _ {x : Store} {w s t cs reps : List ℕ} (f : Handling x w s t cs reps) where
   -- an entry for each used row
@@ -42,7 +43,7 @@ module _ {x : Store} {w s t cs reps : List ℕ} (f : Handling x w s t cs reps) w
   pub hole-rep : getD reps 0 0 ≡ 0
   hole-rep = f .others 0 (omega arith) no-hole
 
-  pub hole-outside : among 0 s ≡ false
+  hole-outside : among 0 s ≡ false
   hole-outside = not-in 0 s (λ h. no-hole (f .full .shaped .among 0 h))
 
   -- 0 exactly where the row is no transition
@@ -56,8 +57,8 @@ module _ {x : Store} {w s t cs reps : List ℕ} (f : Handling x w s t cs reps) w
       go true e = member-in u t e
       go false e = absurd (z (f .others u l (in-not u t e)))
 
-  -- a row is in S if it is its own representative
-  pub own-rep : (i : ℕ) → 0 < i → i < mostRows → eqb (getD reps i 0) i ≡ among i s
+  -- A ROW IS IN S if it is its own representative
+  own-rep : (i : ℕ) → 0 < i → i < mostRows → eqb (getD reps i 0) i ≡ among i s
   own-rep i p l = go (among i s) refl
     where
       go : (b : Bool) → among i s ≡ b → eqb (getD reps i 0) i ≡ b
@@ -66,6 +67,13 @@ module _ {x : Store} {w s t cs reps : List ℕ} (f : Handling x w s t cs reps) w
           let r = rep-of i (f .full .shaped .among i m) in
           eq-eqb (getD reps i 0) i (sym (f .full .shaped .differ i (getD reps i 0) m (r .in-s) (r .same-row)))
       go false e = ne-eqb (getD reps i 0) i (λ q. in-not i s e (subst (λ (j : ℕ). In j s) q (rep-of i (transition i l (λ z. omega arith)) .in-s)))
+
+  pub own-among : (i : ℕ) → i < mostRows → ownRep reps i ≡ among i s
+  own-among i l = go (ℕ-discrete i 0)
+    where
+      go : Dec (i ≡ 0) → ownRep reps i ≡ among i s
+      go (yes e) = ap (ownRep reps) e ∙ sym (ap (λ (j : ℕ). among j s) e ∙ hole-outside)
+      go (no e) = ap (λ (b : Bool). not b && eqb (getD reps i 0) i) (ne-eqb i 0 e) ∙ own-rep i (omega arith) l
 
 -- by the words
 pub reps-rows : (ws ns : List ℕ) (n : ℕ) {w s t cs reps : List ℕ} → Handling (storeOf ws ns n) w s t cs reps → n ≤ length reps

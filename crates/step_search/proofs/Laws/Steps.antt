@@ -1,19 +1,18 @@
 -- One step down: to the first child with a property, an earlier row, around which the frame stands; and the frames along an array of such places.
 -- The place splits the children; fuel past the row's number makes no difference, so the way down from the child is its own.
 use mathlib.Core.Path.{_≡_, refl, sym, ap, subst, _∙_}
-use mathlib.Core.Bool.{Bool, true, not}
+use mathlib.Core.Bool.{Bool, true}
 use mathlib.Core.List.{List, [], _∷_}
 use Prim.Native.Nat.{ℕ, zero, suc, _≤_, _<_}
 use native.Mathlib.Omega.{arith}
 use lib.ListN.{length, getD}
-use Rattle.model.specs.Base.{among}
-use Rattle.model.specs.Store.{Store, Spot, Frame, used, symbolAt, kidsAt, under, downBy, downFrom, down, spotOf}
+use Rattle.model.specs.Store.{Store, Spot, Frame, used, symbolAt, kidsAt, under, downBy, downFrom, down}
 use Rattle.model.specs.Facts.{Good, IsRecord, Fits}
 use Rattle.model.proofs.Laws.Fold.{earlier}
 use Rattle.model.proofs.Laws.Down.{down-fuel, fits-record}
 use Rattle.bank.specs.Ready.{placeCode, frameAt, pathBy, pathFrom, pathOf}
 use Rattle.bank_t1.proofs.Laws.Kids.{below-at}
-use Rattle.step_search.specs.Spots.{Descended}
+use Rattle.step_search.specs.Spots.{DescendedBy}
 use Rattle.step_search.proofs.Laws.Place.{split-none, split-some}
 
 module _ (p : ℕ → Bool) (x : Store) (g : Good x) where
@@ -65,9 +64,9 @@ module _ (p : ℕ → Bool) (x : Store) (g : Good x) where
     path-down i u = path-is (suc i) i u (omega arith)
 
 -- a record's frames around its spot, along the array of all rows' places down: as `fill` of bank_fill needs them
-module _ {s reps : List ℕ} {x : Store} {ds at ex : List ℕ} {n : ℕ} (g : Good x) (d : Descended s reps x ds at ex n) (l : n ≤ used x) (h : ℕ) (u : h < n) where
-  pub path-around : pathOf ds x h ≡ spotOf s x h .around
-  path-around = path-down (λ (k : ℕ). not (among k s)) x g ds n l (d .down-is) h u
+module _ {p : ℕ → Bool} {reps : List ℕ} {x : Store} {ds at ex : List ℕ} {n : ℕ} (g : Good x) (d : DescendedBy p reps x ds at ex n) (l : n ≤ used x) (h : ℕ) (u : h < n) where
+  pub path-around : pathOf ds x h ≡ down p x h .around
+  path-around = path-down p x g ds n l (d .down-is) h u
 
   pub path-fits : IsRecord x h → Fits x (pathOf ds x h)
-  path-fits i = subst (λ (fs : List Frame). Fits x fs) (sym path-around) (fits-record (λ (k : ℕ). not (among k s)) x g (suc h) h (i .within) (omega arith) (i .clear))
+  path-fits i = subst (λ (fs : List Frame). Fits x fs) (sym path-around) (fits-record p x g (suc h) h (i .within) (omega arith) (i .clear))

@@ -1,51 +1,55 @@
--- `step_search::first_outside` meets its contract. The invariant: the children before place k are in S, and those from it on decide.
+-- `step_search::first_outside` meets its contract. The invariant: the children before place k are their own representatives, and those from it on decide.
 -- By the laws of Scan, over the children that the words hold.
 use mathlib.Core.Path.{sym, ap, _∙_}
+use mathlib.Core.Bool.{not}
 use Prim.Native.Nat.{ℕ, _-_, _<_}
 use native.Mathlib.Omega.{arith}
 use borrow.Author.Needs.{needs}
-use lib.ListN.{length, getD, take}
+use lib.ListN.{length, getD}
 use Rattle.model.specs.Store.{kidsAt}
 use Rattle.model.specs.Entry.{storeOf}
-use Rattle.step_search.proofs.Laws.Children.{row-within, symbol-known, kids-long, kid-is, kid-earlier}
+use Rattle.step_search.specs.Spots.{notOwn}
+use Rattle.step_search.proofs.Laws.Children.{GoodRows, row-within, symbol-known, kids-long, kid-is, kid-earlier}
 use Rattle.step_search.proofs.Laws.Scan.{Scanning, scan-starts, scan-hits, scan-passes, scan-ends}
 use Rattle.step_search.proofs.first_outside.Statement.{statement}
 use Rattle.step_search.proofs.first_outside.Tie as tie
 
 abbrev Inv-loop : tie.InvT-loop
-Inv-loop words counts used index s states t rules c contexts reps row symbol count k₀ k =
-    Scanning (take states s) (storeOf words counts used) (row .0) count k
+Inv-loop words counts used reps row symbol count k₀ k = Scanning (notOwn reps) (storeOf words counts used) (row .0) count k
 
 abbrev μ-loop : tie.MeasureT-loop
-μ-loop words counts used index s states t rules c contexts reps row symbol count k₀ k = count - k
+μ-loop words counts used reps row symbol count k₀ k = count - k
 
 abbrev In : Type 0
 In = tie.In-loop Inv-loop μ-loop
 
 abbrev start : In → tie.Start Inv-loop μ-loop
-start c = c .before .before .before .before .before .before .before .before
+start c = c .before .before .before .before .before .before .before
+
+rows : (s : tie.Start Inv-loop μ-loop) → GoodRows (s .args .words .now) (s .args .counts .now) (s .args .used)
+rows s = record { good = s .pre .0; room = s .pre .1 }
 
 -- the child's place is one that the row has
 place : (c : In) → c .before .loop .k < length (kidsAt (storeOf (start c .args .words .now) (start c .args .counts .now) (start c .args .used)) (start c .args .row .0))
 place c = omega (arith, c .before .loop .inv .count-is, c .loop-test .taken)
 
 symbol-of-requires : tie.Need-symbol-of-requires Inv-loop μ-loop
-symbol-of-requires c κs = let s = c .before .before .before .before in row-within (s .pre .0) (s .args .row .0) (s .pre .3)
+symbol-of-requires c κs = let s = c .before .before .before in row-within (rows s) (s .args .row .0) (s .pre .4)
 
 cast-count : tie.Need-cast-count Inv-loop μ-loop
 cast-count c = search needs
 
 shared-slice-read-count : tie.Need-shared-slice-read-count Inv-loop μ-loop
 shared-slice-read-count c =
-    let s = c .before .before .before .before .before .before in
-    omega (arith, symbol-known (s .pre .0) (s .args .row .0) (s .pre .3) (s .pre .2), c .before .symbol-of .ensures)
+    let s = c .before .before .before .before .before in
+    omega (arith, symbol-known (rows s) (s .args .row .0) (s .pre .4) (s .pre .3), c .before .symbol-of .ensures)
 
 loop-holds : tie.Need-loop-holds Inv-loop μ-loop
 loop-holds c =
-    let s = c .before .before .before .before .before .before in
+    let s = c .before .before .before .before .before in
     let a = c .before .symbol-of in
-    scan-starts (take (s .args .states) (s .args .s .now)) (storeOf (s .args .words .now) (s .args .counts .now) (s .args .used)) (s .args .row .0) (getD (s .args .counts .now) (a .result) 0)
-    (ap (λ (v : ℕ). getD (s .args .counts .now) v 0) (a .ensures) ∙ sym (kids-long (s .pre .0) (s .args .row .0) (s .pre .3) (s .pre .2))) (s .pre .0 .good .wide (a .result))
+    scan-starts (notOwn (s .args .reps .now)) (storeOf (s .args .words .now) (s .args .counts .now) (s .args .used)) (s .args .row .0) (getD (s .args .counts .now) (a .result) 0)
+    (ap (λ (v : ℕ). getD (s .args .counts .now) v 0) (a .ensures) ∙ sym (kids-long (rows s) (s .args .row .0) (s .pre .4) (s .pre .3))) (s .pre .0 .wide (a .result))
 
 cast-kid-of : tie.Need-cast-kid-of Inv-loop μ-loop
 cast-kid-of c = search needs
@@ -53,19 +57,19 @@ cast-kid-of c = search needs
 kid-of-requires : tie.Need-kid-of-requires Inv-loop μ-loop
 kid-of-requires c κs =
     let s = start c in
-    (row-within (s .pre .0) (s .args .row .0) (s .pre .3), omega (arith, c .before .loop .inv .few, c .loop-test .taken))
+    (row-within (rows s) (s .args .row .0) (s .pre .4), omega (arith, c .before .loop .inv .few, c .loop-test .taken))
 
 earlier : (c : tie.After-kid-of Inv-loop μ-loop) → c .kid-of .result < start (c .before) .args .used
 earlier c =
     let s = start (c .before) in
-    let a = kid-earlier (s .pre .0) (s .args .row .0) (s .pre .3) (s .pre .2) (c .before .before .loop .k) (place (c .before)) in
-    omega (arith, c .kid-of .ensures, s .pre .3)
+    let a = kid-earlier (rows s) (s .args .row .0) (s .pre .4) (s .pre .3) (c .before .before .loop .k) (place (c .before)) in
+    omega (arith, c .kid-of .ensures, s .pre .4)
 
 cast-kid : tie.Need-cast-kid Inv-loop μ-loop
-cast-kid c = omega (arith, earlier c, start (c .before) .pre .0 .finding .few)
+cast-kid c = let l = earlier c in search needs
 
 is-rep-requires : tie.Need-is-rep-requires Inv-loop μ-loop
-is-rep-requires c κs = let s = start (c .before) in (s .pre .1, s .pre .0 .finding .few, earlier c)
+is-rep-requires c κs = omega (arith, earlier c, start (c .before) .pre .2)
 
 add-result : tie.Need-add-result Inv-loop μ-loop
 add-result c = omega (arith, c .before .before .before .before .loop .inv .few, c .before .before .before .loop-test .taken)
@@ -76,8 +80,8 @@ returns c =
     let s = start d in
     let l = d .before .loop in
     let k = c .before .before .kid-of in
-    scan-hits (l .inv) (d .loop-test .taken) (k .result) (kid-is (s .pre .0) (s .args .row .0) (s .pre .3) (s .pre .2) (l .k) (place d) ∙ sym (k .ensures))
-    (c .before .is-rep .result) (c .before .is-rep .ensures) (c .if1 .taken)
+    scan-hits (l .inv) (d .loop-test .taken) (k .result) (kid-is (rows s) (s .args .row .0) (s .pre .4) (s .pre .3) (l .k) (place d) ∙ sym (k .ensures))
+    (not (c .before .is-rep .result)) (ap not (sym (c .before .is-rep .ensures))) (c .if1 .taken)
 
 add-k : tie.Need-add-k Inv-loop μ-loop
 add-k c = omega (arith, c .before .before .before .before .loop .inv .few, c .before .before .before .loop-test .taken)
@@ -91,8 +95,8 @@ loop-again c =
     let s = start d in
     let l = d .before .loop in
     let k = c .before .before .kid-of in
-    scan-passes (l .inv) (d .loop-test .taken) (k .result) (kid-is (s .pre .0) (s .args .row .0) (s .pre .3) (s .pre .2) (l .k) (place d) ∙ sym (k .ensures))
-    (c .before .is-rep .result) (c .before .is-rep .ensures) (c .if1 .left)
+    scan-passes (l .inv) (d .loop-test .taken) (k .result) (kid-is (rows s) (s .args .row .0) (s .pre .4) (s .pre .3) (l .k) (place d) ∙ sym (k .ensures))
+    (not (c .before .is-rep .result)) (ap not (sym (c .before .is-rep .ensures))) (c .if1 .left)
 
 returns-2 : tie.Need-returns-2 Inv-loop μ-loop
 returns-2 c = scan-ends (c .before .loop .inv) (c .loop-test .left)

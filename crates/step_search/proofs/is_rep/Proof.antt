@@ -1,22 +1,16 @@
--- `step_search::is_rep` meets its contract: a row beyond row 0 is in S if it is its own representative, and row 0 is not in S.
--- By the laws of Reps.
-use mathlib.Core.Path.{sym, ap, _∙_}
-use Prim.Native.Nat.{ℕ, _<_}
-use native.Mathlib.Omega.{arith}
+-- `step_search::is_rep` meets its contract: the test of its definition, row 0 first.
+use mathlib.Core.Path.{sym, ap}
+use mathlib.Core.Bool.{Bool, _&&_, not}
 use borrow.Author.Needs.{needs}
-use lib.ListN.{length, take}
-use Rattle.model.specs.Base.{among}
-use Rattle.step_search.proofs.Laws.Reps.{hole-outside, own-rep, reps-rows}
+use borrow.Author.Tests.{ne-eqb}
+use lib.Dec.{eqb}
+use lib.ListN.{getD}
+use Rattle.step_search.specs.Spots.{ownRep}
 use Rattle.step_search.proofs.is_rep.Statement.{statement}
 use Rattle.step_search.proofs.is_rep.Tie as tie
 
-within : (s : tie.Start) → s .args .row .0 < length (s .args .reps .now)
-within s = let l = reps-rows (s .args .words .now) (s .args .counts .now) (s .args .used) (s .pre .0) in omega (arith, s .pre .2)
-
 returns : tie.Need-returns
-returns c =
-    let s = c .before in
-    sym (ap (λ (i : ℕ). among i (take (s .args .states) (s .args .s .now))) (c .if1 .taken) ∙ hole-outside (s .pre .0))
+returns c = sym (ap (ownRep (c .before .args .reps .now)) (c .if1 .taken))
 
 cast-result : tie.Need-cast-result
 cast-result c = search needs
@@ -25,12 +19,13 @@ mul-result : tie.Need-mul-result
 mul-result c = search needs
 
 shared-slice-read-result : tie.Need-shared-slice-read-result
-shared-slice-read-result c = within (c .before .before)
+shared-slice-read-result c = search needs
 
 returns-2 : tie.Need-returns-2
 returns-2 c =
     let s = c .before .before in
-    own-rep (s .pre .0) (s .args .row .0) (omega (arith, c .before .if1 .left)) (omega (arith, s .pre .1, s .pre .2))
+    let i = s .args .row .0 in
+    sym (ap (λ (b : Bool). not b && eqb (getD (s .args .reps .now) i 0) i) (ne-eqb i 0 (c .before .if1 .left)))
 
 pub is-rep-spec : {M : Type 1} → statement M
 is-rep-spec = tie.close (tie.spec returns cast-result mul-result shared-slice-read-result returns-2)

@@ -1,33 +1,37 @@
--- `step_search::turn_of` meets its contract: a row without a child outside S is its own spot; any other has its first such child's, under one more frame.
+-- `step_search::turn_of` meets its contract: a row whose children are their own representatives is its own spot; any other has that of its first other child, under one more frame.
 -- By the laws of Descent.
 use mathlib.Core.Path.{sym, _∙_}
-use Prim.Native.Nat.{_-_, _<_}
+use Prim.Native.Nat.{ℕ, _-_, _<_}
 use native.Mathlib.Omega.{arith}
 use borrow.Author.Needs.{needs}
-use lib.ListN.{length, take}
+use lib.ListN.{length}
 use Rattle.model.specs.Store.{kidsAt}
 use Rattle.model.specs.Entry.{storeOf}
-use Rattle.step_search.proofs.Laws.Children.{row-within, place-four, kid-earlier}
+use Rattle.step_search.specs.Spots.{notOwn}
+use Rattle.step_search.proofs.Laws.Children.{ready-rows, row-within, place-four, kid-earlier}
 use Rattle.step_search.proofs.Laws.Descent.{turn-itself, place-has, turn-above, at-rows, exchanged-rows}
 use Rattle.step_search.proofs.turn_of.Statement.{statement}
 use Rattle.step_search.proofs.turn_of.Tie as tie
 
--- a row that has a child outside S
+-- a row that has such a child
 abbrev Inner : Type 0
 Inner = tie.Else1
 
 abbrev start : Inner → tie.Start
 start c = c .before .before .before .before .before .before .before .before
 
-has : (c : Inner) → start c .args .code - 1 < length (kidsAt (storeOf (start c .args .words .now) (start c .args .counts .now) (start c .args .used)) (start c .args .row .0))
+abbrev code : Inner → ℕ
+code c = c .before .first-outside .result
+
+has : (c : Inner) → code c - 1 < length (kidsAt (storeOf (start c .args .words .now) (start c .args .counts .now) (start c .args .used)) (start c .args .row .0))
 has c =
     let s = start c in
-    place-has (s .pre .0) (take (s .args .states) (s .args .s .now)) (s .args .row .0) (s .pre .3) (s .pre .4) (s .args .code) (s .pre .5) (c .if1 .left)
+    place-has (s .pre .0) (notOwn (s .args .reps .now)) (s .args .row .0) (s .pre .3) (s .pre .4) (code c) (c .before .first-outside .ensures) (c .if1 .left)
 
 earlier : (c : tie.After-kid-of) → c .kid-of .result < start (c .before) .args .used
 earlier c =
     let s = start (c .before) in
-    let a = kid-earlier (s .pre .0) (s .args .row .0) (s .pre .4) (s .pre .3) (s .args .code - 1) (has (c .before)) in
+    let a = kid-earlier (ready-rows (s .pre .0)) (s .args .row .0) (s .pre .4) (s .pre .3) (code (c .before) - 1) (has (c .before)) in
     omega (arith, c .kid-of .ensures, s .pre .4)
 
 within-at : (c : tie.After-kid-of) → c .kid-of .result < length (start (c .before) .args .at .now)
@@ -53,8 +57,10 @@ returns : tie.Need-returns
 returns c =
     let s = c .before .before .before .before .before .before .before .before .before .before in
     let x = storeOf (s .args .words .now) (s .args .counts .now) (s .args .used) in
-    let t = turn-itself (take (s .args .states) (s .args .s .now)) (s .args .reps .now) x (s .pre .0 .good) (s .args .row .0) (sym (s .pre .5) ∙ c .before .before .if1 .taken) in
-    (t .spot-is, t .row-is)
+    let f = c .before .before .before .first-outside in
+    let e = sym (f .ensures) ∙ c .before .before .if1 .taken in
+    let t = turn-itself (notOwn (s .args .reps .now)) (s .args .reps .now) x (s .pre .0 .good) (s .args .row .0) e in
+    (sym e, t .spot-is, t .row-is)
 
 sub-place : tie.Need-sub-place
 sub-place c = search needs
@@ -62,7 +68,7 @@ sub-place c = search needs
 kid-of-requires : tie.Need-kid-of-requires
 kid-of-requires c κs =
     let s = start c in
-    (row-within (s .pre .0) (s .args .row .0) (s .pre .4), place-four (s .pre .0) (s .args .row .0) (s .pre .4) (s .pre .3) (s .args .code - 1) (has c))
+    (row-within (ready-rows (s .pre .0)) (s .args .row .0) (s .pre .4), place-four (ready-rows (s .pre .0)) (s .args .row .0) (s .pre .4) (s .pre .3) (code c - 1) (has c))
 
 cast-kid : tie.Need-cast-kid
 cast-kid c = search needs
@@ -91,18 +97,29 @@ returns-2 c =
     let s = start d in
     let k = c .before .before .before .kid-of in
     let w = c .with-child in
-    let a = turn-above (s .pre .0) (take (s .args .states) (s .args .s .now)) (s .args .row .0) (s .pre .3) (s .pre .4) (s .args .code) (s .pre .5) (d .if1 .left) in
+    let f = d .before .first-outside in
+    let a = turn-above (s .pre .0) (notOwn (s .args .reps .now)) (s .args .row .0) (s .pre .3) (s .pre .4) (code d) (f .ensures) (d .if1 .left) in
     let t = a (s .pre .2) (k .result) (k .ensures) (w .result .0) (w .ensures .0) in
-    (t .spot-is, t .row-is)
+    (f .ensures, t .spot-is, t .row-is)
+
+first-outside-requires : tie.Need-first-outside-requires
+first-outside-requires c κs =
+    let s = c .before .before .before .before .before .before in
+    (s .pre .0 .good, s .pre .0 .finding .room, s .pre .1, s .pre .3, s .pre .4)
+
+cast-place : tie.Need-cast-place
+cast-place c = search needs
 
 pub turn-of-spec : {M : Type 1} → statement M
 turn-of-spec =
     tie.close
     (tie.spec
+    first-outside-requires
     cast-rep
     mul-rep
     shared-slice-read-rep
     returns
+    cast-place
     sub-place
     kid-of-requires
     cast-kid

@@ -9,8 +9,8 @@ use native.Mathlib.Numerals.{add-one}
 use native.Mathlib.Omega.{arith}
 use lib.Dec.{ltb}
 use borrow.Author.Tests.{eq-eqb, ne-eqb, ltb-true, ltb-false}
-use lib.ListN.{length, getD, take, set, List·getD-eq-default, length-take}
-use lib.Seq.{take-suc, take-all, getD-take, getD-set-same, getD-set-other}
+use lib.ListN.{length, getD, take, set, List·getD-eq-default}
+use lib.Seq.{take-suc, take-all, getD-set-same, getD-set-other}
 use Rattle.model.specs.Limits.{mostRows}
 use Rattle.model.specs.Base.{In, among, placeOf, noRepeats, Distinct, distinct-nil, distinct-cons}
 use Rattle.model.proofs.Laws.Lists.{at-place, apart-out, in-left, in-last, in-snoc, in-member, in-not, not-in, member-in}
@@ -110,10 +110,3 @@ module _ (table : List ℕ) (m : ℕ) (ps s t : List ℕ) where
         none-yet : {j : ℕ} → j < mostRows → j ≡ i → getD reps i 0 ≡ 0
         none-yet l q =
             h .right i (omega (arith, q)) ∙ both (among i (take k t)) (getD s (stateAt table m ps (placeOf i 0 t)) 0) (ap (λ (n : ℕ). getD s (stateAt table m ps n) 0) at-k ∙ z)
-
--- THE FIRST q OF S: a state's representative, or none past it
-pub taken-at : (q : ℕ) (s : List ℕ) (i : ℕ) → i < q → getD s i 0 ≡ getD (take q s) i 0
-taken-at q s i l = sym (getD-take q s i 0 l)
-
-pub taken-past : (q : ℕ) (s : List ℕ) (i : ℕ) → q ≤ i → getD (take q s) i 0 ≡ 0
-taken-past q s i l = List·getD-eq-default (take q s) 0 (omega (arith, length-take q s))

@@ -1,31 +1,34 @@
--- The verdict by the representative of a state: yes where the representative was answered yes, and no without a state.
--- A state within S is final where its representative has the answer 2, which the lent words hold.
+-- What the verdicts mean: where each transition has a representative in S (Ruled), they are model's verdicts of the hypothesis.
+-- The definition's stack holds the places in S of the representatives; a state within S is final where its representative has the answer 2.
 use mathlib.Core.Path.{_≡_, refl, sym, ap, subst, _∙_}
 use mathlib.Core.Logic.{inl, inr}
-use mathlib.Core.Bool.{Bool, true, false, cond}
-use mathlib.Core.List.{List, [], _∷_}
-use mathlib.Core.Option.{some}
-use Prim.Native.Nat.{ℕ, zero, suc, _<_}
+use mathlib.Core.Bool.{Bool, true, false, _&&_, not, cond}
+use mathlib.Core.List.{List, [], _∷_, map}
+use mathlib.Core.Option.{Option, none, some}
+use Prim.Native.Nat.{ℕ, zero, suc, _+_, _-_, _≤_, _<_}
 use native.Mathlib.Omega.{arith}
-use lib.Dec.{ltb, eqb}
-use borrow.Author.Tests.{ltb-true, ltb-false}
-use lib.ListN.{length, getD, List·getD-eq-default}
-use Rattle.model.specs.Base.{In, each-nil}
-use Rattle.model.specs.Automata.{Automaton, Verdict, gives, stuck, isFinal, isYes, rowState, runFrom}
+use lib.Dec.{eqb}
+use borrow.Author.Tests.{ne-eqb}
+use lib.ListN.{length, getD, take, drop, length-drop}
+use lib.Seq.{length-take-le}
+use Rattle.model.specs.Limits.{mostRows}
+use Rattle.model.specs.Base.{In, Each, each-nil, each-cons, top}
+use Rattle.model.specs.Store.{Store, used, countOf, findRow}
+use Rattle.model.specs.Automata.{Automaton, Verdict, gives, stuck, targetIn, goOn, runFrom, isFinal, isYes, rowState}
 use Rattle.model.specs.Table.{answerAt, finalsOf}
-use Rattle.model.specs.Entry.{storeOf, answersIn}
-use Rattle.model.proofs.Laws.Lists.{at-place}
-use Rattle.model.specs.declared.Row.{Row}
-use Rattle.bank.specs.Rows.{answerIn, Within}
-use Rattle.bank.specs.Ready.{Ready}
-use Rattle.bank.proofs.Laws.Words.{used-of, answer-in}
-use Rattle.table_verdict.specs.Rules.{rulesBy, Ruled, repOf, ledBy}
+use Rattle.model.specs.Facts.{Good, Parses}
+use Rattle.model.proofs.Laws.Stack.{length-backwards, map-drop, map-top, each-backwards, each-take, each-drop}
+use Rattle.table_verdict.specs.Rules.{rulesBy, Ruled, repOf, ledBy, goOnBy, runBy, ledList, acceptsBy, isYesBy, acceptsListBy}
 use Rattle.table_verdict.specs.declared.Led.{Led}
-use Rattle.table_verdict.proofs.Laws.Words.{row-within}
-use Rattle.table_verdict.proofs.Laws.Lookup.{placeIn, stateBy, Rep, state-some, at-own-place, own-place-within, rep-in, rep-some, rep-within}
-use Rattle.table_verdict.proofs.Laws.Rows.{row-told}
-use Rattle.table_verdict.proofs.Laws.Run.{automaton, run-within}
+use Rattle.table_verdict.proofs.Laws.Run.{parts}
+use Rattle.table_verdict.proofs.Laws.Lookup.{placeIn, stateBy, Rep, at-own-place, own-place-within, rep-in, lookup, found-rep}
+use Rattle.table_verdict.proofs.Laws.States.{Told, target-told, row-told, rep-row}
 
+-- the automaton with these rules and any finals
+abbrev pub automaton : Store → (finals s t reps : List ℕ) → Automaton
+automaton x fs s t reps = record { counts = x .counts; finals = fs; rules = rulesBy x s t reps }
+
+-- FINALS: a state within S, by its representative
 final-at : (w s : List ℕ) (q : ℕ) → q < length s → isFinal (finalsOf w s) (some q) ≡ eqb (answerAt w (getD s q 0)) 2
 final-at w [] q l = absurd (omega arith)
 final-at w (i ∷ s) zero l = go (eqb (answerAt w i) 2)
@@ -35,71 +38,96 @@ final-at w (i ∷ s) zero l = go (eqb (answerAt w i) 2)
     go false = refl
 final-at w (i ∷ s) (suc q) l = final-at w s q (omega arith)
 
-module _ {ws ns : List ℕ} {n : ℕ} {ix s t reps : List ℕ} (r : Ready ws ns n ix) (d : Ruled (storeOf ws ns n) s t reps) where
-  rep-row : {k : ℕ} → Rep s k → k < n
-  rep-row h = omega (arith, used-of ws ns n, rep-within (r .good) d h)
+-- by the representative of a state that it tells
+told-final : (w s : List ℕ) (o : Option ℕ) → Told s o → not (eqb (repOf s o) 0) && eqb (answerAt w (repOf s o)) 2 ≡ isFinal (finalsOf w s) o
+told-final w s o h = go (repOf s o) (h .rep) (h .back)
+  where
+    go : (r : ℕ) → Rep s r → o ≡ stateBy s r → not (eqb r 0) && eqb (answerAt w r) 2 ≡ isFinal (finalsOf w s) o
+    go zero m e = sym (ap (isFinal (finalsOf w s)) e)
+    go (suc k) m e =
+        let i : In (suc k) s = rep-in m (λ z. omega arith) in
+        ap (λ (b : Bool). not b && eqb (answerAt w (suc k)) 2) (ne-eqb (suc k) 0 (λ z. omega arith)) ∙
+        ap (λ (j : ℕ). eqb (answerAt w j) 2) (sym (at-own-place s (suc k) i)) ∙ sym (final-at w s (placeIn s (suc k)) (own-place-within s (suc k) i)) ∙ sym (ap (isFinal (finalsOf w s)) e)
 
-  pub rep-lent : {k : ℕ} → Rep s k → Within ws k
-  rep-lent {k} h = row-within r k (rep-row h)
+-- A STATE THAT A RUN GIVES is a place in S
+told-within : {s : List ℕ} {q : ℕ} → Told s (some q) → q < length s
+told-within {s} {q} o = go (getD s q 0) (o .rep) (o .back)
+  where
+    go : (r : ℕ) → Rep s r → some q ≡ stateBy s r → q < length s
+    go zero h e = absurd (let z : _≡_ {A = ℕ} 0 1 = cc in omega arith)
+    go (suc k) (inl z) e = absurd (omega arith)
+    go (suc k) (inr h) e = let p : q ≡ placeIn s (suc k) = cc in omega (arith, own-place-within s (suc k) h)
 
-  pub final-rep : (q : ℕ) → q < length s → isFinal (finalsOf (answersIn n ws) s) (some q) ≡ eqb (answerIn ws (getD s q 0)) 2
-  final-rep q l = final-at (answersIn n ws) s q l ∙ ap (λ (v : ℕ). eqb v 2) (answer-in n (getD s q 0) ws (rep-row (inr (at-place s q l))))
+module _ {x : Store} {s t reps : List ℕ} (g : Good x) (d : Ruled x s t reps) (fs : List ℕ) (q : ℕ) where
+  run-within : (p : ℕ) (xs qs : List ℕ) → Each (λ (k : ℕ). k < length s) qs → runFrom (automaton x fs s t reps) p xs qs ≡ gives q → q < length s
+  unfolding runFrom
+  run-within p [] [] b e = absurd (let z : _≡_ {A = ℕ} 0 1 = cc in omega arith)
+  run-within p [] (k ∷ qs) (each-cons l b) e = let z : k ≡ q = cc in omega arith
+  run-within p (a ∷ xs) qs b e =
+      go (targetIn a (top (countOf x a) qs) (rulesBy x s t reps)) (target-told g d a (top (countOf x a) qs) t (λ i h. h))
+      (λ k l. run-within (suc p) xs (k ∷ drop (countOf x a) qs) (each-cons l (each-drop (countOf x a) qs b))) e
+    where
+      go : (o : Option ℕ) → Told s o →
+          ((k : ℕ) → k < length s → runFrom (automaton x fs s t reps) (suc p) xs (k ∷ drop (countOf x a) qs) ≡ gives q → q < length s) →
+          goOn p o (λ (k : ℕ). runFrom (automaton x fs s t reps) (suc p) xs (k ∷ drop (countOf x a) qs)) ≡ gives q → q < length s
+      go none o ih e = absurd (let z : _≡_ {A = ℕ} 0 1 = cc in omega arith)
+      go (some k) o ih e = ih k (told-within o) e
 
-  -- OF A STORED RECORD
-  module _ (i : ℕ) where
-    abbrev rep : ℕ
-    rep = repOf s (rowState (rulesBy (storeOf ws ns n) s t reps) (storeOf ws ns n) i)
+module _ {x : Store} {s t reps : List ℕ} (g : Good x) (d : Ruled x s t reps) (small : used x ≤ mostRows) where
+  -- THE VERDICT on a stored record
+  pub accepts-row-is : (w : List ℕ) (i : ℕ) → i < used x → acceptsBy x w reps i ≡ isFinal (finalsOf w s) (rowState (rulesBy x s t reps) x i)
+  accepts-row-is w i u =
+      ap (λ (k : ℕ). not (eqb k 0) && eqb (answerAt w k) 2) (rep-row g d small i u) ∙ told-final w s (rowState (rulesBy x s t reps) x i) (row-told g d i)
 
-    abbrev verdict : Bool
-    verdict = isFinal (finalsOf (answersIn n ws) s) (rowState (rulesBy (storeOf ws ns n) s t reps) (storeOf ws ns n) i)
-
-    pub row-lent : {k : ℕ} → k ≡ rep → Within ws k
-    row-lent e = rep-lent (subst (Rep s) (sym e) (row-told (r .good) d i .rep))
-
-    pub row-no : {k : ℕ} → k ≡ rep → k ≡ 0 → false ≡ verdict
-    row-no e z = sym (ap (isFinal (finalsOf (answersIn n ws) s)) (row-told (r .good) d i .back ∙ ap (stateBy s) (sym e ∙ z)))
-
-    pub row-says : {k : ℕ} {b : Bool} → k ≡ rep → (k ≡ 0 → ⊥) → b ≡ eqb (answerIn ws k) 2 → b ≡ verdict
-    row-says {k} {b} e z says =
-        let h : In k s = rep-in (subst (Rep s) (sym e) (row-told (r .good) d i .rep)) z in
-        let o = row-told (r .good) d i .back ∙ ap (stateBy s) (sym e) ∙ state-some s k (rep-some (r .good) d h) in
-        let f = final-rep (placeIn s k) (own-place-within s k h) in
-        says ∙ ap (λ (j : ℕ). eqb (answerIn ws j) 2) (sym (at-own-place s k h)) ∙ sym f ∙ ap (isFinal (finalsOf (answersIn n ws) s)) (sym o)
-
-  -- OF A LISTED RECORD, by what its run is led to
-  module _ (xs : List ℕ) where
-    abbrev a : Automaton
-    a = automaton (storeOf ws ns n) (finalsOf (answersIn n ws) s) s t reps
-
-    abbrev run : Verdict
-    run = runFrom a 0 xs []
-
-    pub list-lent : (k : Row) → Led.To k ≡ ledBy s run → Within ws (k .0)
-    list-lent k e = go run e
+  -- THE RUN on a listed record, from a stack of representatives
+  module _ (fs : List ℕ) where
+    run-led : (p : ℕ) (xs ks : List ℕ) → Each (λ (k : ℕ). In k s) ks → Parses (x .counts) (length ks) xs →
+        runBy x reps p xs ks ≡ ledBy s (runFrom (automaton x fs s t reps) p xs (map (placeIn s) ks))
+    unfolding runFrom runBy
+    run-led p [] [] a q = refl
+    run-led p [] (k ∷ ks) (each-cons m a) q = ap (λ (j : ℕ). Led.To (record { 0 = j })) (sym (at-own-place s k m))
+    run-led p (a ∷ xs) ks b q =
+        go (getD reps (findRow x a (top (countOf x a) ks)) 0) (found-rep g d small a (top (countOf x a) ks) (parts q .0) top-long top-members)
+        (λ r m. run-led (suc p) xs (r ∷ drop (countOf x a) ks) (each-cons m (each-drop (countOf x a) ks b)) (subst (λ (l : ℕ). Parses (x .counts) l xs) (pushed-long r) (parts q .2))) ∙
+        ap (λ (o : Option ℕ). ledBy s (goOn p o onward)) (sym target)
       where
-        at : (q : ℕ) → Rep s (getD s q 0)
-        at q = go (ltb q (length s)) refl
-          where
-            go : (b : Bool) → ltb q (length s) ≡ b → Rep s (getD s q 0)
-            go true l = inr (at-place s q (ltb-true q (length s) l))
-            go false l = inl (List·getD-eq-default s 0 (ltb-false q (length s) l))
+        enough : countOf x a ≤ length ks
+        enough = parts q .1
 
-        go : (v : Verdict) → Led.To k ≡ ledBy s v → Within ws (k .0)
-        go (gives q) e = let z : k .0 ≡ getD s q 0 = cc in rw z (rep-lent (at q))
-        go (stuck p) e = absurd (let z : _≡_ {A = ℕ} 0 1 = cc in omega arith)
+        top-long : length (top (countOf x a) ks) ≡ countOf x a
+        top-long = let l = length-backwards (take (countOf x a) ks) [] in let m = length-take-le (countOf x a) ks enough in omega arith
 
-    pub list-says : (k : Row) {b : Bool} → Led.To k ≡ ledBy s run → b ≡ eqb (answerIn ws (k .0)) 2 → b ≡ isYes a run
-    list-says k {b} e says = go run refl e
-      where
-        go : (v : Verdict) → run ≡ v → Led.To k ≡ ledBy s v → b ≡ isYes a v
-        go (gives q) p e =
-            let z : k .0 ≡ getD s q 0 = cc in
-            says ∙ ap (λ (j : ℕ). eqb (answerIn ws j) 2) z ∙ sym (final-rep q (run-within (r .good) d (finalsOf (answersIn n ws) s) q 0 xs [] each-nil p))
-        go (stuck p) q e = absurd (let z : _≡_ {A = ℕ} 0 1 = cc in omega arith)
+        top-members : Each (λ (k : ℕ). In k s) (top (countOf x a) ks)
+        top-members = each-backwards (take (countOf x a) ks) [] (each-take (countOf x a) ks b) each-nil
 
-    pub list-no : (p : ℕ) → Led.Stuck p ≡ ledBy s run → false ≡ isYes a run
-    list-no p e = go run e
-      where
-        go : (v : Verdict) → Led.Stuck p ≡ ledBy s v → false ≡ isYes a v
-        go (gives q) e = absurd (let z : _≡_ {A = ℕ} 0 1 = cc in omega arith)
-        go (stuck q) e = refl
+        pushed-long : (r : ℕ) → length ks - countOf x a + 1 ≡ length (r ∷ drop (countOf x a) ks)
+        pushed-long r = omega (arith, length-drop (countOf x a) ks)
+
+        onward : ℕ → Verdict
+        onward k = runFrom (automaton x fs s t reps) (suc p) xs (k ∷ drop (countOf x a) (map (placeIn s) ks))
+
+        target : targetIn a (top (countOf x a) (map (placeIn s) ks)) (rulesBy x s t reps) ≡ stateBy s (getD reps (findRow x a (top (countOf x a) ks)) 0)
+        target =
+            ap (λ (qs : List ℕ). targetIn a qs (rulesBy x s t reps)) (sym (map-top (placeIn s) (countOf x a) ks)) ∙
+            lookup g d small a (top (countOf x a) ks) (parts q .0) top-long top-members
+
+        go : (r : ℕ) → Rep s r →
+            ((r : ℕ) → In r s → runBy x reps (suc p) xs (r ∷ drop (countOf x a) ks) ≡ ledBy s (runFrom (automaton x fs s t reps) (suc p) xs (map (placeIn s) (r ∷ drop (countOf x a) ks)))) →
+            goOnBy p r (λ (k : ℕ). runBy x reps (suc p) xs (k ∷ drop (countOf x a) ks)) ≡ ledBy s (goOn p (stateBy s r) onward)
+        go zero m ih = refl
+        go (suc k) m ih =
+            ap (λ (b : Bool). cond b (Led.Stuck p) (runBy x reps (suc p) xs (suc k ∷ drop (countOf x a) ks))) (ne-eqb (suc k) 0 (λ z. omega arith)) ∙
+            ih (suc k) (rep-in m (λ z. omega arith)) ∙
+            ap (λ (l : List ℕ). ledBy s (runFrom (automaton x fs s t reps) (suc p) xs (placeIn s (suc k) ∷ l))) (map-drop (placeIn s) (countOf x a) ks)
+
+    pub list-led : (xs : List ℕ) → Parses (x .counts) 0 xs → ledList x reps xs ≡ ledBy s (runFrom (automaton x fs s t reps) 0 xs [])
+    list-led xs q = run-led 0 xs [] each-nil q
+
+  -- THE VERDICT on a listed record
+  pub accepts-list-is : (w xs : List ℕ) → Parses (x .counts) 0 xs →
+      acceptsListBy x w reps xs ≡ isYes (automaton x (finalsOf w s) s t reps) (runFrom (automaton x (finalsOf w s) s t reps) 0 xs [])
+  accepts-list-is w xs q = ap (isYesBy w) (list-led (finalsOf w s) xs q) ∙ go (runFrom (automaton x (finalsOf w s) s t reps) 0 xs []) refl
+    where
+      go : (v : Verdict) → runFrom (automaton x (finalsOf w s) s t reps) 0 xs [] ≡ v → isYesBy w (ledBy s v) ≡ isYes (automaton x (finalsOf w s) s t reps) v
+      go (gives q) e = sym (final-at w s q (run-within g d (finalsOf w s) q 0 xs [] each-nil e))
+      go (stuck p) e = refl

@@ -6,8 +6,7 @@ use mathlib.Core.List.{List}
 use Prim.Native.Nat.{ℕ, _-_, _≤_, _<_}
 use native.Mathlib.Omega.{arith}
 use borrow.Author.Needs.{needs}
-use lib.ListN.{length, getD, take, length-take, length-set}
-use lib.Seq.{length-take-le}
+use lib.ListN.{length, getD, take, List·getD-eq-default, length-set}
 use Rattle.table_verdict.proofs.Laws.Reps as R
 use Rattle.table_verdict.proofs.Laws.Reps.{RepsTo}
 use Rattle.table_verdict.proofs.find_reps.Statement.{statement}
@@ -18,11 +17,11 @@ use Rattle.table_verdict.proofs.clear.Reads as clear-reads
 use Rattle.table.proofs.state_of.Reads as state-of-reads
 
 abbrev Inv-loop : tie.InvT-loop
-Inv-loop table contexts places s states t rules reps₀ k₀ reps k =
-    (k ≤ rules) × RepsTo table contexts (take states places) (take states s) (take rules t) reps k × (length reps ≡ length reps₀)
+Inv-loop table contexts places s t reps₀ k₀ reps k =
+    (k ≤ length t) × RepsTo table contexts (take (length s) places) s t reps k × (length reps ≡ length reps₀)
 
 abbrev μ-loop : tie.MeasureT-loop
-μ-loop table contexts places s states t rules reps₀ k₀ reps k = rules - k
+μ-loop table contexts places s t reps₀ k₀ reps k = length t - k
 
 abbrev Start : Type 0
 Start = lts.Start (clear-reads.Asked, clear-reads.Learnt, state-of-reads.Asked, state-of-reads.Learnt) reads.Pre reads.Post Inv-loop μ-loop
@@ -32,21 +31,12 @@ abbrev Turn : Type 0
 Turn = lts.In-loop (clear-reads.Asked, clear-reads.Learnt, state-of-reads.Asked, state-of-reads.Learnt) reads.Pre reads.Post Inv-loop μ-loop
 
 abbrev start : Turn → Start
-start t = t .before .before .before .before .before .before .before .before
-
-place-within : (t : Turn) → t .before .loop .k < length (take (start t .args .rules) (start t .args .t .now))
-place-within t =
-    let s : Start = start t in
-    let l = length-take-le (s .args .rules) (s .args .t .now) (omega arith) in
-    omega (arith, t .loop-test .taken)
-
-row-taken : (t : Turn) → getD (start t .args .t .now) (t .before .loop .k) 0 ≡ getD (take (start t .args .rules) (start t .args .t .now)) (t .before .loop .k) 0
-row-taken t = R.taken-at (start t .args .rules) (start t .args .t .now) (t .before .loop .k) (t .loop-test .taken)
+start t = t .before .before .before .before .before .before .before .before .before .before
 
 row-small : (t : Turn) → getD (start t .args .t .now) (t .before .loop .k) 0 < length (t .before .loop .reps)
 row-small t =
     let l = t .before .before .before .before .clear .ensures .0 in
-    omega (arith, start t .pre .7 (t .before .loop .k) (t .loop-test .taken), t .before .loop .inv .2)
+    omega (arith, start t .pre .4 (t .before .loop .k) (t .loop-test .taken), t .before .loop .inv .2)
 
 abbrev Told : Type 0
 Told = lts.After-struct-known (clear-reads.Asked, clear-reads.Learnt, state-of-reads.Asked, state-of-reads.Learnt) reads.Pre reads.Post Inv-loop μ-loop
@@ -59,9 +49,9 @@ clear-requires c κs = search needs
 
 loop-holds : tie.Need-loop-holds Inv-loop μ-loop
 loop-holds c =
-    let s : Start = c .before .before .before .before .before .before in (
+    let s : Start = c .before .before .before .before .before .before .before .before in (
       omega arith,
-      R.reps-start (s .args .table .now) (s .args .contexts) (take (s .args .states) (s .args .places .now)) (take (s .args .states) (s .args .s .now)) (take (s .args .rules) (s .args .t .now))
+      R.reps-start (s .args .table .now) (s .args .contexts) (take (length (s .args .s .now)) (s .args .places .now)) (s .args .s .now) (s .args .t .now)
           _ (c .before .before .clear .ensures .1),
       refl,
     )
@@ -75,17 +65,11 @@ cast-at c = search needs
 mul-i : tie.Need-mul-i Inv-loop μ-loop
 mul-i c = search needs
 
-element-copy-out-i : tie.Need-element-copy-out-i Inv-loop μ-loop
-element-copy-out-i c = search needs
-
 cast-i : tie.Need-cast-i Inv-loop μ-loop
 cast-i c = omega (arith, row-small (turn (c .before .before)))
 
 mul-reps : tie.Need-mul-reps Inv-loop μ-loop
 mul-reps c = search needs
-
-element-copy-out-reps : tie.Need-element-copy-out-reps Inv-loop μ-loop
-element-copy-out-reps c = search needs
 
 mul-reps-2 : tie.Need-mul-reps-2 Inv-loop μ-loop
 mul-reps-2 c = omega (arith, row-small (turn (c .before .before .before)))
@@ -106,21 +90,20 @@ loop-again c =
     let s : Start = start t in
     let noted = t .before .loop .inv .1 in
     let table : List ℕ = s .args .table .now in
-    let ps : List ℕ = take (s .args .states) (s .args .places .now) in
-    let ss : List ℕ = take (s .args .states) (s .args .s .now) in
-    let ts : List ℕ = take (s .args .rules) (s .args .t .now) in
+    let ps : List ℕ = take (length (s .args .s .now)) (s .args .places .now) in
+    let ss : List ℕ = s .args .s .now in
+    let ts : List ℕ = s .args .t .now in
     let e = ap (λ (q : ℕ). getD ss q 0) (d .before .state-of .ensures) in
     ⊎-elim
     (λ w. (
       omega arith,
-      rw (w .3) (R.reps-noted table (s .args .contexts) ps ss ts noted (place-within t) (s .pre .8) (getD (s .args .t .now) (t .before .loop .k) 0) _ (row-taken t)
-          (R.taken-at (s .args .states) (s .args .s .now) (d .before .state-of .result .0) (w .0 .taken) ∙ e) (row-small t)),
+      rw (w .3) (R.reps-noted table (s .args .contexts) ps ss ts noted (t .loop-test .taken) (s .pre .5) (getD (s .args .t .now) (t .before .loop .k) 0) _ refl
+          e (row-small t)),
       rw (w .3) (simp length-set (t .before .loop .inv .2)),
     ))
     (λ w. (
       omega arith,
-      rw (w .1) (R.reps-passed table (s .args .contexts) ps ss ts noted (place-within t) (s .pre .8)
-          (sym e ∙ R.taken-past (s .args .states) (s .args .s .now) (d .before .state-of .result .0) (w .0 .left))),
+      rw (w .1) (R.reps-passed table (s .args .contexts) ps ss ts noted (t .loop-test .taken) (s .pre .5) (sym e ∙ List·getD-eq-default ss 0 (w .0 .left))),
       rw (w .1) (t .before .loop .inv .2),
     ))
     (c .if1 .came)
@@ -130,10 +113,15 @@ same-length c = search needs
 
 returns : tie.Need-returns Inv-loop μ-loop
 returns c =
-    let s : Start = c .before .before .before .before .before .before .before .before in
-    let l = length-take (s .args .rules) (s .args .t .now) in
-    R.reps-end (s .args .table .now) (s .args .contexts) (take (s .args .states) (s .args .places .now)) (take (s .args .states) (s .args .s .now)) (take (s .args .rules) (s .args .t .now))
-    (c .before .loop .inv .1) (omega arith)
+    let s : Start = c .before .before .before .before .before .before .before .before .before .before in
+    R.reps-end (s .args .table .now) (s .args .contexts) (take (length (s .args .s .now)) (s .args .places .now)) (s .args .s .now) (s .args .t .now)
+    (c .before .loop .inv .1) (c .loop-test .left)
+
+shared-slice-read-i : tie.Need-shared-slice-read-i Inv-loop μ-loop
+shared-slice-read-i c = search needs
+
+shared-slice-read-reps : tie.Need-shared-slice-read-reps Inv-loop μ-loop
+shared-slice-read-reps c = search needs
 
 pub find-reps-spec : {M : Type 1} → statement M
 find-reps-spec =
@@ -146,10 +134,10 @@ find-reps-spec =
     state-of-requires
     cast-at
     mul-i
-    element-copy-out-i
+    shared-slice-read-i
     cast-i
     mul-reps
-    element-copy-out-reps
+    shared-slice-read-reps
     mul-reps-2
     slice-write-reps
     add-k

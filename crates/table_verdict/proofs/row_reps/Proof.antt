@@ -4,7 +4,7 @@ use mathlib.Core.Path.{_≡_, refl, _∙_}
 use Prim.Native.Nat.{_+_, _-_, _≤_, _<_}
 use native.Mathlib.Omega.{arith}
 use borrow.Author.Needs.{needs}
-use lib.ListN.{length, take, length-set}
+use lib.ListN.{length, length-set}
 use Rattle.model.specs.Store.{Store, used}
 use Rattle.model.specs.Entry.{storeOf}
 use Rattle.bank.proofs.Laws.Words.{used-of}
@@ -17,11 +17,11 @@ use Rattle.table_verdict.proofs.row_reps.Lts as lts
 use Rattle.table_verdict.proofs.row_rep.Reads as row-rep-reads
 
 abbrev Inv-loop : tie.InvT-loop
-Inv-loop words counts used index s states t rules reps upto led₀ i₀ led i =
-    (0 < i) × (i ≤ upto .0 + 1) × LedBelow (storeOf words counts used) (take states s) (take rules t) reps led i × (length led ≡ length led₀)
+Inv-loop words counts used index reps upto led₀ i₀ led i =
+    (0 < i) × (i ≤ upto .0 + 1) × LedBelow (storeOf words counts used) reps led i × (length led ≡ length led₀)
 
 abbrev μ-loop : tie.MeasureT-loop
-μ-loop words counts used index s states t rules reps upto led₀ i₀ led i = upto .0 + 1 - i
+μ-loop words counts used index reps upto led₀ i₀ led i = upto .0 + 1 - i
 
 abbrev Start : Type 0
 Start = lts.Start (row-rep-reads.Asked, row-rep-reads.Learnt) reads.Pre reads.Post Inv-loop μ-loop
@@ -47,7 +47,7 @@ slice-write-led c = search needs
 loop-holds : tie.Need-loop-holds Inv-loop μ-loop
 loop-holds c =
     let s = c .before .before .before .before .before in
-    (omega arith, omega arith, R.led-start (s .pre .0 .good) (s .pre .1) (s .args .led .now) (led-long s), refl)
+    (omega arith, omega arith, R.led-start (s .pre .0 .good) (s .args .reps .now) (s .args .led .now) (led-long s), refl)
 
 row-rep-requires : tie.Need-row-rep-requires Inv-loop μ-loop
 row-rep-requires c κs =
@@ -77,7 +77,7 @@ loop-again c =
     let s = start c in
     let l = c .before .before .before .before .loop in
     let b : l .i < used (store s) = omega (arith, s .pre .3, rows-used s) in
-    (omega arith, omega arith, R.led-more (s .pre .0 .good) (s .pre .1) (l .inv .2) b (c .row-rep .result .0) (c .row-rep .ensures), simp length-set (l .inv .3 ∙ simp length-set))
+    (omega arith, omega arith, R.led-more (s .pre .0 .good) (s .args .reps .now) (l .inv .2) b (c .row-rep .result .0) (c .row-rep .ensures), simp length-set (l .inv .3 ∙ simp length-set))
 
 same-length : tie.Need-same-length Inv-loop μ-loop
 same-length c = c .before .before .loop .inv .3 ∙ simp length-set

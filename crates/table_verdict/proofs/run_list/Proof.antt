@@ -1,17 +1,14 @@
 -- `table_verdict::run_list` meets its contract. The invariant: what is left of the run, from the representatives on the stack, ends as the whole does.
 -- Each symbol's rule is found or ends the run.
-use mathlib.Core.Path.{_≡_, refl, sym, ap, _∙_}
-use mathlib.Core.List.{List, []}
+use mathlib.Core.Path.{_≡_, refl, sym, _∙_}
 use Prim.Native.Nat.{ℕ, _-_}
 use native.Mathlib.Omega.{arith}
 use borrow.Author.Needs.{needs}
-use lib.ListN.{length, getD, take}
+use lib.ListN.{length, getD}
 use Rattle.model.specs.Base.{backwards}
-use Rattle.model.specs.Automata.{runFrom}
-use Rattle.model.specs.Table.{finalsOf}
-use Rattle.model.specs.Entry.{answersIn}
-use Rattle.table_verdict.specs.Rules.{hypothesis, ledBy}
-use Rattle.table_verdict.proofs.Laws.Words as W
+use Rattle.model.specs.Store.{Store}
+use Rattle.model.specs.Entry.{storeOf}
+use Rattle.table_verdict.specs.Rules.{ledList}
 use Rattle.table_verdict.proofs.Laws.Run as R
 use Rattle.table_verdict.proofs.Laws.Run.{Running, left}
 use Rattle.table_verdict.proofs.run_list.Statement.{statement}
@@ -22,12 +19,11 @@ use Rattle.bank_listed.proofs.top_places.Reads as top-places-reads
 use Rattle.table_verdict.proofs.target_of.Reads as target-of-reads
 
 abbrev Inv-loop : tie.InvT-loop
-Inv-loop words counts used index s states t rules reps symbols stack₀ height₀ at₀ stack height at =
-    Running counts (take states s) symbols stack height at ×
-    (left (hypothesis words counts used s states t rules reps) (take states s) symbols stack height at ≡ runFrom (hypothesis words counts used s states t rules reps) 0 symbols [])
+Inv-loop words counts used index reps symbols stack₀ height₀ at₀ stack height at =
+    Running counts symbols stack height at × (left (storeOf words counts used) reps symbols stack height at ≡ ledList (storeOf words counts used) reps symbols)
 
 abbrev μ-loop : tie.MeasureT-loop
-μ-loop words counts used index s states t rules reps symbols stack₀ height₀ at₀ stack height at = length symbols - at
+μ-loop words counts used index reps symbols stack₀ height₀ at₀ stack height at = length symbols - at
 
 -- a turn: its start, the store, and what is known of the run there
 abbrev Start : Type 0
@@ -39,13 +35,10 @@ Turn = lts.In-loop (top-places-reads.Asked, top-places-reads.Learnt, target-of-r
 abbrev start : Turn → Start
 start t = t .before .before .before .before .before .before .before
 
-abbrev s : Start → List ℕ
-s c = take (c .args .states) (c .args .s .now)
+abbrev store : Start → Store
+store s = storeOf (s .args .words .now) (s .args .counts .now) (s .args .used)
 
-abbrev finals : Start → List ℕ
-finals c = finalsOf (answersIn (c .args .used) (c .args .words .now)) (s c)
-
-abbrev running : (t : Turn) → Running (start t .args .counts .now) (s (start t)) (start t .args .symbols .now) (t .before .loop .stack) (t .before .loop .height) (t .before .loop .at)
+abbrev running : (t : Turn) → Running (start t .args .counts .now) (start t .args .symbols .now) (t .before .loop .stack) (t .before .loop .height) (t .before .loop .at)
 running t = t .before .loop .inv .0
 
 -- past the search
@@ -59,7 +52,7 @@ loop-holds : tie.Need-loop-holds Inv-loop μ-loop
 unfolding backwards
 loop-holds c =
     let b : Start = c .before .before .before .before .before in
-    (R.running-start (b .args .counts .now) (s b) (b .args .symbols .now) _ (b .pre .2) refl (b .pre .3), refl)
+    (R.running-start (b .args .counts .now) (b .args .symbols .now) _ (b .pre .2) refl (b .pre .3), refl)
 
 shared-slice-read-symbol : tie.Need-shared-slice-read-symbol Inv-loop μ-loop
 shared-slice-read-symbol c = search needs
@@ -85,15 +78,15 @@ top-places-requires c κs =
     (r .long, start t .pre .0 .good .wide (getD (start t .args .symbols .now) (t .before .loop .at) 0), R.enough r (t .loop-test .taken), omega (arith, r .low, r .within, r .few))
 
 target-of-requires : tie.Need-target-of-requires Inv-loop μ-loop
-target-of-requires c κs = let b : Start = start (c .before .before .before .before) in (b .pre .0, W.reps-long (b .pre .0) (b .pre .1))
+target-of-requires c κs = let b : Start = start (c .before .before .before .before) in (b .pre .0 .finding, b .pre .1)
 
 returns : tie.Need-returns Inv-loop μ-loop
 returns c =
     let m : Sought = c .before .before in
     let t : Turn = turn m in
     let b : Start = start t in
-    ap (ledBy (s b)) (sym (R.run-stuck (b .pre .0 .good) (b .pre .1) (W.few-rows (b .pre .0)) (finals b) (running t) (t .loop-test .taken) (m .target-of .result .0)
-    (m .before .top-places .result) (m .target-of .ensures) (m .before .top-places .ensures) (c .if1 .taken)) ∙ t .before .loop .inv .1)
+    sym (R.run-stuck (store b) (b .args .reps .now) (running t) (t .loop-test .taken) (m .target-of .result .0) (m .before .top-places .result)
+    (m .target-of .ensures) (m .before .top-places .ensures) (c .if1 .taken)) ∙ t .before .loop .inv .1
 
 sub-height : tie.Need-sub-height Inv-loop μ-loop
 sub-height c = R.enough (running (turn (c .before .before))) (turn (c .before .before) .loop-test .taken)
@@ -129,20 +122,17 @@ loop-again c =
     let t : Turn = turn m in
     let b : Start = start t in
     let k : ℕ = m .target-of .result .0 in
-    let i = R.found-in (b .pre .0 .good) (b .pre .1) (W.few-rows (b .pre .0)) (finals b) (running t) (t .loop-test .taken) k
-    (m .before .top-places .result) (m .target-of .ensures) (m .before .top-places .ensures) (c .if1 .left) in
-    let e = R.run-on (b .pre .0 .good) (b .pre .1) (W.few-rows (b .pre .0)) (finals b) (running t) (t .loop-test .taken) k
-    (m .before .top-places .result) (m .target-of .ensures) (m .before .top-places .ensures) (c .if1 .left) in
-    (R.pushed (running t) (t .loop-test .taken) k i, sym e ∙ t .before .loop .inv .1)
+    let e = R.run-on (store b) (b .args .reps .now) (running t) (t .loop-test .taken) k (m .before .top-places .result) (m .target-of .ensures) (m .before .top-places .ensures)
+    (c .if1 .left) in
+    (R.pushed (running t) (t .loop-test .taken) k, sym e ∙ t .before .loop .inv .1)
 
-array-read-t28 : tie.Need-array-read-t28 Inv-loop μ-loop
-array-read-t28 c = omega arith
+array-read-t24 : tie.Need-array-read-t24 Inv-loop μ-loop
+array-read-t24 c = omega arith
 
 returns-2 : tie.Need-returns-2 Inv-loop μ-loop
 returns-2 c =
     let b : Start = c .before .before .before .before .before .before .before in
-    sym (R.run-ends (c .before .loop .inv .0) (c .loop-test .left) (hypothesis (b .args .words .now) (b .args .counts .now) (b .args .used) (b .args .s .now) (b .args .states)
-    (b .args .t .now) (b .args .rules) (b .args .reps .now))) ∙ ap (ledBy (s b)) (c .before .loop .inv .1)
+    sym (R.run-ends (c .before .loop .inv .0) (c .loop-test .left) (store b) (b .args .reps .now)) ∙ c .before .loop .inv .1
 
 pub run-list-spec : {M : Type 1} → statement M
 run-list-spec =
@@ -166,5 +156,5 @@ run-list-spec =
     add-at
     loop-less
     loop-again
-    array-read-t28
+    array-read-t24
     returns-2)

@@ -11,20 +11,20 @@ use Rattle.table_verdict.proofs.target_of.Tie as tie
 find-requires : tie.Need-find-requires
 find-requires c κs = search needs
 
-cast-t9 : tie.Need-cast-t9
-cast-t9 c = search needs
+cast-t8 : tie.Need-cast-t8
+cast-t8 c = search needs
 
-mul-t10 : tie.Need-mul-t10
-mul-t10 c = search needs
+mul-t9 : tie.Need-mul-t9
+mul-t9 c = search needs
 
-shared-slice-read-t12 : tie.Need-shared-slice-read-t12
-shared-slice-read-t12 c =
-    let s = c .before .before .before .before .before .before .before in
-    omega (arith, c .before .before .find .ensures, find-used (s .pre .0 .finding) (s .args .symbol) (s .args .places))
+shared-slice-read-t11 : tie.Need-shared-slice-read-t11
+shared-slice-read-t11 c =
+    let s = c .before .before .before .before .before .before in
+    omega (arith, c .before .before .find .ensures, find-used (s .pre .0) (s .args .symbol) (s .args .places))
 
 returns : tie.Need-returns
 returns c =
-    let s = c .before .before .before .before .before .before .before in
+    let s = c .before .before .before .before .before .before in
     ap (λ (i : ℕ). getD (s .args .reps .now) i 0) (c .before .before .find .ensures)
 
 pub target-of-spec : {M : Type 1} → statement M
@@ -32,7 +32,7 @@ target-of-spec =
     tie.close
     (tie.spec
     find-requires
-    cast-t9
-    mul-t10
-    shared-slice-read-t12
+    cast-t8
+    mul-t9
+    shared-slice-read-t11
     returns)

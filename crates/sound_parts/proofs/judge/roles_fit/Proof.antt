@@ -1,6 +1,5 @@
 -- `sound_parts::judge::roles_fit` meets its contract: T2, T3, then T4's first clauses, by the laws of sound_roles.
 use mathlib.Core.Path.{sym, _∙_}
-use native.Mathlib.Omega.{arith}
 use borrow.Author.Tests.{not-true, not-false}
 use borrow.Author.Needs.{needs}
 use Rattle.sound_roles.proofs.Laws.Scan.{stops, goes-on}
@@ -13,16 +12,16 @@ t2-requires c κs = search needs
 
 returns : tie.Need-returns
 returns c =
-    let s = c .before .before .before .before .before .before .before in
-    stops _ _ (sym (t2-given (s .pre .0) (s .args .s .now) (s .args .states) (s .args .t .now) (s .args .rules) (s .args .c .now) (s .args .contexts) (omega (arith, s .pre .1)) (s .pre .2) (omega (arith, s .pre .3)) (s .pre .4)) ∙ sym (c .before .t2 .ensures) ∙ not-true (c .before .t2 .result) (c .if1 .taken))
+    let s = c .before .before .before .before .before .before .before .before in
+    stops _ _ (sym (t2-given (s .pre .0) (s .args .s .now) (s .args .t .now) (s .args .c .now) (s .pre .1) (s .pre .2)) ∙ sym (c .before .t2 .ensures) ∙ not-true (c .before .t2 .result) (c .if1 .taken))
 
 t3-requires : tie.Need-t3-requires
 t3-requires c κs = search needs
 
 returns-2 : tie.Need-returns-2
 returns-2 c =
-    let s = c .before .before .before .before .before .before .before .before .before .before .before in
-    stops _ _ (sym (t3-given (s .pre .0) (s .args .s .now) (s .args .states) (s .args .t .now) (s .args .rules) (s .args .c .now) (s .args .contexts) (omega (arith, s .pre .1)) (s .pre .2) (omega (arith, s .pre .3)) (s .pre .4)) ∙ sym (c .before .t3 .ensures) ∙ not-true (c .before .t3 .result) (c .if2 .taken)) ∙ goes-on _ _ (sym (t2-given (s .pre .0) (s .args .s .now) (s .args .states) (s .args .t .now) (s .args .rules) (s .args .c .now) (s .args .contexts) (omega (arith, s .pre .1)) (s .pre .2) (omega (arith, s .pre .3)) (s .pre .4)) ∙ sym (c .before .before .before .before .before .t2 .ensures) ∙ not-false (c .before .before .before .before .before .t2 .result) (c .before .before .before .before .if1 .left))
+    let s = c .before .before .before .before .before .before .before .before .before .before in
+    stops _ _ (sym (t3-given (s .pre .0) (s .args .s .now) (s .args .t .now) (s .args .c .now) (s .pre .1) (s .pre .2)) ∙ sym (c .before .t3 .ensures) ∙ not-true (c .before .t3 .result) (c .if2 .taken)) ∙ goes-on _ _ (sym (t2-given (s .pre .0) (s .args .s .now) (s .args .t .now) (s .args .c .now) (s .pre .1) (s .pre .2)) ∙ sym (c .before .before .before .t2 .ensures) ∙ not-false (c .before .before .before .t2 .result) (c .before .before .if1 .left))
 
 add-contexts-fit : tie.Need-add-contexts-fit
 add-contexts-fit c = search needs
@@ -32,8 +31,8 @@ contexts-fit-requires c κs = search needs
 
 returns-3 : tie.Need-returns-3
 returns-3 c =
-    let s = c .before .before .before .before .before .before .before .before .before .before .before .before .before in
-    c .contexts-fit .ensures ∙ t4-given (s .pre .0) (s .args .s .now) (s .args .states) (s .args .t .now) (s .args .rules) (s .args .c .now) (s .args .contexts) (omega (arith, s .pre .1)) (s .pre .2) (omega (arith, s .pre .3)) (s .pre .4) ∙ goes-on _ _ (sym (t3-given (s .pre .0) (s .args .s .now) (s .args .states) (s .args .t .now) (s .args .rules) (s .args .c .now) (s .args .contexts) (omega (arith, s .pre .1)) (s .pre .2) (omega (arith, s .pre .3)) (s .pre .4)) ∙ sym (c .before .before .before .t3 .ensures) ∙ not-false (c .before .before .before .t3 .result) (c .before .before .if2 .left)) ∙ goes-on _ _ (sym (t2-given (s .pre .0) (s .args .s .now) (s .args .states) (s .args .t .now) (s .args .rules) (s .args .c .now) (s .args .contexts) (omega (arith, s .pre .1)) (s .pre .2) (omega (arith, s .pre .3)) (s .pre .4)) ∙ sym (c .before .before .before .before .before .before .before .t2 .ensures) ∙ not-false (c .before .before .before .before .before .before .before .t2 .result) (c .before .before .before .before .before .before .if1 .left))
+    let s = c .before .before .before .before .before .before .before .before .before .before .before in
+    c .contexts-fit .ensures ∙ t4-given (s .pre .0) (s .args .s .now) (s .args .t .now) (s .args .c .now) (s .pre .1) (s .pre .2) ∙ goes-on _ _ (sym (t3-given (s .pre .0) (s .args .s .now) (s .args .t .now) (s .args .c .now) (s .pre .1) (s .pre .2)) ∙ sym (c .before .before .t3 .ensures) ∙ not-false (c .before .before .t3 .result) (c .before .if2 .left)) ∙ goes-on _ _ (sym (t2-given (s .pre .0) (s .args .s .now) (s .args .t .now) (s .args .c .now) (s .pre .1) (s .pre .2)) ∙ sym (c .before .before .before .before .t2 .ensures) ∙ not-false (c .before .before .before .before .t2 .result) (c .before .before .before .if1 .left))
 
 pub roles-fit-spec : {M : Type 1} → statement M
 roles-fit-spec =

@@ -16,13 +16,13 @@ use Rattle.sound_parts.proofs.judge.table_fits.Statement.{statement}
 use Rattle.sound_parts.proofs.judge.table_fits.Tie as tie
 
 -- T5's two clauses and T6
-abbrev differ : (table places : List ℕ) → (q m : ℕ) → Bool
+abbrev differ : (table s-in-t : List ℕ) → (q m : ℕ) → Bool
 differ tb ps q m = allDiffer (map (rowAt tb m) (take q ps))
 
 abbrev yes : (table : List ℕ) → (n m : ℕ) → Bool
 yes tb n m = all (λ (k : ℕ). among 2 (rowAt tb m k)) (placesFrom 0 n)
 
-abbrev once : (table places : List ℕ) → (q n m : ℕ) → Bool
+abbrev once : (table s-in-t : List ℕ) → (q n m : ℕ) → Bool
 once tb ps q n m = all (λ (k : ℕ). eqb (countSame (rowAt tb m k) (map (rowAt tb m) (take q ps))) 1) (placesFrom 0 n)
 
 few-fit-requires : tie.Need-few-fit-requires
@@ -31,7 +31,7 @@ few-fit-requires c κs = search needs
 returns : tie.Need-returns
 returns c =
     let s = c .before .before .before .args in
-    many-contexts (fewFit (s .states) (s .rules) (s .contexts) (s .missing)) (differ (s .table .now) (s .places .now) (s .states) (s .contexts)) (yes (s .table .now) (s .rules) (s .contexts)) (s .missing) (once (s .table .now) (s .places .now) (s .states) (s .rules) (s .contexts)) (sym (c .before .few-fit .ensures) ∙ not-true (c .before .few-fit .result) (c .if1 .taken))
+    many-contexts (fewFit (s .states) (s .rules) (s .contexts) (s .missing)) (differ (s .table .now) (s .s-in-t .now) (s .states) (s .contexts)) (yes (s .table .now) (s .rules) (s .contexts)) (s .missing) (once (s .table .now) (s .s-in-t .now) (s .states) (s .rules) (s .contexts)) (sym (c .before .few-fit .ensures) ∙ not-true (c .before .few-fit .result) (c .if1 .taken))
 
 all-differ-requires : tie.Need-all-differ-requires
 all-differ-requires c κs = search needs
@@ -39,7 +39,7 @@ all-differ-requires c κs = search needs
 returns-2 : tie.Need-returns-2
 returns-2 c =
     let s = c .before .before .before .before .before .args in
-    two-alike (fewFit (s .states) (s .rules) (s .contexts) (s .missing)) (differ (s .table .now) (s .places .now) (s .states) (s .contexts)) (yes (s .table .now) (s .rules) (s .contexts)) (s .missing) (once (s .table .now) (s .places .now) (s .states) (s .rules) (s .contexts)) (sym (c .before .before .before .few-fit .ensures) ∙ not-false (c .before .before .before .few-fit .result) (c .before .before .if1 .left)) (sym (c .before .all-differ .ensures) ∙ not-true (c .before .all-differ .result) (c .if2 .taken))
+    two-alike (fewFit (s .states) (s .rules) (s .contexts) (s .missing)) (differ (s .table .now) (s .s-in-t .now) (s .states) (s .contexts)) (yes (s .table .now) (s .rules) (s .contexts)) (s .missing) (once (s .table .now) (s .s-in-t .now) (s .states) (s .rules) (s .contexts)) (sym (c .before .before .before .few-fit .ensures) ∙ not-false (c .before .before .before .few-fit .result) (c .before .before .if1 .left)) (sym (c .before .all-differ .ensures) ∙ not-true (c .before .all-differ .result) (c .if2 .taken))
 
 all-yes-requires : tie.Need-all-yes-requires
 all-yes-requires c κs = search needs
@@ -47,12 +47,12 @@ all-yes-requires c κs = search needs
 returns-3 : tie.Need-returns-3
 returns-3 c =
     let s = c .before .before .before .before .before .before .before .args in
-    none-yes (fewFit (s .states) (s .rules) (s .contexts) (s .missing)) (differ (s .table .now) (s .places .now) (s .states) (s .contexts)) (yes (s .table .now) (s .rules) (s .contexts)) (s .missing) (once (s .table .now) (s .places .now) (s .states) (s .rules) (s .contexts)) (sym (c .before .before .before .before .before .few-fit .ensures) ∙ not-false (c .before .before .before .before .before .few-fit .result) (c .before .before .before .before .if1 .left)) (sym (c .before .before .before .all-differ .ensures) ∙ not-false (c .before .before .before .all-differ .result) (c .before .before .if2 .left)) (sym (c .before .all-yes .ensures) ∙ not-true (c .before .all-yes .result) (c .if3 .taken))
+    none-yes (fewFit (s .states) (s .rules) (s .contexts) (s .missing)) (differ (s .table .now) (s .s-in-t .now) (s .states) (s .contexts)) (yes (s .table .now) (s .rules) (s .contexts)) (s .missing) (once (s .table .now) (s .s-in-t .now) (s .states) (s .rules) (s .contexts)) (sym (c .before .before .before .before .before .few-fit .ensures) ∙ not-false (c .before .before .before .before .before .few-fit .result) (c .before .before .before .before .if1 .left)) (sym (c .before .before .before .all-differ .ensures) ∙ not-false (c .before .before .before .all-differ .result) (c .before .before .if2 .left)) (sym (c .before .all-yes .ensures) ∙ not-true (c .before .all-yes .result) (c .if3 .taken))
 
 returns-4 : tie.Need-returns-4
 returns-4 c =
     let s = c .before .before .before .before .before .before .before .before .args in
-    missing-passes (fewFit (s .states) (s .rules) (s .contexts) (s .missing)) (differ (s .table .now) (s .places .now) (s .states) (s .contexts)) (yes (s .table .now) (s .rules) (s .contexts)) (s .missing) (once (s .table .now) (s .places .now) (s .states) (s .rules) (s .contexts)) (sym (c .before .before .before .before .before .before .few-fit .ensures) ∙ not-false (c .before .before .before .before .before .before .few-fit .result) (c .before .before .before .before .before .if1 .left)) (sym (c .before .before .before .before .all-differ .ensures) ∙ not-false (c .before .before .before .before .all-differ .result) (c .before .before .before .if2 .left)) (sym (c .before .before .all-yes .ensures) ∙ not-false (c .before .before .all-yes .result) (c .before .if3 .left)) (c .if4 .taken)
+    missing-passes (fewFit (s .states) (s .rules) (s .contexts) (s .missing)) (differ (s .table .now) (s .s-in-t .now) (s .states) (s .contexts)) (yes (s .table .now) (s .rules) (s .contexts)) (s .missing) (once (s .table .now) (s .s-in-t .now) (s .states) (s .rules) (s .contexts)) (sym (c .before .before .before .before .before .before .few-fit .ensures) ∙ not-false (c .before .before .before .before .before .before .few-fit .result) (c .before .before .before .before .before .if1 .left)) (sym (c .before .before .before .before .all-differ .ensures) ∙ not-false (c .before .before .before .before .all-differ .result) (c .before .before .before .if2 .left)) (sym (c .before .before .all-yes .ensures) ∙ not-false (c .before .before .all-yes .result) (c .before .if3 .left)) (c .if4 .taken)
 
 all-once-requires : tie.Need-all-once-requires
 all-once-requires c κs = search needs
@@ -60,7 +60,7 @@ all-once-requires c κs = search needs
 returns-5 : tie.Need-returns-5
 returns-5 c =
     let s = c .before .before .before .before .before .before .before .before .before .args in
-    c .all-once .ensures ∙ once-decides (fewFit (s .states) (s .rules) (s .contexts) (s .missing)) (differ (s .table .now) (s .places .now) (s .states) (s .contexts)) (yes (s .table .now) (s .rules) (s .contexts)) (s .missing) (once (s .table .now) (s .places .now) (s .states) (s .rules) (s .contexts)) (sym (c .before .before .before .before .before .before .before .few-fit .ensures) ∙ not-false (c .before .before .before .before .before .before .before .few-fit .result) (c .before .before .before .before .before .before .if1 .left)) (sym (c .before .before .before .before .before .all-differ .ensures) ∙ not-false (c .before .before .before .before .before .all-differ .result) (c .before .before .before .before .if2 .left)) (sym (c .before .before .before .all-yes .ensures) ∙ not-false (c .before .before .before .all-yes .result) (c .before .before .if3 .left)) (c .before .if4 .left)
+    c .all-once .ensures ∙ once-decides (fewFit (s .states) (s .rules) (s .contexts) (s .missing)) (differ (s .table .now) (s .s-in-t .now) (s .states) (s .contexts)) (yes (s .table .now) (s .rules) (s .contexts)) (s .missing) (once (s .table .now) (s .s-in-t .now) (s .states) (s .rules) (s .contexts)) (sym (c .before .before .before .before .before .before .before .few-fit .ensures) ∙ not-false (c .before .before .before .before .before .before .before .few-fit .result) (c .before .before .before .before .before .before .if1 .left)) (sym (c .before .before .before .before .before .all-differ .ensures) ∙ not-false (c .before .before .before .before .before .all-differ .result) (c .before .before .before .before .if2 .left)) (sym (c .before .before .before .all-yes .ensures) ∙ not-false (c .before .before .before .all-yes .result) (c .before .before .if3 .left)) (c .before .if4 .left)
 
 pub table-fits-spec : {M : Type 1} → statement M
 table-fits-spec =

@@ -1,7 +1,6 @@
 -- `sound_roles::transitions::t2` meets its contract: the three tests in their order.
 -- Over a record table that is ready, rows without the mark of a hole are records.
 use mathlib.Core.Path.{sym, _∙_}
-use lib.ListN.{take}
 use borrow.Author.Tests.{not-true, not-false}
 use Rattle.sound_roles.proofs.Laws.Scan.{stops, goes-on}
 use Rattle.sound_roles.proofs.Laws.Marked.{records-ready}
@@ -22,19 +21,19 @@ returns-2 : tie.Need-returns-2
 returns-2 c =
     let s = c .before .before .before .before .before .before .before .before .before in
     let a = c .before .all-records in
-    stops _ _ (sym (records-ready (s .pre .0) (take (s .args .rules) (s .args .t .now))) ∙ sym (a .ensures) ∙ not-true (a .result) (c .if2 .taken)) ∙ goes-on _ _ (sym (c .before .before .before .no-repeats .ensures) ∙ not-false (c .before .before .before .no-repeats .result) (c .before .before .if1 .left))
+    stops _ _ (sym (records-ready (s .pre) (s .args .t .now)) ∙ sym (a .ensures) ∙ not-true (a .result) (c .if2 .taken)) ∙ goes-on _ _ (sym (c .before .before .before .no-repeats .ensures) ∙ not-false (c .before .before .before .no-repeats .result) (c .before .before .if1 .left))
 
 all-kids-in-requires : tie.Need-all-kids-in-requires
 all-kids-in-requires c κs =
     let s = c .before .before .before .before .before .before .before .before .before in
     let a = c .before .all-records in
-    (s .pre .0, s .pre .1, s .pre .2, sym (records-ready (s .pre .0) (take (s .args .rules) (s .args .t .now))) ∙ sym (a .ensures) ∙ not-false (a .result) (c .if2 .left))
+    (s .pre .good, s .pre .finding .room, sym (records-ready (s .pre) (s .args .t .now)) ∙ sym (a .ensures) ∙ not-false (a .result) (c .if2 .left))
 
 returns-3 : tie.Need-returns-3
 returns-3 c =
     let s = c .before .before .before .before .before .before .before .before .before .before in
     let a = c .before .before .all-records in
-    c .all-kids-in .ensures ∙ goes-on _ _ (sym (records-ready (s .pre .0) (take (s .args .rules) (s .args .t .now))) ∙ sym (a .ensures) ∙ not-false (a .result) (c .before .if2 .left)) ∙
+    c .all-kids-in .ensures ∙ goes-on _ _ (sym (records-ready (s .pre) (s .args .t .now)) ∙ sym (a .ensures) ∙ not-false (a .result) (c .before .if2 .left)) ∙
     goes-on _ _ (sym (c .before .before .before .before .no-repeats .ensures) ∙ not-false (c .before .before .before .before .no-repeats .result) (c .before .before .before .if1 .left))
 
 pub t2-spec : {M : Type 1} → statement M

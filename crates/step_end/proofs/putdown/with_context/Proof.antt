@@ -7,22 +7,29 @@ use native.Mathlib.Omega.{arith}
 use borrow.Author.Tests.{not-true, not-false}
 use borrow.Author.Needs.{needs, length-unmapped}
 use lib.ListN.{length}
+use lib.Seq.{length-take-le}
 use Rattle.model.specs.Limits.{mostContexts}
 use Rattle.step_end.specs.Stepping.{contextIn}
 use Rattle.step_end.proofs.putdown.with_context.Statement.{statement}
 use Rattle.step_end.proofs.putdown.with_context.Tie as tie
 
-slice-aggregate-is-among : tie.Need-slice-aggregate-is-among
-slice-aggregate-is-among c = search needs
+cast-c : tie.Need-cast-c
+cast-c c = search needs
 
-cast-is-among : tie.Need-cast-is-among
-cast-is-among c = search needs
-
-is-among-requires : tie.Need-is-among-requires
-is-among-requires c κs =
-    let s = c .before .before in
+array-share-prefix-c : tie.Need-array-share-prefix-c
+array-share-prefix-c c =
+    let s = c .before in
     let e : length (s .args .lists .c) ≡ mostContexts = length-unmapped ℕ (s .args .lists .c) mostContexts (s .good .0 .1 .1 .1 .1 .1 .1 .1 .1 .1 .1 .1 .0 .1 .0 .1) in
     omega (arith, s .pre)
+
+slice-aggregate-is-among : tie.Need-slice-aggregate-is-among
+slice-aggregate-is-among c =
+    let s = c .before .before in
+    let e : length (s .args .lists .c) ≡ mostContexts = length-unmapped ℕ (s .args .lists .c) mostContexts (s .good .0 .1 .1 .1 .1 .1 .1 .1 .1 .1 .1 .1 .0 .1 .0 .1) in
+    sym (length-take-le (s .args .lists .contexts) (s .args .lists .c) (omega (arith, s .pre)))
+
+is-among-requires : tie.Need-is-among-requires
+is-among-requires c κs = search needs
 
 cast-left : tie.Need-cast-left
 cast-left c = search needs
@@ -52,8 +59,9 @@ pub with-context-spec : {M : Type 1} → statement M
 with-context-spec =
     tie.close
     (tie.spec
+    cast-c
+    array-share-prefix-c
     slice-aggregate-is-among
-    cast-is-among
     is-among-requires
     cast-left
     mul-left
