@@ -84,7 +84,9 @@ pub fn row_is(words: &[u32], row: Row, symbol: u32, places: [u32; 4]) -> bool
 // Most rows are alone in their bucket; the others are looked for below.
 pub fn seek(words: &[u32], used: u16, index: &[u16], symbol: u32, places: [u32; 4]) -> usize
     requires { ⌜ Finding (now words) used (now index) ⌝ }
-    ensures { λ r. ⌜ Seat (now (index .entry)) symbol places r × (getD (now (index .entry)) r 0 ≡ findIn (now (words .entry)) used symbol places) ⌝ }
+    ensures { λ r.
+        ⌜ Seat (now (index .entry)) symbol places r
+        × (getD (now (index .entry)) r 0 ≡ findIn (now (words .entry)) used symbol places) ⌝ }
 {
     let size = index.len() / INDEX_WIDTH;
     let head = LINKS * size + bucket(2 * size, symbol, places);
@@ -108,8 +110,11 @@ fn below(
     places: [u32; 4],
     first: Row,
 ) -> usize
-    requires { ⌜ Finding (now words) used (now index) × Walk (now words) used (now index) symbol places (first .0) (keyFor symbol places) ⌝ }
-    ensures { λ r. ⌜ Seat (now (index .entry)) symbol places r × (getD (now (index .entry)) r 0 ≡ findIn (now (words .entry)) used symbol places) ⌝ }
+    requires { ⌜ Finding (now words) used (now index)
+        × Walk (now words) used (now index) symbol places (first .0) (keyFor symbol places) ⌝ }
+    ensures { λ r.
+        ⌜ Seat (now (index .entry)) symbol places r
+        × (getD (now (index .entry)) r 0 ≡ findIn (now (words .entry)) used symbol places) ⌝ }
 {
     let mut at = first.0;
     let mut way = key(symbol, places);

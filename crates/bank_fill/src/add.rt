@@ -30,7 +30,8 @@ pub fn row_for(
     places: [u32; 4],
     hole: u8,
 ) -> Grown
-    requires { ⌜ Ready (now words) (now counts) used (now index) × PlacesAsked (storeOf (now words) (now counts) used) symbol places hole ⌝ }
+    requires { ⌜ Ready (now words) (now counts) used (now index)
+        × PlacesAsked (storeOf (now words) (now counts) used) symbol places hole ⌝ }
     ensures { λ r. ⌜ Came (now (words .entry)) (now (counts .entry)) used (rowFor (storeOf (now (words .entry)) (now (counts .entry)) used) symbol (kidsOf (now (counts .entry)) symbol places)) r (now (words .exit)) (now (index .exit)) ⌝ }
 {
     put(words, used, index, symbol, places, hole)
@@ -71,8 +72,15 @@ pub fn fill(
     row: Row,
     with: Row,
 ) -> Grown
-    requires { ⌜ Ready (now words) (now counts) used (now index) × (used ≤ length (now down)) × (row .0 < used) × (with .0 < used) × Fits (storeOf (now words) (now counts) used) (pathOf (now down) (storeOf (now words) (now counts) used) (row .0)) ⌝ }
-    ensures { λ r. ⌜ Came (now (words .entry)) (now (counts .entry)) used (fillOf (storeOf (now (words .entry)) (now (counts .entry)) used) (pathOf (now (down .entry)) (storeOf (now (words .entry)) (now (counts .entry)) used) (row .0)) (with .0)) r (now (words .exit)) (now (index .exit)) ⌝ }
+    requires { let x = storeOf (now words) (now counts) used in
+        ⌜ Ready (now words) (now counts) used (now index)
+        × (used ≤ length (now down))
+        × (row .0 < used)
+        × (with .0 < used)
+        × Fits x (pathOf (now down) x (row .0)) ⌝ }
+    ensures { λ r.
+        let x = storeOf (now (words .entry)) (now (counts .entry)) used in
+        ⌜ Came (now (words .entry)) (now (counts .entry)) used (fillOf x (pathOf (now (down .entry)) x (row .0)) (with .0)) r (now (words .exit)) (now (index .exit)) ⌝ }
 {
     let i = row.0 as usize;
     if down[i] == 0 {

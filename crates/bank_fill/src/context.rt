@@ -39,8 +39,14 @@ fn fill_marked(
     with: Row,
     down: &mut [u16],
 ) -> Grown
-    requires { ⌜ Ready (now words) (now counts) used (now index) × (context .0 < used) × (hasHole (storeOf (now words) (now counts) used) (context .0) ≡ true) × (with .0 < used) × (used ≤ length (now down)) ⌝ }
-    ensures { λ r. ⌜ Came (now (words .entry)) (now (counts .entry)) used (fillOf (storeOf (now (words .entry)) (now (counts .entry)) used) (framesOf (storeOf (now (words .entry)) (now (counts .entry)) used) (context .0)) (with .0)) r (now (words .exit)) (now (index .exit)) ⌝ }
+    requires { ⌜ Ready (now words) (now counts) used (now index)
+        × (context .0 < used)
+        × (hasHole (storeOf (now words) (now counts) used) (context .0) ≡ true)
+        × (with .0 < used)
+        × (used ≤ length (now down)) ⌝ }
+    ensures { λ r.
+        let x = storeOf (now (words .entry)) (now (counts .entry)) used in
+        ⌜ Came (now (words .entry)) (now (counts .entry)) used (fillOf x (framesOf x (context .0)) (with .0)) r (now (words .exit)) (now (index .exit)) ⌝ }
 {
     copy_marks(index, used, down);
     add::fill(words, counts, used, index, down, context, with)
@@ -55,8 +61,14 @@ fn fill_few(
     context: Row,
     with: Row,
 ) -> Grown
-    requires { ⌜ Ready (now words) (now counts) used (now index) × (context .0 < used) × (hasHole (storeOf (now words) (now counts) used) (context .0) ≡ true) × (with .0 < used) × (used ≤ smallRows) ⌝ }
-    ensures { λ r. ⌜ Came (now (words .entry)) (now (counts .entry)) used (fillOf (storeOf (now (words .entry)) (now (counts .entry)) used) (framesOf (storeOf (now (words .entry)) (now (counts .entry)) used) (context .0)) (with .0)) r (now (words .exit)) (now (index .exit)) ⌝ }
+    requires { ⌜ Ready (now words) (now counts) used (now index)
+        × (context .0 < used)
+        × (hasHole (storeOf (now words) (now counts) used) (context .0) ≡ true)
+        × (with .0 < used)
+        × (used ≤ smallRows) ⌝ }
+    ensures { λ r.
+        let x = storeOf (now (words .entry)) (now (counts .entry)) used in
+        ⌜ Came (now (words .entry)) (now (counts .entry)) used (fillOf x (framesOf x (context .0)) (with .0)) r (now (words .exit)) (now (index .exit)) ⌝ }
 {
     let mut down = [0u16; SMALL_ROWS];
     fill_marked(words, counts, used, index, context, with, &mut down)
@@ -71,8 +83,13 @@ pub fn fill_context(
     context: Row,
     with: Row,
 ) -> Grown
-    requires { ⌜ Ready (now words) (now counts) used (now index) × (context .0 < used) × (hasHole (storeOf (now words) (now counts) used) (context .0) ≡ true) × (with .0 < used) ⌝ }
-    ensures { λ r. ⌜ Came (now (words .entry)) (now (counts .entry)) used (fillOf (storeOf (now (words .entry)) (now (counts .entry)) used) (framesOf (storeOf (now (words .entry)) (now (counts .entry)) used) (context .0)) (with .0)) r (now (words .exit)) (now (index .exit)) ⌝ }
+    requires { ⌜ Ready (now words) (now counts) used (now index)
+        × (context .0 < used)
+        × (hasHole (storeOf (now words) (now counts) used) (context .0) ≡ true)
+        × (with .0 < used) ⌝ }
+    ensures { λ r.
+        let x = storeOf (now (words .entry)) (now (counts .entry)) used in
+        ⌜ Came (now (words .entry)) (now (counts .entry)) used (fillOf x (framesOf x (context .0)) (with .0)) r (now (words .exit)) (now (index .exit)) ⌝ }
 {
     if used as usize <= SMALL_ROWS {
         return fill_few(words, counts, used, index, context, with);

@@ -57,7 +57,10 @@ fn wide(row: Row) -> u32
 
 // The top of a stack of rows as the child places of the next row, in order.
 pub fn top_places(stack: &[u16; MOST_LISTED], height: usize, count: usize) -> [u32; 4]
-    requires { ⌜ (length (now stack) ≡ mostListed) × (count ≤ 4) × (count ≤ height) × (height ≤ mostListed) ⌝ }
+    requires { ⌜ (length (now stack) ≡ mostListed)
+        × (count ≤ 4)
+        × (count ≤ height)
+        × (height ≤ mostListed) ⌝ }
     ensures { λ r. ⌜ r ≡ padded (top count (stackOf (now (stack .entry)) height)) ⌝ }
 {
     let mut places = [0u32; 4];
@@ -77,7 +80,9 @@ pub fn store(
     index: &mut [u16],
     symbols: &[u8],
 ) -> Grown
-    requires { ⌜ Ready (now words) (now counts) used (now index) × Parses (now counts) 0 (now symbols) × (length (now symbols) ≤ mostListed) ⌝ }
+    requires { ⌜ Ready (now words) (now counts) used (now index)
+        × Parses (now counts) 0 (now symbols)
+        × (length (now symbols) ≤ mostListed) ⌝ }
     ensures { λ r. ⌜ Came (now (words .entry)) (now (counts .entry)) used (storeFrom (storeOf (now (words .entry)) (now (counts .entry)) used) (now (symbols .entry)) []) r (now (words .exit)) (now (index .exit)) ⌝ }
 {
     let mut stack = [0u16; MOST_LISTED];
@@ -107,7 +112,9 @@ pub fn store(
 
 // The row of a listed record where it stands already; row 0 for none.
 pub fn known_row(words: &[u32], counts: &[u8], used: u16, index: &[u16], symbols: &[u8]) -> Row
-    requires { ⌜ Ready (now words) (now counts) used (now index) × Parses (now counts) 0 (now symbols) × (length (now symbols) ≤ mostListed) ⌝ }
+    requires { ⌜ Ready (now words) (now counts) used (now index)
+        × Parses (now counts) 0 (now symbols)
+        × (length (now symbols) ≤ mostListed) ⌝ }
     ensures { λ r. ⌜ r .0 ≡ knownRow (storeOf (now (words .entry)) (now (counts .entry)) used) (now (symbols .entry)) ⌝ }
 {
     let mut stack = [0u16; MOST_LISTED];

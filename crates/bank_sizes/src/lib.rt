@@ -14,7 +14,9 @@ const MOST: u16 = MOST_LISTED as u16 + 1;
 
 // The cut size of a row past row 0, from those of the rows before it.
 fn row_size(words: &[u32], counts: &[u8], used: u16, sizes: &[u16; MOST_ROWS], row: Row) -> u16
-    requires { ⌜ Sizing (now words) (now counts) used (now sizes) (row .0) × (0 < row .0) × (row .0 < used) ⌝ }
+    requires { ⌜ Sizing (now words) (now counts) used (now sizes) (row .0)
+        × (0 < row .0)
+        × (row .0 < used) ⌝ }
     ensures { λ r. ⌜ r ≡ cut (sizeOf (storeOf (now (words .entry)) (now (counts .entry)) used) (row .0)) ⌝ }
 {
     let symbol = rows::symbol_of(words, row);

@@ -86,7 +86,10 @@ pub fn has_hole(index: &[u16], row: Row) -> bool
 
 // The children of a row: earlier rows, then 0, at most one hole.
 fn kids_of(words: &[u32], index: &[u16], row: Row, count: u8) -> Kids
-    requires { ⌜ Within (now words) (row .0) × (row .0 < mostRows) × (count ≤ 4) × (row .0 ≤ sizeIn (now index)) ⌝ }
+    requires { ⌜ Within (now words) (row .0)
+        × (row .0 < mostRows)
+        × (count ≤ 4)
+        × (row .0 ≤ sizeIn (now index)) ⌝ }
     ensures { λ r. ⌜ r ≡ kidsIn (now (words .entry)) (now (index .entry)) (row .0) count ⌝ }
 {
     if !unused_zero(words, row, count) {
@@ -140,7 +143,9 @@ fn row_fits(words: &[u32], counts: &[u8], used: u16, index: &[u16], row: Row) ->
 // The slot of a row among the earlier ones: it holds the one that is equal to it, if there is one.
 fn seat_of(words: &[u32], index: &[u16], row: Row) -> usize
     requires { ⌜ Within (now words) (row .0) × Finding (now words) (row .0) (now index) ⌝ }
-    ensures { λ r. ⌜ Seat (now (index .entry)) (symbolIn (now (words .entry)) (row .0)) (placesIn (now (words .entry)) (row .0)) r × (getD (now (index .entry)) r 0 ≡ findIn (now (words .entry)) (row .0) (symbolIn (now (words .entry)) (row .0)) (placesIn (now (words .entry)) (row .0))) ⌝ }
+    ensures { λ r.
+        ⌜ Seat (now (index .entry)) (symbolIn (now (words .entry)) (row .0)) (placesIn (now (words .entry)) (row .0)) r
+        × (getD (now (index .entry)) r 0 ≡ findIn (now (words .entry)) (row .0) (symbolIn (now (words .entry)) (row .0)) (placesIn (now (words .entry)) (row .0))) ⌝ }
 {
     let symbol = rows::symbol_of(words, row);
     let places = rows::places_of(words, row);

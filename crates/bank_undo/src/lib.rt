@@ -21,7 +21,8 @@ pub fn save(words: &[u32], used: u16, saved: &mut [u32])
 
 // Puts them back.
 pub fn restore(words: &mut [u32], used: u16, saved: &[u32])
-    requires { ⌜ (rowWidth * used ≤ length (now words)) × (length (now words) ≤ rowWidth * used + length (now saved)) ⌝ }
+    requires { ⌜ (rowWidth * used ≤ length (now words))
+        × (length (now words) ≤ rowWidth * used + length (now saved)) ⌝ }
     ensures { λ _. ⌜ PutBack (now (words .entry)) used (now (saved .entry)) (now (words .exit)) ⌝ }
 {
     let start = ROW_WIDTH * used as usize;

@@ -168,7 +168,11 @@ fn emit_proposed(
     reps: &[u16],
     out: &mut [u8],
 ) -> Emitted
-    requires { ⌜ (sizeFits (now words) ≡ true) × (listsFit lists ≡ true) × (isSound (tablesOf (now words) lists) ≡ true) × (lists .asked ≡ 0) × Working (now words) (take (lists .letters) (lists .counts)) (lists .used) (lists .s) (lists .states) (lists .t) (lists .rules) (lists .c) (lists .contexts) (now index) (now table) (now places) (now reps) ⌝ }
+    requires { ⌜ (sizeFits (now words) ≡ true)
+        × (listsFit lists ≡ true)
+        × (isSound (tablesOf (now words) lists) ≡ true)
+        × (lists .asked ≡ 0)
+        × Working (now words) (take (lists .letters) (lists .counts)) (lists .used) (lists .s) (lists .states) (lists .t) (lists .rules) (lists .c) (lists .contexts) (now index) (now table) (now places) (now reps) ⌝ }
     ensures { λ r. ⌜ r ≡ emitSeen (now (words .entry)) lists (now (out .entry)) ⌝ }
     ensures bytes { λ r. ⌜ now (out .exit) ≡ emitOut (now (words .entry)) lists (now (out .entry)) ⌝ }
 {

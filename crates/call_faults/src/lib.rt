@@ -45,7 +45,10 @@ fn verdict_is(
     places: &[u16; MOST_STATES],
     reps: &[u16],
 ) -> bool
-    requires { ⌜ (listsFit lists ≡ true) × (isSound (tablesOf (now words) lists) ≡ true) × Working (now words) (countsIn lists) (lists .used) (lists .s) (lists .states) (lists .t) (lists .rules) (lists .c) (lists .contexts) (now index) (now table) (now places) (now reps) × Tested lists (now symbols) mark ⌝ }
+    requires { ⌜ (listsFit lists ≡ true)
+        × (isSound (tablesOf (now words) lists) ≡ true)
+        × Working (now words) (countsIn lists) (lists .used) (lists .s) (lists .states) (lists .t) (lists .rules) (lists .c) (lists .contexts) (now index) (now table) (now places) (now reps)
+        × Tested lists (now symbols) mark ⌝ }
     ensures { λ r. ⌜ r ≡ verdictIs (tablesOf (now (words .entry)) lists) (now (symbols .entry)) mark ⌝ }
 {
     let letters = lists.letters as usize;
@@ -72,7 +75,10 @@ pub fn fault_of(
     places: &[u16; MOST_STATES],
     reps: &[u16],
 ) -> u8
-    requires { ⌜ (sizeFits (now words) ≡ true) × (listsFit lists ≡ true) × (isSound (tablesOf (now words) lists) ≡ true) × Working (now words) (countsIn lists) (lists .used) (lists .s) (lists .states) (lists .t) (lists .rules) (lists .c) (lists .contexts) (now index) (now table) (now places) (now reps) ⌝ }
+    requires { ⌜ (sizeFits (now words) ≡ true)
+        × (listsFit lists ≡ true)
+        × (isSound (tablesOf (now words) lists) ≡ true)
+        × Working (now words) (countsIn lists) (lists .used) (lists .s) (lists .states) (lists .t) (lists .rules) (lists .c) (lists .contexts) (now index) (now table) (now places) (now reps) ⌝ }
     ensures { λ r. ⌜ r ≡ offerFault (tablesOf (now (words .entry)) lists) (now (symbols .entry)) mark ⌝ }
 {
     let fault = input_fault(lists, symbols, mark);

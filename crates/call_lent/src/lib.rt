@@ -30,7 +30,11 @@ fn answer_in(
     places: &mut [u16; MOST_STATES],
     reps: &mut [u16],
 ) -> Done
-    requires { ⌜ (sizeFits (now words) ≡ true) × (listsFit lists ≡ true) × (length (now words) ≤ rowWidth * lists .used + length (now saved)) × Room (now words) (lists .rules) (now index) (now table) (now places) (now reps) × (mostContexts * (lists .rules + 1) ≤ length (now table)) ⌝ }
+    requires { ⌜ (sizeFits (now words) ≡ true)
+        × (listsFit lists ≡ true)
+        × (length (now words) ≤ rowWidth * lists .used + length (now saved))
+        × Room (now words) (lists .rules) (now index) (now table) (now places) (now reps)
+        × (mostContexts * (lists .rules + 1) ≤ length (now table)) ⌝ }
     ensures { λ r. ⌜ CallAs (now (words .entry)) lists (answers mark) r (now (words .exit)) ⌝ }
 {
     if !sound::lists_sound(words, lists, index, table, places, reps) {
@@ -57,7 +61,11 @@ fn offer_in(
     places: &mut [u16; MOST_STATES],
     reps: &mut [u16],
 ) -> Done
-    requires { ⌜ (sizeFits (now words) ≡ true) × (listsFit lists ≡ true) × (length (now words) ≤ rowWidth * lists .used + length (now saved)) × Room (now words) (lists .rules) (now index) (now table) (now places) (now reps) × (mostContexts * (lists .rules + 1) ≤ length (now table)) ⌝ }
+    requires { ⌜ (sizeFits (now words) ≡ true)
+        × (listsFit lists ≡ true)
+        × (length (now words) ≤ rowWidth * lists .used + length (now saved))
+        × Room (now words) (lists .rules) (now index) (now table) (now places) (now reps)
+        × (mostContexts * (lists .rules + 1) ≤ length (now table)) ⌝ }
     ensures { λ r. ⌜ CallAs (now (words .entry)) lists (offers (now (symbols .entry)) mark) r (now (words .exit)) ⌝ }
 {
     if !sound::lists_sound(words, lists, index, table, places, reps) {
@@ -92,7 +100,11 @@ pub fn call_in(
     places: &mut [u16; MOST_STATES],
     reps: &mut [u16],
 ) -> Done
-    requires { ⌜ (sizeFits (now words) ≡ true) × (listsFit lists ≡ true) × (length (now words) ≤ rowWidth * lists .used + length (now saved)) × Room (now words) (lists .rules) (now index) (now table) (now places) (now reps) × (mostContexts * (lists .rules + 1) ≤ length (now table)) ⌝ }
+    requires { ⌜ (sizeFits (now words) ≡ true)
+        × (listsFit lists ≡ true)
+        × (length (now words) ≤ rowWidth * lists .used + length (now saved))
+        × Room (now words) (lists .rules) (now index) (now table) (now places) (now reps)
+        × (mostContexts * (lists .rules + 1) ≤ length (now table)) ⌝ }
     ensures { λ r. ⌜ CallAs (now (words .entry)) lists (callOf said (now (symbols .entry))) r (now (words .exit)) ⌝ }
 {
     match said {

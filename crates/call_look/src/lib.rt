@@ -44,7 +44,10 @@ pub fn told(words: &[u32], lists: Lists) -> Seen
 
 // Looking in small room: few rows, and few transitions.
 fn look_few(words: &[u32], lists: Lists) -> Seen
-    requires { ⌜ (sizeFits (now words) ≡ true) × (listsFit lists ≡ true) × (length (now words) ≤ rowWidth * smallRows) × (lists .rules < smallRules) ⌝ }
+    requires { ⌜ (sizeFits (now words) ≡ true)
+        × (listsFit lists ≡ true)
+        × (length (now words) ≤ rowWidth * smallRows)
+        × (lists .rules < smallRules) ⌝ }
     ensures { λ r. ⌜ r ≡ callSeen (now (words .entry)) lists looks ⌝ }
 {
     let mut index = [0u16; INDEX_WIDTH * SMALL_ROWS];

@@ -41,7 +41,11 @@ const SHORT: usize = 64;
 
 // The same in the smallest room.
 fn in_tiny(words: &mut [u32], lists: Lists, symbols: &[u8], said: Said, saved: &mut [u32]) -> Done
-    requires { ⌜ (sizeFits (now words) ≡ true) × (listsFit lists ≡ true) × (length (now words) ≤ rowWidth * lists .used + length (now saved)) × (length (now words) ≤ rowWidth * tinyRows) × (lists .rules < tinyRules) ⌝ }
+    requires { ⌜ (sizeFits (now words) ≡ true)
+        × (listsFit lists ≡ true)
+        × (length (now words) ≤ rowWidth * lists .used + length (now saved))
+        × (length (now words) ≤ rowWidth * tinyRows)
+        × (lists .rules < tinyRules) ⌝ }
     ensures { λ r. ⌜ CallAs (now (words .entry)) lists (callOf said (now (symbols .entry))) r (now (words .exit)) ⌝ }
 {
     let mut index = [0u16; INDEX_WIDTH * TINY_ROWS];
@@ -63,7 +67,11 @@ fn in_tiny(words: &mut [u32], lists: Lists, symbols: &[u8], said: Said, saved: &
 
 // The same in small room.
 fn in_small(words: &mut [u32], lists: Lists, symbols: &[u8], said: Said, saved: &mut [u32]) -> Done
-    requires { ⌜ (sizeFits (now words) ≡ true) × (listsFit lists ≡ true) × (length (now words) ≤ rowWidth * lists .used + length (now saved)) × (length (now words) ≤ rowWidth * smallRows) × (lists .rules < smallRules) ⌝ }
+    requires { ⌜ (sizeFits (now words) ≡ true)
+        × (listsFit lists ≡ true)
+        × (length (now words) ≤ rowWidth * lists .used + length (now saved))
+        × (length (now words) ≤ rowWidth * smallRows)
+        × (lists .rules < smallRules) ⌝ }
     ensures { λ r. ⌜ CallAs (now (words .entry)) lists (callOf said (now (symbols .entry))) r (now (words .exit)) ⌝ }
 {
     let mut index = [0u16; INDEX_WIDTH * SMALL_ROWS];
@@ -85,7 +93,11 @@ fn in_small(words: &mut [u32], lists: Lists, symbols: &[u8], said: Said, saved: 
 
 // The same in larger room.
 fn in_mid(words: &mut [u32], lists: Lists, symbols: &[u8], said: Said, saved: &mut [u32]) -> Done
-    requires { ⌜ (sizeFits (now words) ≡ true) × (listsFit lists ≡ true) × (length (now words) ≤ rowWidth * lists .used + length (now saved)) × (length (now words) ≤ rowWidth * midRows) × (lists .rules < midRules) ⌝ }
+    requires { ⌜ (sizeFits (now words) ≡ true)
+        × (listsFit lists ≡ true)
+        × (length (now words) ≤ rowWidth * lists .used + length (now saved))
+        × (length (now words) ≤ rowWidth * midRows)
+        × (lists .rules < midRules) ⌝ }
     ensures { λ r. ⌜ CallAs (now (words .entry)) lists (callOf said (now (symbols .entry))) r (now (words .exit)) ⌝ }
 {
     let mut index = [0u16; INDEX_WIDTH * MID_ROWS];
@@ -107,7 +119,9 @@ fn in_mid(words: &mut [u32], lists: Lists, symbols: &[u8], said: Said, saved: &m
 
 // The same in room for all that may be lent.
 fn in_wide(words: &mut [u32], lists: Lists, symbols: &[u8], said: Said, saved: &mut [u32]) -> Done
-    requires { ⌜ (sizeFits (now words) ≡ true) × (listsFit lists ≡ true) × (length (now words) ≤ rowWidth * lists .used + length (now saved)) ⌝ }
+    requires { ⌜ (sizeFits (now words) ≡ true)
+        × (listsFit lists ≡ true)
+        × (length (now words) ≤ rowWidth * lists .used + length (now saved)) ⌝ }
     ensures { λ r. ⌜ CallAs (now (words .entry)) lists (callOf said (now (symbols .entry))) r (now (words .exit)) ⌝ }
 {
     let mut index = [0u16; INDEX_WIDTH * MOST_ROWS];
@@ -129,7 +143,11 @@ fn in_wide(words: &mut [u32], lists: Lists, symbols: &[u8], said: Said, saved: &
 
 // With few rows past the used ones, on a small table.
 fn with_few(words: &mut [u32], lists: Lists, symbols: &[u8], said: Said) -> Done
-    requires { ⌜ (sizeFits (now words) ≡ true) × (listsFit lists ≡ true) × (length (now words) ≤ rowWidth * (lists .used + spareRows)) × (length (now words) ≤ rowWidth * smallRows) × (lists .rules < smallRules) ⌝ }
+    requires { ⌜ (sizeFits (now words) ≡ true)
+        × (listsFit lists ≡ true)
+        × (length (now words) ≤ rowWidth * (lists .used + spareRows))
+        × (length (now words) ≤ rowWidth * smallRows)
+        × (lists .rules < smallRules) ⌝ }
     ensures { λ r. ⌜ CallAs (now (words .entry)) lists (callOf said (now (symbols .entry))) r (now (words .exit)) ⌝ }
 {
     let mut saved = [0u32; ROW_WIDTH * SPARE_ROWS];
@@ -143,7 +161,9 @@ fn with_few(words: &mut [u32], lists: Lists, symbols: &[u8], said: Said) -> Done
 
 // With more rows past the used ones.
 fn with_more(words: &mut [u32], lists: Lists, symbols: &[u8], said: Said) -> Done
-    requires { ⌜ (sizeFits (now words) ≡ true) × (listsFit lists ≡ true) × (length (now words) ≤ rowWidth * (lists .used + moreSpareRows)) ⌝ }
+    requires { ⌜ (sizeFits (now words) ≡ true)
+        × (listsFit lists ≡ true)
+        × (length (now words) ≤ rowWidth * (lists .used + moreSpareRows)) ⌝ }
     ensures { λ r. ⌜ CallAs (now (words .entry)) lists (callOf said (now (symbols .entry))) r (now (words .exit)) ⌝ }
 {
     let mut saved = [0u32; ROW_WIDTH * MORE_SPARE_ROWS];
@@ -181,7 +201,10 @@ fn is_short(used: u16, rules: u16, length: usize) -> bool
 
 // Tried with few rows past the used ones: 34 where they are not enough.
 fn first_few(words: &mut [u32], lists: Lists, symbols: &[u8], said: Said) -> Done
-    requires { ⌜ (sizeFits (now words) ≡ true) × (listsFit lists ≡ true) × (lists .used + spareRows ≤ smallRows) × (lists .rules < smallRules) ⌝ }
+    requires { ⌜ (sizeFits (now words) ≡ true)
+        × (listsFit lists ≡ true)
+        × (lists .used + spareRows ≤ smallRows)
+        × (lists .rules < smallRules) ⌝ }
     ensures { λ r. ⌜ FirstAs (now (words .entry)) (rowWidth * (lists .used + spareRows)) lists (callOf said (now (symbols .entry))) r (now (words .exit)) ⌝ }
 {
     let most = ROW_WIDTH * (lists.used as usize + SPARE_ROWS);

@@ -38,7 +38,14 @@ pub fn take_answer(
     places: &[u16; MOST_STATES],
     reps: &[u16],
 ) -> Done
-    requires { ⌜ (sizeFits (now words) ≡ true) × (listsFit lists ≡ true) × (isSound (tablesOf (now words) lists) ≡ true) × (lists .asked ≡ 0 → ⊥) × (mark ≤ 1) × Working (now words) (countsIn lists) (lists .used) (lists .s) (lists .states) (lists .t) (lists .rules) (lists .c) (lists .contexts) (now index) (now table) (now places) (now reps) × (length (now words) ≤ rowWidth * lists .used + length (now saved)) × (mostContexts * (lists .rules + 1) ≤ length (now table)) ⌝ }
+    requires { ⌜ (sizeFits (now words) ≡ true)
+        × (listsFit lists ≡ true)
+        × (isSound (tablesOf (now words) lists) ≡ true)
+        × (lists .asked ≡ 0 → ⊥)
+        × (mark ≤ 1)
+        × Working (now words) (countsIn lists) (lists .used) (lists .s) (lists .states) (lists .t) (lists .rules) (lists .c) (lists .contexts) (now index) (now table) (now places) (now reps)
+        × (length (now words) ≤ rowWidth * lists .used + length (now saved))
+        × (mostContexts * (lists .rules + 1) ≤ length (now table)) ⌝ }
     ensures { λ r. ⌜ CallAs (now (words .entry)) lists (answers mark) r (now (words .exit)) ⌝ }
 {
     bank_undo::save(words, lists.used, saved);
@@ -83,7 +90,14 @@ pub fn take_offer(
     places: &[u16; MOST_STATES],
     reps: &[u16],
 ) -> Done
-    requires { ⌜ (sizeFits (now words) ≡ true) × (listsFit lists ≡ true) × (isSound (tablesOf (now words) lists) ≡ true) × (offerFault (tablesOf (now words) lists) (now symbols) mark ≡ 0) × Working (now words) (countsIn lists) (lists .used) (lists .s) (lists .states) (lists .t) (lists .rules) (lists .c) (lists .contexts) (now index) (now table) (now places) (now reps) × (length (now words) ≤ rowWidth * lists .used + length (now saved)) × (mostContexts * (lists .rules + 1) ≤ length (now table)) ⌝ }
+    requires { let x = tablesOf (now words) lists in
+        ⌜ (sizeFits (now words) ≡ true)
+        × (listsFit lists ≡ true)
+        × (isSound x ≡ true)
+        × (offerFault x (now symbols) mark ≡ 0)
+        × Working (now words) (countsIn lists) (lists .used) (lists .s) (lists .states) (lists .t) (lists .rules) (lists .c) (lists .contexts) (now index) (now table) (now places) (now reps)
+        × (length (now words) ≤ rowWidth * lists .used + length (now saved))
+        × (mostContexts * (lists .rules + 1) ≤ length (now table)) ⌝ }
     ensures { λ r. ⌜ CallAs (now (words .entry)) lists (offers (now (symbols .entry)) mark) r (now (words .exit)) ⌝ }
 {
     let letters = lists.letters as usize;

@@ -56,7 +56,8 @@ fn put_block(out: &mut [u8], at: usize, kind: u8, body: &[u8]) -> usize
 
 // The block of the rule at the head of flat rules.
 fn put_rule(counts: &[u8], rules: &[u8], out: &mut [u8], at: usize) -> usize
-    requires { ⌜ (ruleWidth ≤ length (now rules)) × (at + (8 + length (flatRule (now counts) (now rules) .states)) ≤ length (now out)) ⌝ }
+    requires { ⌜ (ruleWidth ≤ length (now rules))
+        × (at + (8 + length (flatRule (now counts) (now rules) .states)) ≤ length (now out)) ⌝ }
     ensures { λ r. ⌜ r ≡ at + (8 + length (flatRule (now (counts .entry)) (now (rules .entry)) .states)) ⌝ }
     ensures bytes { λ r. ⌜ now (out .exit) ≡ putAt at (blockOf 3 (ruleBody (flatRule (now (counts .entry)) (now (rules .entry))))) (now (out .entry)) ⌝ }
 {

@@ -28,7 +28,9 @@ fn made<'a>(bytes: &'a [u8], rules: u16) -> LoadedList<'a>
 
 // The view of bytes: of those that load, and of none where they do not.
 pub fn view<'a>(bytes: &'a [u8]) -> LoadedList<'a>
-    ensures { λ r. ⌜ (now (r .bytes) ≡ shownBytes (now (bytes .entry))) × (r .rules ≡ loadSeen (now (bytes .entry)) .size) ⌝ }
+    ensures { λ r.
+        ⌜ (now (r .bytes) ≡ shownBytes (now (bytes .entry)))
+        × (r .rules ≡ loadSeen (now (bytes .entry)) .size) ⌝ }
 {
     made(shown_bytes(bytes), rules_shown(bytes))
 }

@@ -129,7 +129,9 @@ fn whole(input: &[u8], at: usize, from: usize) -> usize
 
 // Reads and answers in turn, until the input ends or a write fails.
 fn run(words: &mut [u32], input: &mut [u8], out: &mut [u8]) -> Ran
-    requires { ⌜ (now words ≡ replicate (rowWidth * scriptRows) 0) × (length (now input) ≡ mostInput) × (replyRoom ≤ length (now out)) ⌝ }
+    requires { ⌜ (now words ≡ replicate (rowWidth * scriptRows) 0)
+        × (length (now input) ≡ mostInput)
+        × (replyRoom ≤ length (now out)) ⌝ }
     ensures { λ r. ⌜ RanAs (now (input .exit)) (now (words .exit)) r ⌝ }
 {
     let mut script = text_reply::fresh();

@@ -33,8 +33,21 @@ fn represent(
     places: &mut [u16; MOST_STATES],
     reps: &mut [u16],
 ) -> bool
-    requires { ⌜ Sized (now table) rules contexts × (length (now s) ≡ mostStates) × (states ≤ mostStates) × (length (now t) ≡ mostRules) × (rules ≤ mostRules) × (length (now places) ≡ mostStates) × (allAmong (take states (now s)) (take rules (now t)) ≡ true) × ((k : ℕ) → k < rules → getD (now t) k 0 < length (now reps)) × (noRepeats (take rules (now t)) ≡ true) ⌝ }
-    ensures { λ r. ⌜ (r ≡ isOpen (gapFrom (now (table .entry)) contexts 0 rules)) × Placing (now (places .exit)) states rules × Placed (now (t .entry)) rules (now (s .entry)) states (now (places .exit)) × (isOpen (gapFrom (now (table .entry)) contexts 0 rules) ≡ false → RepsBy (now (table .entry)) contexts (take states (now (places .exit))) (take states (now (s .entry))) (take rules (now (t .entry))) (now (reps .exit))) ⌝ }
+    requires { let ts = take rules (now t) in
+        ⌜ Sized (now table) rules contexts
+        × (length (now s) ≡ mostStates)
+        × (states ≤ mostStates)
+        × (length (now t) ≡ mostRules)
+        × (rules ≤ mostRules)
+        × (length (now places) ≡ mostStates)
+        × (allAmong (take states (now s)) ts ≡ true)
+        × ((k : ℕ) → k < rules → getD (now t) k 0 < length (now reps))
+        × (noRepeats ts ≡ true) ⌝ }
+    ensures { λ r.
+        ⌜ (r ≡ isOpen (gapFrom (now (table .entry)) contexts 0 rules))
+        × Placing (now (places .exit)) states rules
+        × Placed (now (t .entry)) rules (now (s .entry)) states (now (places .exit))
+        × (isOpen (gapFrom (now (table .entry)) contexts 0 rules) ≡ false → RepsBy (now (table .entry)) contexts (take states (now (places .exit))) (take states (now (s .entry))) (take rules (now (t .entry))) (now (reps .exit))) ⌝ }
 {
     let all_s = &s[..];
     let all_t = &t[..];
@@ -67,7 +80,10 @@ fn prepare(
     index: &mut [u16],
     table: &mut [u8],
 ) -> bool
-    requires { ⌜ (sizeFits (now words) ≡ true) × Arrays (now s) states (now t) rules (now c) contexts × Roomy (now words) (now index) × (mostContexts * rules ≤ length (now table)) ⌝ }
+    requires { ⌜ (sizeFits (now words) ≡ true)
+        × Arrays (now s) states (now t) rules (now c) contexts
+        × Roomy (now words) (now index)
+        × (mostContexts * rules ≤ length (now table)) ⌝ }
     ensures { λ r. ⌜ r ≡ preparedFit (given (now (words .entry)) (now (counts .entry)) used (now (s .entry)) states (now (t .entry)) rules (now (c .entry)) contexts 0 0 false) ⌝ }
     ensures observed { λ r. ⌜ (r ≡ true → Ready (now (words .entry)) (now (counts .entry)) used (now (index .exit)) × Observed (storeOf (now (words .entry)) (now (counts .entry)) used) (answersIn used (now (words .entry))) (now (t .entry)) rules (now (c .entry)) contexts (now (table .exit))) ⌝ }
 {
@@ -147,7 +163,10 @@ fn judged(
     standing: Standing,
     missing: bool,
 ) -> bool
-    requires { ⌜ Arrays (now s) states (now t) rules (now c) contexts × Working (now words) (now counts) used (now s) states (now t) rules (now c) contexts (now index) (now table) (now places) (now reps) × (preparedFit (given (now words) (now counts) used (now s) states (now t) rules (now c) contexts 0 0 false) ≡ true) × (missing ≡ isOpen (gapFrom (now table) contexts 0 rules)) ⌝ }
+    requires { ⌜ Arrays (now s) states (now t) rules (now c) contexts
+        × Working (now words) (now counts) used (now s) states (now t) rules (now c) contexts (now index) (now table) (now places) (now reps)
+        × (preparedFit (given (now words) (now counts) used (now s) states (now t) rules (now c) contexts 0 0 false) ≡ true)
+        × (missing ≡ isOpen (gapFrom (now table) contexts 0 rules)) ⌝ }
     ensures { λ r. ⌜ r ≡ judgedFit (given (now (words .entry)) (now (counts .entry)) used (now (s .entry)) states (now (t .entry)) rules (now (c .entry)) contexts (standing .hand) (standing .asked) (eqb (standing .accepted) 1)) ⌝ }
 {
     if !judge::table_fits(table, places, states, rules, contexts, missing) {
@@ -184,7 +203,9 @@ fn is_sound(
     places: &mut [u16; MOST_STATES],
     reps: &mut [u16],
 ) -> bool
-    requires { ⌜ (sizeFits (now words) ≡ true) × Arrays (now s) states (now t) rules (now c) contexts × Room (now words) rules (now index) (now table) (now places) (now reps) ⌝ }
+    requires { ⌜ (sizeFits (now words) ≡ true)
+        × Arrays (now s) states (now t) rules (now c) contexts
+        × Room (now words) rules (now index) (now table) (now places) (now reps) ⌝ }
     ensures { λ r. ⌜ r ≡ isSound (given (now (words .entry)) (now (counts .entry)) used (now (s .entry)) states (now (t .entry)) rules (now (c .entry)) contexts (standing .hand) (standing .asked) (eqb (standing .accepted) 1)) ⌝ }
     ensures working { λ r. ⌜ (r ≡ true → Working (now (words .entry)) (now (counts .entry)) used (now (s .entry)) states (now (t .entry)) rules (now (c .entry)) contexts (now (index .exit)) (now (table .exit)) (now (places .exit)) (now (reps .exit))) ⌝ }
 {
@@ -232,7 +253,9 @@ pub fn lists_sound(
     places: &mut [u16; MOST_STATES],
     reps: &mut [u16],
 ) -> bool
-    requires { ⌜ (sizeFits (now words) ≡ true) × (listsFit lists ≡ true) × Room (now words) (lists .rules) (now index) (now table) (now places) (now reps) ⌝ }
+    requires { ⌜ (sizeFits (now words) ≡ true)
+        × (listsFit lists ≡ true)
+        × Room (now words) (lists .rules) (now index) (now table) (now places) (now reps) ⌝ }
     ensures { λ r. ⌜ r ≡ isSound (tablesOf (now (words .entry)) lists) ⌝ }
     ensures working { λ r. ⌜ (r ≡ true → Working (now (words .entry)) (take (lists .letters) (lists .counts)) (lists .used) (lists .s) (lists .states) (lists .t) (lists .rules) (lists .c) (lists .contexts) (now (index .exit)) (now (table .exit)) (now (places .exit)) (now (reps .exit))) ⌝ }
 {

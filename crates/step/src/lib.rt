@@ -65,7 +65,13 @@ fn in_hand_with(
     at: &mut [u16],
     exchanged: &mut [u16],
 ) -> Stepped
-    requires { ⌜ Stepping (now words) lists (now index) × (mostContexts * (lists .rules + 1) ≤ length (now table)) × InHand (now words) lists (now reps) × (lists .hand ≡ 0 → ⊥) × (lists .used ≤ length (now down)) × (lists .used ≤ length (now at)) × (lists .used ≤ length (now exchanged)) ⌝ }
+    requires { ⌜ Stepping (now words) lists (now index)
+        × (mostContexts * (lists .rules + 1) ≤ length (now table))
+        × InHand (now words) lists (now reps)
+        × (lists .hand ≡ 0 → ⊥)
+        × (lists .used ≤ length (now down))
+        × (lists .used ≤ length (now at))
+        × (lists .used ≤ length (now exchanged)) ⌝ }
     ensures { λ r. ⌜ EndedAs (now (words .entry)) lists (advanceOf (tablesOf (now (words .entry)) lists)) r (now (words .exit)) ⌝ }
 {
     let found = find(words, lists, index, reps, down, at, exchanged);
@@ -80,7 +86,11 @@ fn in_hand_few(
     table: &mut [u8],
     reps: &[u16],
 ) -> Stepped
-    requires { ⌜ Stepping (now words) lists (now index) × (mostContexts * (lists .rules + 1) ≤ length (now table)) × InHand (now words) lists (now reps) × (lists .hand ≡ 0 → ⊥) × (lists .used ≤ smallRows) ⌝ }
+    requires { ⌜ Stepping (now words) lists (now index)
+        × (mostContexts * (lists .rules + 1) ≤ length (now table))
+        × InHand (now words) lists (now reps)
+        × (lists .hand ≡ 0 → ⊥)
+        × (lists .used ≤ smallRows) ⌝ }
     ensures { λ r. ⌜ EndedAs (now (words .entry)) lists (advanceOf (tablesOf (now (words .entry)) lists)) r (now (words .exit)) ⌝ }
 {
     let mut down = [0u16; SMALL_ROWS];
@@ -106,7 +116,10 @@ pub fn in_hand(
     table: &mut [u8],
     reps: &[u16],
 ) -> Stepped
-    requires { ⌜ Stepping (now words) lists (now index) × (mostContexts * (lists .rules + 1) ≤ length (now table)) × InHand (now words) lists (now reps) × (lists .hand ≡ 0 → ⊥) ⌝ }
+    requires { ⌜ Stepping (now words) lists (now index)
+        × (mostContexts * (lists .rules + 1) ≤ length (now table))
+        × InHand (now words) lists (now reps)
+        × (lists .hand ≡ 0 → ⊥) ⌝ }
     ensures { λ r. ⌜ EndedAs (now (words .entry)) lists (advanceOf (tablesOf (now (words .entry)) lists)) r (now (words .exit)) ⌝ }
 {
     if lists.used as usize <= SMALL_ROWS {
@@ -135,7 +148,12 @@ pub fn advance(
     table: &mut [u8],
     reps: &[u16],
 ) -> Stepped
-    requires { ⌜ Stepping (now words) lists (now index) × (mostContexts * (lists .rules + 1) ≤ length (now table)) × ((lists .hand ≡ 0 → ⊥) → InHand (now words) lists (now reps)) × (lists .hand ≡ 0 → KnownTable (now words) lists (now table)) × (lists .asked ≡ 0) × (lists .accepted ≡ 0) ⌝ }
+    requires { ⌜ Stepping (now words) lists (now index)
+        × (mostContexts * (lists .rules + 1) ≤ length (now table))
+        × ((lists .hand ≡ 0 → ⊥) → InHand (now words) lists (now reps))
+        × (lists .hand ≡ 0 → KnownTable (now words) lists (now table))
+        × (lists .asked ≡ 0)
+        × (lists .accepted ≡ 0) ⌝ }
     ensures { λ r. ⌜ EndedAs (now (words .entry)) lists (advanceOf (tablesOf (now (words .entry)) lists)) r (now (words .exit)) ⌝ }
 {
     if lists.hand == 0 {

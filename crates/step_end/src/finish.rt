@@ -70,7 +70,11 @@ fn left_by(step: Step, lists: Lists, s: [u16; MOST_STATES]) -> Stepped
 
 // Nothing in hand: the first unknown is asked, or the automaton is proposed. Rows of the table without an unknown answer are right.
 pub fn finish(words: &mut [u32], lists: Lists, index: &mut [u16], table: &mut [u8]) -> Stepped
-    requires { ⌜ Stepping (now words) lists (now index) × KnownTable (now words) lists (now table) × (lists .hand ≡ 0) × (lists .asked ≡ 0) × (lists .accepted ≡ 0) ⌝ }
+    requires { ⌜ Stepping (now words) lists (now index)
+        × KnownTable (now words) lists (now table)
+        × (lists .hand ≡ 0)
+        × (lists .asked ≡ 0)
+        × (lists .accepted ≡ 0) ⌝ }
     ensures { λ r. ⌜ EndedAs (now (words .entry)) lists (settled (tablesOf (now (words .entry)) lists)) r (now (words .exit)) ⌝ }
 {
     let letters = lists.letters as usize;

@@ -43,7 +43,13 @@ pub fn put_down(
     down: &[u16],
     hand: Row,
 ) -> Stepped
-    requires { ⌜ Stepping (now words) lists (now index) × (mostContexts * lists .rules ≤ length (now table)) × (lists .used ≤ length (now down)) × (lists .contexts < mostContexts) × IsRecord (tablesOf (now words) lists .store) (hand .0) × Fits (tablesOf (now words) lists .store) (pathOf (now down) (tablesOf (now words) lists .store) (hand .0)) ⌝ }
+    requires { let x = tablesOf (now words) lists .store in
+        ⌜ Stepping (now words) lists (now index)
+        × (mostContexts * lists .rules ≤ length (now table))
+        × (lists .used ≤ length (now down))
+        × (lists .contexts < mostContexts)
+        × IsRecord x (hand .0)
+        × Fits x (pathOf (now down) x (hand .0)) ⌝ }
     ensures { λ r. ⌜ EndedAs (now (words .entry)) lists (putDown (tablesOf (now (words .entry)) lists) (pathOf (now (down .entry)) (tablesOf (now (words .entry)) lists .store) (hand .0))) r (now (words .exit)) ⌝ }
 {
     let letters = lists.letters as usize;

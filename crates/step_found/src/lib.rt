@@ -42,7 +42,14 @@ fn new_transition(
     hand: Row,
     spot: Row,
 ) -> Stepped
-    requires { ⌜ Stepping (now words) lists (now index) × (mostContexts * (lists .rules + 1) ≤ length (now table)) × (lists .used ≤ length (now down)) × (lists .contexts < mostContexts) × IsRecord (tablesOf (now words) lists .store) (hand .0) × IsRecord (tablesOf (now words) lists .store) (spot .0) × Fits (tablesOf (now words) lists .store) (pathOf (now down) (tablesOf (now words) lists .store) (hand .0)) ⌝ }
+    requires { let x = tablesOf (now words) lists .store in
+        ⌜ Stepping (now words) lists (now index)
+        × (mostContexts * (lists .rules + 1) ≤ length (now table))
+        × (lists .used ≤ length (now down))
+        × (lists .contexts < mostContexts)
+        × IsRecord x (hand .0)
+        × IsRecord x (spot .0)
+        × Fits x (pathOf (now down) x (hand .0)) ⌝ }
     ensures { λ r. ⌜ EndedAs (now (words .entry)) lists (searched (tablesOf (now (words .entry)) lists) (atNewTransition (hand .0) (record { row = spot .0; around = pathOf (now (down .entry)) (tablesOf (now (words .entry)) lists .store) (hand .0) }))) r (now (words .exit)) ⌝ }
 {
     if lists.rules as usize == MOST_RULES {
@@ -61,7 +68,12 @@ fn ask_exchanged(
     hand: Row,
     rep: Row,
 ) -> Stepped
-    requires { ⌜ Stepping (now words) lists (now index) × (lists .used ≤ length (now down)) × IsRecord (tablesOf (now words) lists .store) (hand .0) × (rep .0 < lists .used) × Fits (tablesOf (now words) lists .store) (pathOf (now down) (tablesOf (now words) lists .store) (hand .0)) ⌝ }
+    requires { let x = tablesOf (now words) lists .store in
+        ⌜ Stepping (now words) lists (now index)
+        × (lists .used ≤ length (now down))
+        × IsRecord x (hand .0)
+        × (rep .0 < lists .used)
+        × Fits x (pathOf (now down) x (hand .0)) ⌝ }
     ensures { λ r. ⌜ EndedAs (now (words .entry)) lists (searched (tablesOf (now (words .entry)) lists) (atUnknown (hand .0) (record { row = 0; around = pathOf (now (down .entry)) (tablesOf (now (words .entry)) lists .store) (hand .0) }) (rep .0))) r (now (words .exit)) ⌝ }
 {
     let letters = lists.letters as usize;
@@ -95,8 +107,15 @@ pub fn ended_at(
     exchanged: &[u16],
     found: Found,
 ) -> Stepped
-    requires { ⌜ Stepping (now words) lists (now index) × (mostContexts * (lists .rules + 1) ≤ length (now table)) × InHand (now words) lists (now reps) × Descended (tablesOf (now words) lists .s) (now reps) (tablesOf (now words) lists .store) (now down) (now at) (now exchanged) (lists .used) × (searchBy (tablesOf (now words) lists .s) (now reps) (tablesOf (now words) lists .store) found ≡ search (tablesOf (now words) lists .store) (tablesOf (now words) lists .answers) (tablesOf (now words) lists .s) (tablesOf (now words) lists .t) (tablesOf (now words) lists .c) (lists .hand)) ⌝ }
-    ensures { λ r. ⌜ EndedAs (now (words .entry)) lists (searched (tablesOf (now (words .entry)) lists) (searchBy (tablesOf (now (words .entry)) lists .s) (now (reps .entry)) (tablesOf (now (words .entry)) lists .store) found)) r (now (words .exit)) ⌝ }
+    requires { let x = tablesOf (now words) lists in
+        ⌜ Stepping (now words) lists (now index)
+        × (mostContexts * (lists .rules + 1) ≤ length (now table))
+        × InHand (now words) lists (now reps)
+        × Descended (x .s) (now reps) (x .store) (now down) (now at) (now exchanged) (lists .used)
+        × (searchBy (x .s) (now reps) (x .store) found ≡ search (x .store) (x .answers) (x .s) (x .t) (x .c) (lists .hand)) ⌝ }
+    ensures { λ r.
+        let x = tablesOf (now (words .entry)) lists in
+        ⌜ EndedAs (now (words .entry)) lists (searched x (searchBy (x .s) (now (reps .entry)) (x .store) found)) r (now (words .exit)) ⌝ }
 {
     match found {
         Found::NewTransition(h) => {

@@ -35,7 +35,11 @@ fn write_states(
     states: usize,
     s: &mut [u16; MOST_STATES],
 )
-    requires { ⌜ (length (now t) ≡ mostRules) × (length (now places) ≡ mostStates) × (states ≤ mostStates) × (length (now s) ≡ mostStates) × ((i : ℕ) → i < states → getD (now places) i 0 < mostRules) ⌝ }
+    requires { ⌜ (length (now t) ≡ mostRules)
+        × (length (now places) ≡ mostStates)
+        × (states ≤ mostStates)
+        × (length (now s) ≡ mostStates)
+        × ((i : ℕ) → i < states → getD (now places) i 0 < mostRules) ⌝ }
     ensures { λ _. ⌜ now (s .exit) ≡ over (rowsAt (now (t .entry)) (take states (now (places .entry)))) (now (s .entry)) ⌝ }
 {
     let mut i = 0;
@@ -59,7 +63,9 @@ fn propose(
     contexts: usize,
     table: &[u8],
 ) -> Step
-    requires { ⌜ Settling (now words) (now counts) used (now s) states (now t) rules (now c) contexts × Observed (storeOf (now words) (now counts) used) (answersIn used (now words)) (now t) rules (now c) contexts (now table) × (gapFrom (now table) contexts 0 rules ≡ Gap.Closed) ⌝ }
+    requires { ⌜ Settling (now words) (now counts) used (now s) states (now t) rules (now c) contexts
+        × Observed (storeOf (now words) (now counts) used) (answersIn used (now words)) (now t) rules (now c) contexts (now table)
+        × (gapFrom (now table) contexts 0 rules ≡ Gap.Closed) ⌝ }
     ensures { λ r. ⌜ StepAs (now (words .entry)) (now (counts .entry)) used (now (s .entry)) (settled (given (now (words .entry)) (now (counts .entry)) used (now (s .entry)) states (now (t .entry)) rules (now (c .entry)) contexts 0 0 false)) r (now (words .entry)) (now (s .exit)) ⌝ }
 {
     let mut places = [0u16; MOST_STATES];
@@ -93,7 +99,9 @@ pub fn settle(
     contexts: usize,
     table: &mut [u8],
 ) -> Step
-    requires { ⌜ Ready (now words) (now counts) used (now index) × Settling (now words) (now counts) used (now s) states (now t) rules (now c) contexts × KnownRows (storeOf (now words) (now counts) used) (answersIn used (now words)) (now t) rules (now c) contexts (now table) ⌝ }
+    requires { ⌜ Ready (now words) (now counts) used (now index)
+        × Settling (now words) (now counts) used (now s) states (now t) rules (now c) contexts
+        × KnownRows (storeOf (now words) (now counts) used) (answersIn used (now words)) (now t) rules (now c) contexts (now table) ⌝ }
     ensures { λ r. ⌜ StepAs (now (words .entry)) (now (counts .entry)) used (now (s .entry)) (settled (given (now (words .entry)) (now (counts .entry)) used (now (s .entry)) states (now (t .entry)) rules (now (c .entry)) contexts 0 0 false)) r (now (words .exit)) (now (s .exit)) ⌝ }
 {
     let n = table_answers::observe_to_gap(words, counts, used, index, t, rules, c, contexts, table);

@@ -34,7 +34,10 @@ fn differs(
     from: usize,
     a: usize,
 ) -> bool
-    requires { ⌜ Sized (now table) rules contexts × (a < rules) × (from ≤ states) × Placing (now places) states rules ⌝ }
+    requires { ⌜ Sized (now table) rules contexts
+        × (a < rules)
+        × (from ≤ states)
+        × Placing (now places) states rules ⌝ }
     ensures { λ r. ⌜ r ≡ all (differKnown (rowAt (now (table .entry)) contexts a)) (map (rowAt (now (table .entry)) contexts) (drop from (take states (now (places .entry))))) ⌝ }
 {
     let mut q = from;

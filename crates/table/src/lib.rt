@@ -122,7 +122,11 @@ pub fn state_of(
     states: usize,
     a: usize,
 ) -> State
-    requires { ⌜ Sized (now table) rules contexts × (a < rules) × (states ≤ mostStates) × (length (now places) ≡ mostStates) × ((i : ℕ) → i < states → getD (now places) i 0 < rules) ⌝ }
+    requires { ⌜ Sized (now table) rules contexts
+        × (a < rules)
+        × (states ≤ mostStates)
+        × (length (now places) ≡ mostStates)
+        × ((i : ℕ) → i < states → getD (now places) i 0 < rules) ⌝ }
     ensures { λ r. ⌜ r .0 ≡ stateAt (now (table .entry)) contexts (take states (now (places .entry))) a ⌝ }
 {
     let mut q = 0;
@@ -150,7 +154,9 @@ pub fn grow(
     places: [u16; MOST_STATES],
     states: u16,
 ) -> Growth
-    requires { ⌜ Sized (now table) rules contexts × (states ≤ mostStates) × ((i : ℕ) → i < states → getD places i 0 < rules) ⌝ }
+    requires { ⌜ Sized (now table) rules contexts
+        × (states ≤ mostStates)
+        × ((i : ℕ) → i < states → getD places i 0 < rules) ⌝ }
     ensures { λ r. ⌜ grownBy (growAt (now (table .entry)) contexts rules (take states places)) r ⌝ }
     ensures below { λ r. ⌜ ((i : ℕ) → i < r .states → getD (r .places) i 0 < rules) ⌝ }
 {

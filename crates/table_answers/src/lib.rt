@@ -13,6 +13,7 @@ use bank::ladder::MID_ROWS;
 use model::limits::MOST_CONTEXTS;
 use model::limits::MOST_ROWS;
 use model::limits::MOST_RULES;
+use table_columns::NOTE_WIDTH;
 
 pub mod whole; // whole.rt: the whole table, by sizes
 pub mod gap; // gap.rt: the table up to its first gap, by sizes
@@ -29,26 +30,40 @@ pub fn observe(
     contexts: usize,
     table: &mut [u8],
 )
-    requires { ⌜ Ready (now words) (now counts) used (now index) × Answered (now words) used × Used used (now t) rules × (length (now t) ≡ mostRules) × (rules ≤ mostRules) × Contexts (storeOf (now words) (now counts) used) (now c) contexts × (length (now c) ≡ mostContexts) × (contexts ≤ mostContexts) × (mostContexts * rules ≤ length (now table)) ⌝ }
+    requires { ⌜ Ready (now words) (now counts) used (now index)
+        × Answered (now words) used
+        × Used used (now t) rules
+        × (length (now t) ≡ mostRules)
+        × (rules ≤ mostRules)
+        × Contexts (storeOf (now words) (now counts) used) (now c) contexts
+        × (length (now c) ≡ mostContexts)
+        × (contexts ≤ mostContexts)
+        × (mostContexts * rules ≤ length (now table)) ⌝ }
     ensures { λ _. ⌜ Observed (storeOf (now (words .entry)) (now (counts .entry)) used) (answersIn used (now (words .entry))) (now (t .entry)) rules (now (c .entry)) contexts (now (table .exit)) ⌝ }
 {
+    let transitions = &t[..];
+    let members = &c[..];
     if used as usize <= MID_ROWS {
-        return whole::observe_some(words, counts, used, index, t, rules, c, contexts, table);
+        return whole::observe_some(
+            words,
+            counts,
+            used,
+            index,
+            &transitions[..rules],
+            &members[..contexts],
+            table,
+        );
     }
-    let mut list = [0u16; MOST_ROWS];
-    let mut filled = [0u16; MOST_ROWS];
+    let mut notes = [0u16; NOTE_WIDTH * MOST_ROWS];
     whole::observe_with(
         words,
         counts,
         used,
         index,
-        t,
-        rules,
-        c,
-        contexts,
+        &transitions[..rules],
+        &members[..contexts],
         table,
-        &mut list,
-        &mut filled,
+        &mut notes,
     )
 }
 
@@ -65,25 +80,40 @@ pub fn observe_to_gap(
     contexts: usize,
     table: &mut [u8],
 ) -> usize
-    requires { ⌜ Ready (now words) (now counts) used (now index) × Answered (now words) used × Used used (now t) rules × (length (now t) ≡ mostRules) × (rules ≤ mostRules) × Contexts (storeOf (now words) (now counts) used) (now c) contexts × (length (now c) ≡ mostContexts) × (contexts ≤ mostContexts) × KnownRows (storeOf (now words) (now counts) used) (answersIn used (now words)) (now t) rules (now c) contexts (now table) ⌝ }
+    requires { let x = storeOf (now words) (now counts) used in
+        ⌜ Ready (now words) (now counts) used (now index)
+        × Answered (now words) used
+        × Used used (now t) rules
+        × (length (now t) ≡ mostRules)
+        × (rules ≤ mostRules)
+        × Contexts x (now c) contexts
+        × (length (now c) ≡ mostContexts)
+        × (contexts ≤ mostContexts)
+        × KnownRows x (answersIn used (now words)) (now t) rules (now c) contexts (now table) ⌝ }
     ensures { λ r. ⌜ ToGap (storeOf (now (words .entry)) (now (counts .entry)) used) (answersIn used (now (words .entry))) (now (t .entry)) rules (now (c .entry)) contexts (now (table .exit)) r ⌝ }
 {
+    let transitions = &t[..];
+    let members = &c[..];
     if used as usize <= MID_ROWS {
-        return gap::gap_some(words, counts, used, index, t, rules, c, contexts, table);
+        return gap::gap_some(
+            words,
+            counts,
+            used,
+            index,
+            &transitions[..rules],
+            &members[..contexts],
+            table,
+        );
     }
-    let mut list = [0u16; MOST_ROWS];
-    let mut filled = [0u16; MOST_ROWS];
+    let mut notes = [0u16; NOTE_WIDTH * MOST_ROWS];
     gap::gap_with(
         words,
         counts,
         used,
         index,
-        t,
-        rules,
-        c,
-        contexts,
+        &transitions[..rules],
+        &members[..contexts],
         table,
-        &mut list,
-        &mut filled,
+        &mut notes,
     )
 }

@@ -1,4 +1,5 @@
-pub mod Listed
 pub mod Frames
-pub mod Columns
 pub mod Rows
+pub mod Marks
+pub mod Needed
+pub mod Columns

@@ -25,7 +25,9 @@ use model::limits::MOST_STATES;
 
 // All entries 0.
 fn clear(reps: &mut [u16])
-    ensures { λ _. ⌜ (length (now (reps .exit)) ≡ length (now (reps .entry))) × ((i : ℕ) → getD (now (reps .exit)) i 0 ≡ 0) ⌝ }
+    ensures { λ _.
+        ⌜ (length (now (reps .exit)) ≡ length (now (reps .entry)))
+        × ((i : ℕ) → getD (now (reps .exit)) i 0 ≡ 0) ⌝ }
 {
     let mut i = 0;
     while i < reps.len() {

@@ -43,7 +43,9 @@ pub fn print_record(
     out: &mut [u8],
     at: usize,
 ) -> usize
-    requires { ⌜ Stored (now words) (now counts) used × (row .0 < used) × (at + length (rowText (now letters) (storeOf (now words) (now counts) used) (row .0)) ≤ length (now out)) ⌝ }
+    requires { ⌜ Stored (now words) (now counts) used
+        × (row .0 < used)
+        × (at + length (rowText (now letters) (storeOf (now words) (now counts) used) (row .0)) ≤ length (now out)) ⌝ }
     ensures { λ r. ⌜ r ≡ at + length (rowText (now (letters .entry)) (storeOf (now (words .entry)) (now (counts .entry)) used) (row .0)) ⌝ }
     ensures out { λ r. ⌜ now (out .exit) ≡ putAt at (rowText (now (letters .entry)) (storeOf (now (words .entry)) (now (counts .entry)) used) (row .0)) (now (out .entry)) ⌝ }
 {
@@ -69,9 +71,17 @@ fn print_list(
     out: &mut [u8],
     at: usize,
 ) -> usize
-    requires { ⌜ Stored (now words) (now counts) used × (row .0 < used) × (place ≤ length (kidsAt (storeOf (now words) (now counts) used) (row .0))) × (at + length (others (drop place (map (rowText (now letters) (storeOf (now words) (now counts) used)) (kidsAt (storeOf (now words) (now counts) used) (row .0))))) ≤ length (now out)) ⌝ }
-    ensures { λ r. ⌜ r ≡ at + length (others (drop place (map (rowText (now (letters .entry)) (storeOf (now (words .entry)) (now (counts .entry)) used)) (kidsAt (storeOf (now (words .entry)) (now (counts .entry)) used) (row .0))))) ⌝ }
-    ensures out { λ r. ⌜ now (out .exit) ≡ putAt at (others (drop place (map (rowText (now (letters .entry)) (storeOf (now (words .entry)) (now (counts .entry)) used)) (kidsAt (storeOf (now (words .entry)) (now (counts .entry)) used) (row .0))))) (now (out .entry)) ⌝ }
+    requires { let x = storeOf (now words) (now counts) used in
+        ⌜ Stored (now words) (now counts) used
+        × (row .0 < used)
+        × (place ≤ length (kidsAt x (row .0)))
+        × (at + length (others (drop place (map (rowText (now letters) x) (kidsAt x (row .0))))) ≤ length (now out)) ⌝ }
+    ensures { λ r.
+        let x = storeOf (now (words .entry)) (now (counts .entry)) used in
+        ⌜ r ≡ at + length (others (drop place (map (rowText (now (letters .entry)) x) (kidsAt x (row .0))))) ⌝ }
+    ensures out { λ r.
+        let x = storeOf (now (words .entry)) (now (counts .entry)) used in
+        ⌜ now (out .exit) ≡ putAt at (others (drop place (map (rowText (now (letters .entry)) x) (kidsAt x (row .0))))) (now (out .entry)) ⌝ }
 {
     let symbol = rows::symbol_of(words, row);
     if place == count_of(counts, symbol) {

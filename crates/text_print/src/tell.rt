@@ -110,8 +110,12 @@ fn put_question(
     out: &mut [u8],
     at: usize,
 ) -> usize
-    requires { ⌜ Stored (now words) (now counts) used × (row .0 < used) × (at + questionRoom ≤ length (now out)) ⌝ }
-    ensures { λ r. ⌜ (r ≡ at + length (questionText (now (letters .entry)) (storeOf (now (words .entry)) (now (counts .entry)) used) (row .0))) × (r ≤ at + questionRoom) ⌝ }
+    requires { ⌜ Stored (now words) (now counts) used
+        × (row .0 < used)
+        × (at + questionRoom ≤ length (now out)) ⌝ }
+    ensures { λ r.
+        ⌜ (r ≡ at + length (questionText (now (letters .entry)) (storeOf (now (words .entry)) (now (counts .entry)) used) (row .0)))
+        × (r ≤ at + questionRoom) ⌝ }
     ensures out { λ r. ⌜ now (out .exit) ≡ putAt at (questionText (now (letters .entry)) (storeOf (now (words .entry)) (now (counts .entry)) used) (row .0)) (now (out .entry)) ⌝ }
 {
     if bank_sizes::size_of(words, counts, used, row) as usize <= MOST_LISTED {

@@ -148,7 +148,10 @@ fn read_list(
 
 // Reads a whole text as one record: its symbols, children before parent, over the start of the text; how many there are, 0 for no record.
 pub fn read_text(text: &mut [u8; MOST_INPUT], len: u32, letters: &[u8], counts: &[u8]) -> usize
-    requires { ⌜ (length (now text) ≡ mostInput) × (len ≤ mostInput) × (length (now letters) ≡ length (now counts)) × (length (now letters) ≤ mostSymbols) ⌝ }
+    requires { ⌜ (length (now text) ≡ mostInput)
+        × (len ≤ mostInput)
+        × (length (now letters) ≡ length (now counts))
+        × (length (now letters) ≤ mostSymbols) ⌝ }
     ensures { λ r. ⌜ TextAs (readText (now (letters .entry)) (now (counts .entry)) (take len (now (text .entry)))) r (now (text .exit)) ⌝ }
 {
     if !is_balanced(text, len) {

@@ -97,7 +97,8 @@ fn unread(words: &[u32], script: Script, out: &mut [u8]) -> Replied
 
 // A call that was made, of which this was seen.
 fn told(words: &[u32], script: Script, seen: Seen, out: &mut [u8]) -> Replied
-    requires { ⌜ Tellable (now words) (countsOf script) (script .lists .used) seen × (replyRoom ≤ length (now out)) ⌝ }
+    requires { ⌜ Tellable (now words) (countsOf script) (script .lists .used) seen
+        × (replyRoom ≤ length (now out)) ⌝ }
     ensures { λ r. ⌜ ReplyAs (toldOf (now (words .entry)) script seen) r (now (words .entry)) (now (out .entry)) (now (out .exit)) ⌝ }
 {
     let letters = script.letters;
@@ -141,7 +142,9 @@ fn first(words: &mut [u32], script: Script, line: &[u8], out: &mut [u8]) -> Repl
 
 // An offer: its record is read, and it is made if there is one.
 fn offer(words: &mut [u32], script: Script, line: &[u8], mark: u8, out: &mut [u8]) -> Replied
-    requires { ⌜ (replyRoom ≤ length (now out)) × (2 ≤ length (now line)) × (length (now line) ≤ mostInput) ⌝ }
+    requires { ⌜ (replyRoom ≤ length (now out))
+        × (2 ≤ length (now line))
+        × (length (now line) ≤ mostInput) ⌝ }
     ensures { λ r. ⌜ ReplyAs (heard (now (words .entry)) script (offering (readText (lettersOf script) (countsOf script) (drop 2 (now (line .entry)))) mark)) r (now (words .exit)) (now (out .entry)) (now (out .exit)) ⌝ }
 {
     let letters = script.letters;

@@ -3,7 +3,7 @@
 use mathlib.Core.Path.{_≡_, refl, sym, ap, _∙_}
 use mathlib.Core.Bool.{Bool, true, false}
 use mathlib.Core.List.{List, [], _∷_, _++_, map}
-use Prim.Native.Nat.{ℕ, zero, suc, _+_, _*_, _-_, _≤_, _<_}
+use Prim.Native.Nat.{ℕ, zero, suc, _+_, _*_, _≤_, _<_}
 use native.Mathlib.Omega.{arith}
 use native.Mathlib.Numerals.{add-one}
 use borrow.Author.Tests.{ltb-true, ltb-false}
@@ -18,7 +18,7 @@ use Rattle.table.specs.Answers.{rowAt, Observed, KnownRows}
 use Rattle.table.proofs.Laws.Rows.{row-at, row-length}
 use Rattle.bank.proofs.Laws.Trees.{by-equal}
 
-map-at : (f : ℕ → ℕ) (ks : List ℕ) (j : ℕ) → j < length ks → getD (map f ks) j 0 ≡ f (getD ks j 0)
+pub map-at : (f : ℕ → ℕ) (ks : List ℕ) (j : ℕ) → j < length ks → getD (map f ks) j 0 ≡ f (getD ks j 0)
 map-at f [] j l = absurd (omega arith)
 map-at f (k ∷ ks) zero l = refl
 map-at f (k ∷ ks) (suc j) l = map-at f ks j (omega arith)
@@ -33,24 +33,16 @@ module _ (x : Store) (w c : List ℕ) (m row : ℕ) (enough : m ≤ length c) wh
       map-at (λ (i : ℕ). answerIn x w i row) (take m c) j (omega (arith, length-take-le m c enough)) ∙
       ap (λ (i : ℕ). answerIn x w i row) (getD-take m c j 0 l)
 
-  -- put one by one from a place on
-  module _ (tb : List ℕ) (at : ℕ) (fits : at + m ≤ length tb) where
-    pub put-none : tb ≡ paste tb at (answersOf x w (take m c) row) 0
-    put-none = paste-zero tb at (answersOf x w (take m c) row)
+-- NUMBERS PUT one by one from a place on
+module _ (vs tb : List ℕ) (at : ℕ) (fits : at + length vs ≤ length tb) where
+  pub put-none : tb ≡ paste tb at vs 0
+  put-none = paste-zero tb at vs
 
-    pub put-more : {us : List ℕ} (j v : ℕ) → j < m → us ≡ paste tb at (answersOf x w (take m c) row) j → v ≡ answerIn x w (getD c j 0) row →
-        set us (at + j) v ≡ paste tb at (answersOf x w (take m c) row) (j + 1)
-    put-more j v l e a =
-        (λ t. set (e t) (at + j) ((a ∙ sym (answers-at j l)) t)) ∙
-        paste-suc tb at (answersOf x w (take m c) row) j 0 (omega arith) (omega (arith, answers-length)) ∙
-        ap (paste tb at (answersOf x w (take m c) row)) (sym (add-one j))
+  pub put-more : {us : List ℕ} (j v : ℕ) → j < length vs → us ≡ paste tb at vs j → v ≡ getD vs j 0 → set us (at + j) v ≡ paste tb at vs (j + 1)
+  put-more j v l e a = (λ t. set (e t) (at + j) (a t)) ∙ paste-suc tb at vs j 0 (omega arith) l ∙ ap (paste tb at vs) (sym (add-one j))
 
-    pub put-all : {us : List ℕ} (j : ℕ) → j ≡ m → us ≡ paste tb at (answersOf x w (take m c) row) j → us ≡ sets tb at (answersOf x w (take m c) row)
-    put-all j s e =
-        let vs = answersOf x w (take m c) row in
-        let l = s ∙ sym answers-length in
-        e ∙ ap (paste tb at vs) l ∙ ap (λ (us : List ℕ). take at tb ++ us ++ drop (at + length vs) tb) (take-length vs) ∙
-        sym (sets-eq vs tb at (omega (arith, answers-length)))
+  pub put-all : {us : List ℕ} (j : ℕ) → j ≡ length vs → us ≡ paste tb at vs j → us ≡ sets tb at vs
+  put-all j s e = e ∙ ap (paste tb at vs) s ∙ ap (λ (us : List ℕ). take at tb ++ us ++ drop (at + length vs) tb) (take-length vs) ∙ sym (sets-eq vs tb at fits)
 
 -- A RUN OF STORES, number by number
 sets-before : (tb : List ℕ) (at : ℕ) (vs : List ℕ) (j : ℕ) → j < at → getD (sets tb at vs) j 0 ≡ getD tb j 0
