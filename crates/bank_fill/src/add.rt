@@ -32,7 +32,10 @@ pub fn row_for(
 ) -> Grown
     requires { ⌜ Ready (now words) (now counts) used (now index)
         × PlacesAsked (storeOf (now words) (now counts) used) symbol places hole ⌝ }
-    ensures { λ r. ⌜ Came (now (words .entry)) (now (counts .entry)) used (rowFor (storeOf (now (words .entry)) (now (counts .entry)) used) symbol (kidsOf (now (counts .entry)) symbol places)) r (now (words .exit)) (now (index .exit)) ⌝ }
+    ensures { λ r.
+        let x = storeOf (now (words .entry)) (now (counts .entry)) used in
+        let made = rowFor x symbol (kidsOf (now (counts .entry)) symbol places) in
+        ⌜ Came (now (words .entry)) (now (counts .entry)) used made r (now (words .exit)) (now (index .exit)) ⌝ }
 {
     put(words, used, index, symbol, places, hole)
 }
@@ -80,7 +83,8 @@ pub fn fill(
         × Fits x (pathOf (now down) x (row .0)) ⌝ }
     ensures { λ r.
         let x = storeOf (now (words .entry)) (now (counts .entry)) used in
-        ⌜ Came (now (words .entry)) (now (counts .entry)) used (fillOf x (pathOf (now (down .entry)) x (row .0)) (with .0)) r (now (words .exit)) (now (index .exit)) ⌝ }
+        let made = fillOf x (pathOf (now (down .entry)) x (row .0)) (with .0) in
+        ⌜ Came (now (words .entry)) (now (counts .entry)) used made r (now (words .exit)) (now (index .exit)) ⌝ }
 {
     let i = row.0 as usize;
     if down[i] == 0 {
@@ -100,7 +104,12 @@ fn fill_frames(
     index: &mut [u16],
 ) -> Grown
     requires { ⌜ Under (λ (counts : List ℕ). FramesAsked (now words) counts used (now index) (now down) (row .0) (with .0)) ⌝ }
-    ensures { λ r. ⌜ ((counts : List ℕ) → FramesAsked (now (words .entry)) counts used (now (index .entry)) (now (down .entry)) (row .0) (with .0) → Came (now (words .entry)) counts used (fillOf (storeOf (now (words .entry)) counts used) (pathOf (now (down .entry)) (storeOf (now (words .entry)) counts used) (row .0)) (with .0)) r (now (words .exit)) (now (index .exit))) ⌝ }
+    ensures { λ r.
+        ⌜ ((counts : List ℕ) →
+        FramesAsked (now (words .entry)) counts used (now (index .entry)) (now (down .entry)) (row .0) (with .0) →
+        let x = storeOf (now (words .entry)) counts used in
+        let made = fillOf x (pathOf (now (down .entry)) x (row .0)) (with .0) in
+        Came (now (words .entry)) counts used made r (now (words .exit)) (now (index .exit))) ⌝ }
 {
     let i = row.0 as usize;
     let k = down[i] as usize - 1;
@@ -119,7 +128,11 @@ fn fill_frames(
 // The row that is `row` but for the child at a place, found or added.
 fn above(words: &mut [u32], used: u16, index: &mut [u16], row: Row, place: usize, kid: Row) -> Grown
     requires { ⌜ Lent (now words) used (now index) × (row .0 < used) × (place < 4) × (kid .0 < used) ⌝ }
-    ensures { λ r. ⌜ Put (now (words .entry)) used (now (index .entry)) (symbolIn (now (words .entry)) (row .0)) (set (placesIn (now (words .entry)) (row .0)) place (kid .0)) (holeAbove (now (index .entry)) (kid .0) place) r (now (words .exit)) (now (index .exit)) ⌝ }
+    ensures { λ r.
+        let symbol = symbolIn (now (words .entry)) (row .0) in
+        let places = set (placesIn (now (words .entry)) (row .0)) place (kid .0) in
+        let hole = holeAbove (now (index .entry)) (kid .0) place in
+        ⌜ Put (now (words .entry)) used (now (index .entry)) symbol places hole r (now (words .exit)) (now (index .exit)) ⌝ }
 {
     let symbol = rows::symbol_of(words, row);
     let mut places = rows::places_of(words, row);

@@ -6,15 +6,12 @@ ghost use lib.ListN.{length, getD};
 ghost use Rattle.model.specs.Store.{hasHole, framesOf, fill as fillOf};
 ghost use Rattle.model.specs.Entry.{storeOf};
 ghost use Rattle.bank.specs.Index.{sizeIn, holeOf};
-ghost use Rattle.bank.specs.Ladder.{smallRows};
 ghost use Rattle.bank.specs.Ready.{Ready};
 ghost use Rattle.bank_fill.specs.Adding.{Came};
 use crate::add;
 use crate::add::Grown;
 use bank::index;
-use bank::ladder::SMALL_ROWS;
 use model::Row;
-use model::limits::MOST_ROWS;
 
 // The marks of the used rows, copied.
 fn copy_marks(index: &[u16], used: u16, down: &mut [u16])
@@ -29,8 +26,8 @@ fn copy_marks(index: &[u16], used: u16, down: &mut [u16])
     }
 }
 
-// A context filled with a record, with room for the way down.
-fn fill_marked(
+// A context filled with a record; the way down is copied to `down`.
+pub fn fill_context(
     words: &mut [u32],
     counts: &[u8],
     used: u16,
@@ -46,54 +43,9 @@ fn fill_marked(
         × (used ≤ length (now down)) ⌝ }
     ensures { λ r.
         let x = storeOf (now (words .entry)) (now (counts .entry)) used in
-        ⌜ Came (now (words .entry)) (now (counts .entry)) used (fillOf x (framesOf x (context .0)) (with .0)) r (now (words .exit)) (now (index .exit)) ⌝ }
+        let made = fillOf x (framesOf x (context .0)) (with .0) in
+        ⌜ Came (now (words .entry)) (now (counts .entry)) used made r (now (words .exit)) (now (index .exit)) ⌝ }
 {
     copy_marks(index, used, down);
     add::fill(words, counts, used, index, down, context, with)
-}
-
-// The same where few rows are used.
-fn fill_few(
-    words: &mut [u32],
-    counts: &[u8],
-    used: u16,
-    index: &mut [u16],
-    context: Row,
-    with: Row,
-) -> Grown
-    requires { ⌜ Ready (now words) (now counts) used (now index)
-        × (context .0 < used)
-        × (hasHole (storeOf (now words) (now counts) used) (context .0) ≡ true)
-        × (with .0 < used)
-        × (used ≤ smallRows) ⌝ }
-    ensures { λ r.
-        let x = storeOf (now (words .entry)) (now (counts .entry)) used in
-        ⌜ Came (now (words .entry)) (now (counts .entry)) used (fillOf x (framesOf x (context .0)) (with .0)) r (now (words .exit)) (now (index .exit)) ⌝ }
-{
-    let mut down = [0u16; SMALL_ROWS];
-    fill_marked(words, counts, used, index, context, with, &mut down)
-}
-
-// The same, whatever is used.
-pub fn fill_context(
-    words: &mut [u32],
-    counts: &[u8],
-    used: u16,
-    index: &mut [u16],
-    context: Row,
-    with: Row,
-) -> Grown
-    requires { ⌜ Ready (now words) (now counts) used (now index)
-        × (context .0 < used)
-        × (hasHole (storeOf (now words) (now counts) used) (context .0) ≡ true)
-        × (with .0 < used) ⌝ }
-    ensures { λ r.
-        let x = storeOf (now (words .entry)) (now (counts .entry)) used in
-        ⌜ Came (now (words .entry)) (now (counts .entry)) used (fillOf x (framesOf x (context .0)) (with .0)) r (now (words .exit)) (now (index .exit)) ⌝ }
-{
-    if used as usize <= SMALL_ROWS {
-        return fill_few(words, counts, used, index, context, with);
-    }
-    let mut down = [0u16; MOST_ROWS];
-    fill_marked(words, counts, used, index, context, with, &mut down)
 }

@@ -1,3 +1,4 @@
 -- The laws, in reading order: a file uses those above it.
 pub mod Called
 pub mod Started
+pub mod Looked

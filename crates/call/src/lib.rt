@@ -1,12 +1,14 @@
-// call: start, by value, and what a call that changes a run returns (§3.2).
+// call: start, by value, and what the calls return and tell (§3.2, §3.3).
 // Start leaves row 0 the hole and the lists of a run that has learnt nothing; 18 and 17 refuse it.
 ghost use mathlib.Core.Path.{_≡_};
-ghost use Prim.Native.Nat.{_≤_};
+ghost use mathlib.Core.Bool.{true};
+ghost use mathlib.Core.List.{List};
+ghost use Prim.Native.Nat.{ℕ, _≤_};
 ghost use lib.ListN.{length};
 ghost use Rattle.model.specs.Limits.{mostSymbols};
 ghost use Rattle.model.specs.Base.{over};
-ghost use Rattle.model.specs.Calls.{started};
-ghost use Rattle.model.specs.Entry.{zeroLists, listsOf, refused};
+ghost use Rattle.model.specs.Calls.{started, look as lookOf};
+ghost use Rattle.model.specs.Entry.{zeroLists, listsFit, listsOf, tablesOf, seenOf, refused};
 ghost use Rattle.call.specs.Calls.{StartAs};
 use bank::rows;
 use model::Lists;
@@ -31,6 +33,28 @@ pub fn refuse(number: u8, lists: Lists) -> Done
     Done {
         seen: sound_parts::refusal(number),
         lists: lists,
+    }
+}
+
+// What looking tells of lists that are within their arrays, whatever the words are.
+pub fn told(lists: Lists) -> Seen
+    requires { ⌜ listsFit lists ≡ true ⌝ }
+    ensures { λ r. ⌜ ((words : List ℕ) → r ≡ seenOf (lookOf (tablesOf words lists))) ⌝ }
+{
+    let mut phase = 0;
+    if lists.asked != 0 {
+        phase = 1;
+    }
+    if lists.accepted == 1 {
+        phase = 2;
+    }
+    Seen {
+        number: 0,
+        phase: phase,
+        row: lists.asked,
+        states: lists.states,
+        rules: lists.rules,
+        contexts: lists.contexts,
     }
 }
 

@@ -1,10 +1,11 @@
-// call: emitting, by value: 18, 30, 31, 20, then the list of the proposed automaton (§3.7).
+// call: emitting from sound tables, by value: 31, 20, then the list of the proposed automaton (§3.7).
 // The bytes past the list stay.
 ghost use mathlib.Core.Path.{_≡_};
 ghost use mathlib.Core.Bool.{true};
 ghost use Prim.Native.Nat.{ℕ, _+_, _*_, _<_, _≤_};
 ghost use lib.ListN.{length, getD, take};
 ghost use Rattle.model.specs.Limits.{mostRules, mostStates, rowWidth};
+ghost use Rattle.model.specs.Base.{placeOf};
 ghost use Rattle.model.specs.Table.{finalsOf};
 ghost use Rattle.model.specs.Sound.{isSound};
 ghost use Rattle.model.specs.Entry.{storeOf, answersIn, sizeFits, listsFit, tablesOf, emitSeen, emitOut};
@@ -12,15 +13,13 @@ ghost use Rattle.bank.specs.Rows.{Within};
 ghost use Rattle.table_verdict.specs.Rows.{RowsIn};
 ghost use Rattle.table_verdict.specs.Rules.{ruleBy, Ruled};
 ghost use Rattle.list.specs.Flat.{flatRule, flatAutomaton, Short, ruleWidth};
-ghost use Rattle.sound.specs.Working.{Working};
+ghost use Rattle.sound.specs.Proposal.{Proposal};
 ghost use Rattle.call_emit.specs.Proposal.{finalByte, Transition, Flat, SixAt, listedSeen, listedOut};
-use bank::index::INDEX_WIDTH;
 use bank::rows;
 use model::Emitted;
 use model::Lists;
 use model::Row;
-use model::limits::MOST_CONTEXTS;
-use model::limits::MOST_ROWS;
+use model::State;
 use model::limits::MOST_RULES;
 use model::limits::MOST_STATES;
 
@@ -55,6 +54,14 @@ fn write_finals(words: &[u32], used: u16, s: &[u16], finals: &mut [u8; MOST_STAT
     }
 }
 
+// The state of a representative: its place in S.
+fn state_of(s: &[u16], rep: Row) -> State
+    requires { ⌜ length (now s) ≤ mostStates ⌝ }
+    ensures { λ r. ⌜ r .0 ≡ placeOf (rep .0) 0 (now (s .entry)) ⌝ }
+{
+    State(run_lists::place_of(s, rep) as u16)
+}
+
 // The rule of a transition: symbol, child states, target.
 fn rule_bytes(
     words: &[u32],
@@ -81,12 +88,12 @@ fn rule_bytes(
     let mut i = 0;
     while i < count {
         let kid = rows::kid_of(words, row, i) as u16;
-        let state = run_lists::place_of(s, Row(kid));
-        bytes[1 + i] = state as u8;
+        let state = state_of(s, Row(kid));
+        bytes[1 + i] = state.0 as u8;
         i += 1;
     }
-    let target = run_lists::place_of(s, Row(reps[row.0 as usize]));
-    bytes[5] = target as u8;
+    let target = state_of(s, Row(reps[row.0 as usize]));
+    bytes[5] = target.0 as u8;
     bytes
 }
 
@@ -132,7 +139,7 @@ fn write_rules(
 }
 
 // A refusal: its number and nothing else.
-fn refuse(number: u32) -> Emitted
+pub fn refuse(number: u32) -> Emitted
     ensures { λ r. ⌜ (r .number ≡ number) × (r .size ≡ 0) ⌝ }
 {
     Emitted {
@@ -159,20 +166,12 @@ fn write_listed(counts: &[u8], finals: &[u8], rules: &[u8], out: &mut [u8]) -> E
 }
 
 // The list of the proposed automaton of sound tables with no question open: 20, or its bytes.
-fn emit_proposed(
-    words: &[u32],
-    lists: Lists,
-    index: &[u16],
-    table: &[u8],
-    places: &[u16; MOST_STATES],
-    reps: &[u16],
-    out: &mut [u8],
-) -> Emitted
+fn emit_proposed(words: &[u32], lists: Lists, reps: &[u16], out: &mut [u8]) -> Emitted
     requires { ⌜ (sizeFits (now words) ≡ true)
         × (listsFit lists ≡ true)
         × (isSound (tablesOf (now words) lists) ≡ true)
         × (lists .asked ≡ 0)
-        × Working (now words) (take (lists .letters) (lists .counts)) (lists .used) (lists .s) (lists .states) (lists .t) (lists .rules) (lists .c) (lists .contexts) (now index) (now table) (now places) (now reps) ⌝ }
+        × Proposal (now words) lists (now reps) ⌝ }
     ensures { λ r. ⌜ r ≡ emitSeen (now (words .entry)) lists (now (out .entry)) ⌝ }
     ensures bytes { λ r. ⌜ now (out .exit) ≡ emitOut (now (words .entry)) lists (now (out .entry)) ⌝ }
 {
@@ -197,35 +196,17 @@ fn emit_proposed(
     )
 }
 
-// Emitting from tables of a size that fits, in lists that fit.
-fn emit_within(words: &[u32], lists: Lists, out: &mut [u8]) -> Emitted
-    requires { ⌜ (sizeFits (now words) ≡ true) × (listsFit lists ≡ true) ⌝ }
+// Emitting from sound tables: 31, 20, then the bytes and their count.
+pub fn emit_sound(words: &[u32], lists: Lists, reps: &[u16], out: &mut [u8]) -> Emitted
+    requires { ⌜ (sizeFits (now words) ≡ true)
+        × (listsFit lists ≡ true)
+        × (isSound (tablesOf (now words) lists) ≡ true)
+        × (lists .asked ≡ 0 → Proposal (now words) lists (now reps)) ⌝ }
     ensures { λ r. ⌜ r ≡ emitSeen (now (words .entry)) lists (now (out .entry)) ⌝ }
     ensures bytes { λ r. ⌜ now (out .exit) ≡ emitOut (now (words .entry)) lists (now (out .entry)) ⌝ }
 {
-    let mut index = [0u16; INDEX_WIDTH * MOST_ROWS];
-    let mut table = [0u8; MOST_CONTEXTS * MOST_RULES];
-    let mut places = [0u16; MOST_STATES];
-    let mut reps = [0u16; MOST_ROWS];
-    if !sound::lists_sound(words, lists, &mut index, &mut table, &mut places, &mut reps) {
-        return refuse(30);
-    }
     if lists.asked != 0 {
         return refuse(31);
     }
-    emit_proposed(words, lists, &index, &table, &places, &reps, out)
-}
-
-// Emitting: 18, 30, 31, 20, then the bytes and their count.
-pub fn emit(words: &[u32], lists: Lists, out: &mut [u8]) -> Emitted
-    ensures { λ r. ⌜ r ≡ emitSeen (now (words .entry)) lists (now (out .entry)) ⌝ }
-    ensures bytes { λ r. ⌜ now (out .exit) ≡ emitOut (now (words .entry)) lists (now (out .entry)) ⌝ }
-{
-    if !sound_parts::size_fits(words) {
-        return refuse(18);
-    }
-    if !sound_parts::lists_fit(lists) {
-        return refuse(30);
-    }
-    emit_within(words, lists, out)
+    emit_proposed(words, lists, reps, out)
 }

@@ -6,7 +6,7 @@ use Rattle.model.specs.Terms.{recordFault}
 use Rattle.model.specs.Calls.{offerFault}
 use Rattle.model.specs.Entry.{tablesOf}
 use Rattle.model.specs.declared.Lists.{Lists}
-use Rattle.step_end.specs.Stepping.{countsIn}
+use Rattle.run_lists.specs.Members.{countsIn}
 
 -- no question open, not accepted, 11 to 16 not given
 pub record Tested (l : Lists) (xs : List ℕ) (m : ℕ) : Type 0 where

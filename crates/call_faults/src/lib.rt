@@ -2,14 +2,13 @@
 ghost use mathlib.Core.Path.{_≡_};
 ghost use mathlib.Core.Bool.{true};
 ghost use Rattle.model.specs.Calls.{offerFault, verdictIs};
-ghost use Rattle.model.specs.Sound.{isSound};
-ghost use Rattle.model.specs.Entry.{sizeFits, listsFit, tablesOf};
-ghost use Rattle.sound.specs.Working.{Working};
-ghost use Rattle.step_end.specs.Stepping.{countsIn};
+ghost use Rattle.model.specs.Entry.{listsFit, tablesOf};
+ghost use Rattle.bank.specs.Ready.{Ready};
+ghost use Rattle.run_lists.specs.Members.{countsIn};
+ghost use Rattle.sound.specs.Proposal.{Proposal};
 ghost use Rattle.call_faults.specs.Lines.{InputFault, Tested};
 use bank::rows;
 use model::Lists;
-use model::limits::MOST_STATES;
 
 // The number of the first line that refuses an offer without a look at the tables, 31 or 11 to 16; 0 for none.
 fn input_fault(lists: Lists, symbols: &[u8], mark: u8) -> u8
@@ -34,20 +33,18 @@ fn input_fault(lists: Lists, symbols: &[u8], mark: u8) -> u8
     0
 }
 
-// Whether the mark is the verdict of the hypothesis, on an offer that no line before 32 refuses.
+// Whether the mark is the verdict of the proposed automaton, on an offer that no line before 32 refuses.
 fn verdict_is(
     words: &[u32],
     lists: Lists,
     symbols: &[u8],
     mark: u8,
     index: &[u16],
-    table: &[u8],
-    places: &[u16; MOST_STATES],
     reps: &[u16],
 ) -> bool
     requires { ⌜ (listsFit lists ≡ true)
-        × (isSound (tablesOf (now words) lists) ≡ true)
-        × Working (now words) (countsIn lists) (lists .used) (lists .s) (lists .states) (lists .t) (lists .rules) (lists .c) (lists .contexts) (now index) (now table) (now places) (now reps)
+        × Ready (now words) (countsIn lists) (lists .used) (now index)
+        × Proposal (now words) lists (now reps)
         × Tested lists (now symbols) mark ⌝ }
     ensures { λ r. ⌜ r ≡ verdictIs (tablesOf (now (words .entry)) lists) (now (symbols .entry)) mark ⌝ }
 {
@@ -71,21 +68,18 @@ pub fn fault_of(
     symbols: &[u8],
     mark: u8,
     index: &[u16],
-    table: &[u8],
-    places: &[u16; MOST_STATES],
     reps: &[u16],
 ) -> u8
-    requires { ⌜ (sizeFits (now words) ≡ true)
-        × (listsFit lists ≡ true)
-        × (isSound (tablesOf (now words) lists) ≡ true)
-        × Working (now words) (countsIn lists) (lists .used) (lists .s) (lists .states) (lists .t) (lists .rules) (lists .c) (lists .contexts) (now index) (now table) (now places) (now reps) ⌝ }
+    requires { ⌜ (listsFit lists ≡ true)
+        × Ready (now words) (countsIn lists) (lists .used) (now index)
+        × (lists .asked ≡ 0 → Proposal (now words) lists (now reps)) ⌝ }
     ensures { λ r. ⌜ r ≡ offerFault (tablesOf (now (words .entry)) lists) (now (symbols .entry)) mark ⌝ }
 {
     let fault = input_fault(lists, symbols, mark);
     if fault != 0 {
         return fault;
     }
-    if verdict_is(words, lists, symbols, mark, index, table, places, reps) {
+    if verdict_is(words, lists, symbols, mark, index, reps) {
         return 32;
     }
     let letters = lists.letters as usize;

@@ -1,1 +1,3 @@
+-- The laws, in reading order: a file uses those above it.
 pub mod First
+pub mod Reads

@@ -4,27 +4,27 @@ ghost use mathlib.Core.Path.{_≡_};
 ghost use mathlib.Core.Bool.{true};
 ghost use Prim.Native.Nat.{_<_, _+_, _*_, _≤_};
 ghost use lib.ListN.{length};
-ghost use Rattle.bank.specs.Ladder.{midRows, midRules, smallRows, smallRules, tinyRows, tinyRules};
+ghost use Rattle.call_room.specs.Ladder.{midRows, midRules, smallRows, smallRules, tinyRows, tinyRules};
 ghost use Rattle.model.specs.Limits.{rowWidth};
 ghost use Rattle.model.specs.Entry.{sizeFits, listsFit};
 ghost use Rattle.call.specs.Calls.{CallAs};
 ghost use Rattle.call_lent.specs.Said.{callOf};
 ghost use Rattle.call_room.specs.Tried.{FirstAs, moreSpareRows, spareRows};
+use crate::ladder;
+use crate::ladder::MID_ROWS;
+use crate::ladder::MID_RULES;
+use crate::ladder::SMALL_ROWS;
+use crate::ladder::SMALL_RULES;
+use crate::ladder::TINY_ROWS;
+use crate::ladder::TINY_RULES;
 use bank::index::INDEX_WIDTH;
-use bank::ladder;
-use bank::ladder::MID_ROWS;
-use bank::ladder::MID_RULES;
-use bank::ladder::SMALL_ROWS;
-use bank::ladder::SMALL_RULES;
-use bank::ladder::TINY_ROWS;
-use bank::ladder::TINY_RULES;
+use bank::notes::NOTE_WIDTH;
 use call::Done;
 use call_lent::Said;
 use model::Lists;
 use model::limits::MOST_CONTEXTS;
 use model::limits::MOST_ROWS;
 use model::limits::MOST_RULES;
-use model::limits::MOST_STATES;
 use model::limits::MOST_WORDS;
 use model::limits::ROW_WIDTH;
 
@@ -50,8 +50,7 @@ fn in_tiny(words: &mut [u32], lists: Lists, symbols: &[u8], said: Said, saved: &
 {
     let mut index = [0u16; INDEX_WIDTH * TINY_ROWS];
     let mut table = [0u8; MOST_CONTEXTS * TINY_RULES];
-    let mut places = [0u16; MOST_STATES];
-    let mut reps = [0u16; TINY_ROWS];
+    let mut notes = [0u16; NOTE_WIDTH * TINY_ROWS];
     call_lent::call_in(
         words,
         lists,
@@ -60,8 +59,7 @@ fn in_tiny(words: &mut [u32], lists: Lists, symbols: &[u8], said: Said, saved: &
         saved,
         &mut index,
         &mut table,
-        &mut places,
-        &mut reps,
+        &mut notes,
     )
 }
 
@@ -76,8 +74,7 @@ fn in_small(words: &mut [u32], lists: Lists, symbols: &[u8], said: Said, saved: 
 {
     let mut index = [0u16; INDEX_WIDTH * SMALL_ROWS];
     let mut table = [0u8; MOST_CONTEXTS * SMALL_RULES];
-    let mut places = [0u16; MOST_STATES];
-    let mut reps = [0u16; SMALL_ROWS];
+    let mut notes = [0u16; NOTE_WIDTH * SMALL_ROWS];
     call_lent::call_in(
         words,
         lists,
@@ -86,8 +83,7 @@ fn in_small(words: &mut [u32], lists: Lists, symbols: &[u8], said: Said, saved: 
         saved,
         &mut index,
         &mut table,
-        &mut places,
-        &mut reps,
+        &mut notes,
     )
 }
 
@@ -102,8 +98,7 @@ fn in_mid(words: &mut [u32], lists: Lists, symbols: &[u8], said: Said, saved: &m
 {
     let mut index = [0u16; INDEX_WIDTH * MID_ROWS];
     let mut table = [0u8; MOST_CONTEXTS * MID_RULES];
-    let mut places = [0u16; MOST_STATES];
-    let mut reps = [0u16; MID_ROWS];
+    let mut notes = [0u16; NOTE_WIDTH * MID_ROWS];
     call_lent::call_in(
         words,
         lists,
@@ -112,8 +107,7 @@ fn in_mid(words: &mut [u32], lists: Lists, symbols: &[u8], said: Said, saved: &m
         saved,
         &mut index,
         &mut table,
-        &mut places,
-        &mut reps,
+        &mut notes,
     )
 }
 
@@ -126,8 +120,7 @@ fn in_wide(words: &mut [u32], lists: Lists, symbols: &[u8], said: Said, saved: &
 {
     let mut index = [0u16; INDEX_WIDTH * MOST_ROWS];
     let mut table = [0u8; MOST_CONTEXTS * (MOST_RULES + 1)];
-    let mut places = [0u16; MOST_STATES];
-    let mut reps = [0u16; MOST_ROWS];
+    let mut notes = [0u16; NOTE_WIDTH * MOST_ROWS];
     call_lent::call_in(
         words,
         lists,
@@ -136,8 +129,7 @@ fn in_wide(words: &mut [u32], lists: Lists, symbols: &[u8], said: Said, saved: &
         saved,
         &mut index,
         &mut table,
-        &mut places,
-        &mut reps,
+        &mut notes,
     )
 }
 

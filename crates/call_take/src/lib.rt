@@ -7,15 +7,14 @@ ghost use Rattle.model.specs.Limits.{mostContexts, rowWidth};
 ghost use Rattle.model.specs.Calls.{answers, offers, offerFault};
 ghost use Rattle.model.specs.Sound.{isSound};
 ghost use Rattle.model.specs.Entry.{sizeFits, listsFit, tablesOf};
-ghost use Rattle.sound.specs.Working.{Working};
-ghost use Rattle.step_end.specs.Stepping.{countsIn, closed as closedOf, takenUp};
+ghost use Rattle.sound.specs.Working.{WorkingOn};
+ghost use Rattle.step_end.specs.Stepping.{closed as closedOf, takenUp};
 ghost use Rattle.call.specs.Calls.{CallAs};
 use bank::rows;
 use bank_fill::add::Grown;
 use call::Done;
 use model::Lists;
 use model::Row;
-use model::limits::MOST_STATES;
 
 // The lists with the question closed.
 fn closed(lists: Lists) -> Lists
@@ -35,15 +34,14 @@ pub fn take_answer(
     saved: &mut [u32],
     index: &mut [u16],
     table: &mut [u8],
-    places: &[u16; MOST_STATES],
-    reps: &[u16],
+    notes: &mut [u16],
 ) -> Done
     requires { ⌜ (sizeFits (now words) ≡ true)
         × (listsFit lists ≡ true)
         × (isSound (tablesOf (now words) lists) ≡ true)
         × (lists .asked ≡ 0 → ⊥)
         × (mark ≤ 1)
-        × Working (now words) (countsIn lists) (lists .used) (lists .s) (lists .states) (lists .t) (lists .rules) (lists .c) (lists .contexts) (now index) (now table) (now places) (now reps)
+        × WorkingOn (now words) lists (now index) (now table) (now notes)
         × (length (now words) ≤ rowWidth * lists .used + length (now saved))
         × (mostContexts * (lists .rules + 1) ≤ length (now table)) ⌝ }
     ensures { λ r. ⌜ CallAs (now (words .entry)) lists (answers mark) r (now (words .exit)) ⌝ }
@@ -52,7 +50,7 @@ pub fn take_answer(
     let asked = Row(lists.asked);
     rows::set_answer(words, asked, mark as u32 + 1);
     let given = closed(lists);
-    let stepped = step::advance(words, given, index, table, reps);
+    let stepped = step::advance(words, given, index, table, notes);
     let number = stepped.number;
     if number != 0 {
         bank_undo::restore(words, lists.used, saved);
@@ -61,7 +59,7 @@ pub fn take_answer(
     }
     let left = stepped.lists;
     Done {
-        seen: call_look::told(words, left),
+        seen: call::told(left),
         lists: left,
     }
 }
@@ -87,15 +85,14 @@ pub fn take_offer(
     saved: &mut [u32],
     index: &mut [u16],
     table: &mut [u8],
-    places: &[u16; MOST_STATES],
-    reps: &[u16],
+    notes: &mut [u16],
 ) -> Done
     requires { let x = tablesOf (now words) lists in
         ⌜ (sizeFits (now words) ≡ true)
         × (listsFit lists ≡ true)
         × (isSound x ≡ true)
         × (offerFault x (now symbols) mark ≡ 0)
-        × Working (now words) (countsIn lists) (lists .used) (lists .s) (lists .states) (lists .t) (lists .rules) (lists .c) (lists .contexts) (now index) (now table) (now places) (now reps)
+        × WorkingOn (now words) lists (now index) (now table) (now notes)
         × (length (now words) ≤ rowWidth * lists .used + length (now saved))
         × (mostContexts * (lists .rules + 1) ≤ length (now table)) ⌝ }
     ensures { λ r. ⌜ CallAs (now (words .entry)) lists (offers (now (symbols .entry)) mark) r (now (words .exit)) ⌝ }
@@ -112,7 +109,7 @@ pub fn take_offer(
             let old = rows::answer_of(words, row);
             rows::set_answer(words, row, mark as u32 + 1);
             let given = taken_up(lists, row, n);
-            let stepped = step::in_hand(words, given, index, table, reps);
+            let stepped = step::in_hand(words, given, index, table, notes);
             let number = stepped.number;
             if number != 0 {
                 rows::set_answer(words, row, old);
@@ -121,7 +118,7 @@ pub fn take_offer(
             }
             let left = stepped.lists;
             Done {
-                seen: call_look::told(words, left),
+                seen: call::told(left),
                 lists: left,
             }
         }

@@ -164,7 +164,9 @@ fn filled(
     if used <= with {
         return refused();
     }
-    let grown = context::fill_context(words, counts, used, index, Row(context), Row(with));
+    let mut down = [0u16; MOST_ROWS];
+    let around = Row(context);
+    let grown = context::fill_context(words, counts, used, index, around, Row(with), &mut down);
     reply_of(grown)
 }
 

@@ -2,4 +2,7 @@
 pub mod Prepared
 pub mod Hand
 pub mod Judged
+pub mod Members
+pub mod Working
 pub mod Rooms
+pub mod Proposal

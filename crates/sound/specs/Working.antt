@@ -9,38 +9,49 @@ use Rattle.model.specs.Limits.{rowWidth, mostContexts, mostRules, mostStates}
 use Rattle.model.specs.Table.{Tables}
 use Rattle.model.specs.Sound.{isT1, contextsFew, isT5, isT6, isT7, isT8}
 use Rattle.model.specs.Entry.{storeOf, answersIn}
+use Rattle.model.specs.declared.Lists.{Lists}
 use Rattle.bank.specs.Rows.{answerIn}
 use Rattle.bank.specs.Index.{Roomy}
 use Rattle.bank.specs.Ready.{Ready}
+use Rattle.bank.specs.Notes.{roomIn, repsIn}
+use Rattle.run_lists.specs.Members.{countsIn}
 use Rattle.table.specs.Answers.{Observed, Placing, Placed, gapFrom, isOpen}
 use Rattle.sound_roles.specs.Marked.{recordBy}
 use Rattle.table_verdict.specs.Rules.{RepsBy, acceptsBy}
-use Rattle.sound_parts.specs.Given.{rolesFit}
+use Rattle.sound_parts.specs.Given.{rolesFit, questionFits}
+use Rattle.sound.specs.declared.Standing.{Standing}
 
--- the run's lists in their arrays
+-- the run's lists in their arrays: the first q of S, the first n of T, the first m of C
 pub record Arrays (s : List ℕ) (q : ℕ) (t : List ℕ) (n : ℕ) (c : List ℕ) (m : ℕ) : Type 0 where
-  pub s-long : length s ≡ mostStates
-  pub few-s : q ≤ mostStates
-  pub t-long : length t ≡ mostRules
-  pub few-t : n ≤ mostRules
-  pub c-long : length c ≡ mostContexts
-  pub few-c : m ≤ mostContexts
+  pub few-s : q ≤ length s
+  pub few-t : n ≤ length t
+  pub few-c : m ≤ length c
 
--- room to work in, for all rows lent and n transitions
-pub record Room (words : List ℕ) (n : ℕ) (index table places reps : List ℕ) : Type 0 where
+-- lists of members that are no longer than their arrays may be
+pub record Few (s t c : List ℕ) : Type 0 where
+  pub few-s : length s ≤ mostStates
+  pub few-t : length t ≤ mostRules
+  pub few-c : length c ≤ mostContexts
+
+-- ROOM to work in, for all rows lent and n transitions
+pub record Room (words : List ℕ) (n : ℕ) (index table notes : List ℕ) : Type 0 where
   pub rows : Roomy words index
   pub table-long : mostContexts * n ≤ length table
-  pub places-long : length places ≡ mostStates
-  pub reps-long : length words ≤ rowWidth * length reps
+  pub notes-long : length words ≤ rowWidth * roomIn notes
 
--- the index, the table of answers, S by its places in T; where no answer is missing, the representative of each transition
-pub record Working (words counts : List ℕ) (u : ℕ) (s : List ℕ) (q : ℕ) (t : List ℕ) (n : ℕ) (c : List ℕ) (m : ℕ) (index table places reps : List ℕ) : Type 0 where
+-- WHAT THE TEST LEAVES: the index, the table of answers; where no answer is missing, the representative of each transition, which is found by S as places in T
+pub record Working (words counts : List ℕ) (u : ℕ) (s : List ℕ) (q : ℕ) (t : List ℕ) (n : ℕ) (c : List ℕ) (m : ℕ) (index table notes : List ℕ) : Type 0 where
   pub ready : Ready words counts u index
   pub observed : Observed (storeOf words counts u) (answersIn u words) t n c m table
-  pub placing : Placing places q n
-  pub placed : Placed t n s q places
-  pub reps-by : isOpen (gapFrom table m 0 n) ≡ false → RepsBy table m (take q places) (take q s) (take n t) reps
-  pub reps-long : length words ≤ rowWidth * length reps
+  pub s-in-t : List ℕ
+  pub placing : Placing s-in-t q n
+  pub placed : Placed t n s q s-in-t
+  pub reps-by : isOpen (gapFrom table m 0 n) ≡ false → RepsBy table m (take q s-in-t) (take q s) (take n t) (repsIn notes)
+  pub notes-long : length words ≤ rowWidth * roomIn notes
+
+-- the same of the lists of a run
+abbrev pub WorkingOn : (words : List ℕ) → Lists → (index table notes : List ℕ) → Type 0
+WorkingOn ws l index table notes = Working ws (countsIn l) (l .used) (l .s) (l .states) (l .t) (l .rules) (l .c) (l .contexts) index table notes
 
 -- T1, T2, T3, and T4 but for its last clause; then the rest
 abbrev pub preparedFit : Tables → Bool
@@ -53,3 +64,7 @@ judgedFit x = (contextsFew x && (isT5 x && isT6 x)) && (isT7 x && isT8 x)
 abbrev pub handFits : (words counts : List ℕ) → (u : ℕ) → (reps index : List ℕ) → (hand : ℕ) → (missing : Bool) → Bool
 handFits ws ns u reps ix h b =
     eqb h 0 || (recordBy ix u h && (eqb (answerIn ws h) (cond (acceptsBy (storeOf ws ns u) (answersIn u ws) reps h) 1 2) && not b))
+
+-- T7 and T8 so
+abbrev pub standingFits : (words counts : List ℕ) → (u : ℕ) → (reps index : List ℕ) → Standing → (missing : Bool) → Bool
+standingFits ws ns u reps ix r b = handFits ws ns u reps ix (r .hand) b && questionFits ws ix u (r .hand) (r .asked) (r .accepted) b

@@ -1,68 +1,57 @@
 // sound: the soundness test whole, on any words and any lists, and what it leaves for a step (§2.3).
 ghost use mathlib.Core.Path.{_≡_};
 ghost use mathlib.Core.Bool.{true, false};
-ghost use Prim.Native.Nat.{ℕ, _*_, _<_, _≤_};
+ghost use Prim.Native.Nat.{ℕ, _<_, _≤_};
 ghost use lib.Dec.{eqb};
 ghost use lib.ListN.{length, getD, take};
-ghost use Rattle.model.specs.Limits.{mostContexts, mostRules, mostStates};
+ghost use Rattle.model.specs.Limits.{mostStates};
 ghost use Rattle.model.specs.Base.{noRepeats, allAmong};
+ghost use Rattle.model.specs.Table.{tables};
 ghost use Rattle.model.specs.Sound.{isSound};
 ghost use Rattle.model.specs.Entry.{storeOf, answersIn, sizeFits, listsFit, tablesOf};
-ghost use Rattle.bank.specs.Index.{Roomy};
 ghost use Rattle.bank.specs.Ready.{Ready};
+ghost use Rattle.bank.specs.Notes.{roomIn, repsIn};
 ghost use Rattle.table.specs.Answers.{Sized, Observed, Placing, Placed, gapFrom, isOpen};
 ghost use Rattle.table_verdict.specs.Rules.{RepsBy, RepsIn};
-ghost use Rattle.sound_parts.specs.Given.{given};
-ghost use Rattle.sound.specs.Working.{Arrays, Room, Working, preparedFit, judgedFit, handFits};
+ghost use Rattle.sound.specs.Working.{Few, Room, Working, WorkingOn, preparedFit, handFits, standingFits};
+use bank::notes::NOTE_WIDTH;
 use bank::rows;
 use model::Lists;
 use model::Row;
-use model::limits::MOST_CONTEXTS;
-use model::limits::MOST_RULES;
 use model::limits::MOST_STATES;
 use sound_parts::judge;
 
-// S by its places in T, and whether an answer is missing; where none is, the representative of each transition too.
+// S by its places in T, and whether an answer is missing; where none is, the representative of each transition too, into the notes.
 fn represent(
     table: &[u8],
     contexts: usize,
-    s: &[u16; MOST_STATES],
-    states: usize,
-    t: &[u16; MOST_RULES],
-    rules: usize,
-    places: &mut [u16; MOST_STATES],
-    reps: &mut [u16],
+    s: &[u16],
+    t: &[u16],
+    s_in_t: &mut [u16; MOST_STATES],
+    notes: &mut [u16],
 ) -> bool
-    requires { let ts = take rules (now t) in
-        ⌜ Sized (now table) rules contexts
-        × (length (now s) ≡ mostStates)
-        × (states ≤ mostStates)
-        × (length (now t) ≡ mostRules)
-        × (rules ≤ mostRules)
-        × (length (now places) ≡ mostStates)
-        × (allAmong (take states (now s)) ts ≡ true)
-        × ((k : ℕ) → k < rules → getD (now t) k 0 < length (now reps))
-        × (noRepeats ts ≡ true) ⌝ }
+    requires { ⌜ Sized (now table) (length (now t)) contexts
+        × (length (now s) ≤ mostStates)
+        × (length (now s_in_t) ≡ mostStates)
+        × (allAmong (now s) (now t) ≡ true)
+        × ((k : ℕ) → k < length (now t) → getD (now t) k 0 < roomIn (now notes))
+        × (noRepeats (now t) ≡ true) ⌝ }
     ensures { λ r.
-        ⌜ (r ≡ isOpen (gapFrom (now (table .entry)) contexts 0 rules))
-        × Placing (now (places .exit)) states rules
-        × Placed (now (t .entry)) rules (now (s .entry)) states (now (places .exit))
-        × (isOpen (gapFrom (now (table .entry)) contexts 0 rules) ≡ false → RepsBy (now (table .entry)) contexts (take states (now (places .exit))) (take states (now (s .entry))) (take rules (now (t .entry))) (now (reps .exit))) ⌝ }
+        let states = length (now (s .entry)) in
+        let rules = length (now (t .entry)) in
+        let gap = gapFrom (now (table .entry)) contexts 0 rules in
+        let places = now (s_in_t .exit) in
+        ⌜ (r ≡ isOpen gap)
+        × Placing places states rules
+        × Placed (now (t .entry)) rules (now (s .entry)) states places
+        × (isOpen gap ≡ false → RepsBy (now (table .entry)) contexts (take states places) (now (s .entry)) (now (t .entry)) (repsIn (now (notes .exit)))) ⌝ }
 {
-    let all_s = &s[..];
-    let all_t = &t[..];
-    judge::find_s_in_t(&all_s[..states], &all_t[..rules], places);
-    if judge::is_missing(table, rules, contexts) {
+    judge::find_s_in_t(s, t, s_in_t);
+    if judge::is_missing(table, t.len(), contexts) {
         return true;
     }
-    table_verdict::find_reps(
-        table,
-        contexts,
-        places,
-        &all_s[..states],
-        &all_t[..rules],
-        reps,
-    );
+    let size = notes.len() / NOTE_WIDTH;
+    table_verdict::find_reps(table, contexts, s_in_t, s, t, &mut notes[..size]);
     false
 }
 
@@ -71,56 +60,52 @@ fn prepare(
     words: &[u32],
     counts: &[u8],
     used: u16,
-    s: &[u16; MOST_STATES],
-    states: usize,
-    t: &[u16; MOST_RULES],
-    rules: usize,
-    c: &[u16; MOST_CONTEXTS],
-    contexts: usize,
+    s: &[u16],
+    t: &[u16],
+    c: &[u16],
     index: &mut [u16],
     table: &mut [u8],
+    notes: &mut [u16],
 ) -> bool
     requires { ⌜ (sizeFits (now words) ≡ true)
-        × Arrays (now s) states (now t) rules (now c) contexts
-        × Roomy (now words) (now index)
-        × (mostContexts * rules ≤ length (now table)) ⌝ }
-    ensures { λ r. ⌜ r ≡ preparedFit (given (now (words .entry)) (now (counts .entry)) used (now (s .entry)) states (now (t .entry)) rules (now (c .entry)) contexts 0 0 false) ⌝ }
-    ensures observed { λ r. ⌜ (r ≡ true → Ready (now (words .entry)) (now (counts .entry)) used (now (index .exit)) × Observed (storeOf (now (words .entry)) (now (counts .entry)) used) (answersIn used (now (words .entry))) (now (t .entry)) rules (now (c .entry)) contexts (now (table .exit))) ⌝ }
+        × Few (now s) (now t) (now c)
+        × Room (now words) (length (now t)) (now index) (now table) (now notes) ⌝ }
+    ensures { λ r.
+        let x = storeOf (now (words .entry)) (now (counts .entry)) used in
+        let w = answersIn used (now (words .entry)) in
+        ⌜ r ≡ preparedFit (tables x w (now (s .entry)) (now (t .entry)) (now (c .entry)) 0 0 false) ⌝ }
+    ensures observed { λ r.
+        let x = storeOf (now (words .entry)) (now (counts .entry)) used in
+        let w = answersIn used (now (words .entry)) in
+        let rules = length (now (t .entry)) in
+        let contexts = length (now (c .entry)) in
+        ⌜ (r ≡ true → Ready (now (words .entry)) (now (counts .entry)) used (now (index .exit)) × Observed x w (now (t .entry)) rules (now (c .entry)) contexts (now (table .exit))) ⌝ }
 {
     if !bank_t1::t1(words, counts, used, index) {
         return false;
     }
-    let all_s = &s[..];
-    let all_t = &t[..];
-    let all_c = &c[..];
-    if !judge::roles_fit(
-        words,
-        counts,
-        used,
-        index,
-        &all_s[..states],
-        &all_t[..rules],
-        &all_c[..contexts],
-    ) {
+    if !judge::roles_fit(words, counts, used, index, s, t, c) {
         return false;
     }
-    table_answers::observe(words, counts, used, index, t, rules, c, contexts, table);
+    table_answers::observe(words, counts, used, index, t, c, table, notes);
     true
 }
 
-// T7: the record in hand.
+// T7: the record in hand. The representatives stay.
 fn hand_fits(
     words: &[u32],
     counts: &[u8],
     used: u16,
     index: &[u16],
-    reps: &[u16],
+    notes: &mut [u16],
     hand: u16,
     missing: bool,
 ) -> bool
     requires { ⌜ Ready (now words) (now counts) used (now index)
-        × (missing ≡ false → RepsIn used (now reps)) ⌝ }
-    ensures { λ r. ⌜ r ≡ handFits (now (words .entry)) (now (counts .entry)) used (now (reps .entry)) (now (index .entry)) hand missing ⌝ }
+        × (used ≤ roomIn (now notes))
+        × (missing ≡ false → RepsIn used (repsIn (now notes))) ⌝ }
+    ensures { λ r. ⌜ r ≡ handFits (now (words .entry)) (now (counts .entry)) used (repsIn (now (notes .entry))) (now (index .entry)) hand missing ⌝ }
+    ensures reps { λ r. ⌜ repsIn (now (notes .exit)) ≡ repsIn (now (notes .entry)) ⌝ }
 {
     if hand == 0 {
         return true;
@@ -132,7 +117,7 @@ fn hand_fits(
         return false;
     }
     let answer = rows::answer_of(words, Row(hand));
-    if table_verdict::accepts_row(words, counts, used, index, reps, Row(hand)) {
+    if table_verdict::accepts_row(words, counts, used, index, notes, Row(hand)) {
         return answer == 1;
     }
     answer == 2
@@ -145,34 +130,23 @@ struct Standing {
     accepted: u8,
 }
 
-// T4's last clause and T5 to T8, by what has been worked out.
-fn judged(
+// T7 and T8. The representatives stay.
+fn standing_fits(
     words: &[u32],
     counts: &[u8],
     used: u16,
-    s: &[u16; MOST_STATES],
-    states: usize,
-    t: &[u16; MOST_RULES],
-    rules: usize,
-    c: &[u16; MOST_CONTEXTS],
-    contexts: usize,
     index: &[u16],
-    table: &[u8],
-    places: &[u16; MOST_STATES],
-    reps: &[u16],
+    notes: &mut [u16],
     standing: Standing,
     missing: bool,
 ) -> bool
-    requires { ⌜ Arrays (now s) states (now t) rules (now c) contexts
-        × Working (now words) (now counts) used (now s) states (now t) rules (now c) contexts (now index) (now table) (now places) (now reps)
-        × (preparedFit (given (now words) (now counts) used (now s) states (now t) rules (now c) contexts 0 0 false) ≡ true)
-        × (missing ≡ isOpen (gapFrom (now table) contexts 0 rules)) ⌝ }
-    ensures { λ r. ⌜ r ≡ judgedFit (given (now (words .entry)) (now (counts .entry)) used (now (s .entry)) states (now (t .entry)) rules (now (c .entry)) contexts (standing .hand) (standing .asked) (eqb (standing .accepted) 1)) ⌝ }
+    requires { ⌜ Ready (now words) (now counts) used (now index)
+        × (used ≤ roomIn (now notes))
+        × (missing ≡ false → RepsIn used (repsIn (now notes))) ⌝ }
+    ensures { λ r. ⌜ r ≡ standingFits (now (words .entry)) (now (counts .entry)) used (repsIn (now (notes .entry))) (now (index .entry)) standing missing ⌝ }
+    ensures reps { λ r. ⌜ repsIn (now (notes .exit)) ≡ repsIn (now (notes .entry)) ⌝ }
 {
-    if !judge::table_fits(table, places, states, rules, contexts, missing) {
-        return false;
-    }
-    if !hand_fits(words, counts, used, index, reps, standing.hand, missing) {
+    if !hand_fits(words, counts, used, index, notes, standing.hand, missing) {
         return false;
     }
     judge::question_fits(
@@ -191,57 +165,36 @@ fn is_sound(
     words: &[u32],
     counts: &[u8],
     used: u16,
-    s: &[u16; MOST_STATES],
-    states: usize,
-    t: &[u16; MOST_RULES],
-    rules: usize,
-    c: &[u16; MOST_CONTEXTS],
-    contexts: usize,
+    s: &[u16],
+    t: &[u16],
+    c: &[u16],
     standing: Standing,
     index: &mut [u16],
     table: &mut [u8],
-    places: &mut [u16; MOST_STATES],
-    reps: &mut [u16],
+    notes: &mut [u16],
 ) -> bool
     requires { ⌜ (sizeFits (now words) ≡ true)
-        × Arrays (now s) states (now t) rules (now c) contexts
-        × Room (now words) rules (now index) (now table) (now places) (now reps) ⌝ }
-    ensures { λ r. ⌜ r ≡ isSound (given (now (words .entry)) (now (counts .entry)) used (now (s .entry)) states (now (t .entry)) rules (now (c .entry)) contexts (standing .hand) (standing .asked) (eqb (standing .accepted) 1)) ⌝ }
-    ensures working { λ r. ⌜ (r ≡ true → Working (now (words .entry)) (now (counts .entry)) used (now (s .entry)) states (now (t .entry)) rules (now (c .entry)) contexts (now (index .exit)) (now (table .exit)) (now (places .exit)) (now (reps .exit))) ⌝ }
+        × Few (now s) (now t) (now c)
+        × Room (now words) (length (now t)) (now index) (now table) (now notes) ⌝ }
+    ensures { λ r.
+        let x = storeOf (now (words .entry)) (now (counts .entry)) used in
+        let w = answersIn used (now (words .entry)) in
+        ⌜ r ≡ isSound (tables x w (now (s .entry)) (now (t .entry)) (now (c .entry)) (standing .hand) (standing .asked) (eqb (standing .accepted) 1)) ⌝ }
+    ensures working { λ r.
+        let states = now (s .entry) in
+        let rules = now (t .entry) in
+        let contexts = now (c .entry) in
+        ⌜ (r ≡ true → Working (now (words .entry)) (now (counts .entry)) used states (length states) rules (length rules) contexts (length contexts) (now (index .exit)) (now (table .exit)) (now (notes .exit))) ⌝ }
 {
-    if !prepare(
-        words,
-        counts,
-        used,
-        s,
-        states,
-        t,
-        rules,
-        c,
-        contexts,
-        index,
-        table,
-    ) {
+    if !prepare(words, counts, used, s, t, c, index, table, notes) {
         return false;
     }
-    let missing = represent(table, contexts, s, states, t, rules, places, reps);
-    judged(
-        words,
-        counts,
-        used,
-        s,
-        states,
-        t,
-        rules,
-        c,
-        contexts,
-        index,
-        table,
-        places,
-        reps,
-        standing,
-        missing,
-    )
+    let mut s_in_t = [0u16; MOST_STATES];
+    let missing = represent(table, c.len(), s, t, &mut s_in_t, notes);
+    if !judge::table_fits(table, &s_in_t, s.len(), t.len(), c.len(), missing) {
+        return false;
+    }
+    standing_fits(words, counts, used, index, notes, standing, missing)
 }
 
 // The same of lists as they are lent.
@@ -250,16 +203,18 @@ pub fn lists_sound(
     lists: Lists,
     index: &mut [u16],
     table: &mut [u8],
-    places: &mut [u16; MOST_STATES],
-    reps: &mut [u16],
+    notes: &mut [u16],
 ) -> bool
     requires { ⌜ (sizeFits (now words) ≡ true)
         × (listsFit lists ≡ true)
-        × Room (now words) (lists .rules) (now index) (now table) (now places) (now reps) ⌝ }
+        × Room (now words) (lists .rules) (now index) (now table) (now notes) ⌝ }
     ensures { λ r. ⌜ r ≡ isSound (tablesOf (now (words .entry)) lists) ⌝ }
-    ensures working { λ r. ⌜ (r ≡ true → Working (now (words .entry)) (take (lists .letters) (lists .counts)) (lists .used) (lists .s) (lists .states) (lists .t) (lists .rules) (lists .c) (lists .contexts) (now (index .exit)) (now (table .exit)) (now (places .exit)) (now (reps .exit))) ⌝ }
+    ensures working { λ r. ⌜ (r ≡ true → WorkingOn (now (words .entry)) lists (now (index .exit)) (now (table .exit)) (now (notes .exit))) ⌝ }
 {
     let letters = lists.letters as usize;
+    let states = lists.states as usize;
+    let rules = lists.rules as usize;
+    let contexts = lists.contexts as usize;
     let counts = lists.counts;
     let s = lists.s;
     let t = lists.t;
@@ -273,16 +228,12 @@ pub fn lists_sound(
         words,
         &counts[..letters],
         lists.used,
-        &s,
-        lists.states as usize,
-        &t,
-        lists.rules as usize,
-        &c,
-        lists.contexts as usize,
+        &s[..states],
+        &t[..rules],
+        &c[..contexts],
         standing,
         index,
         table,
-        places,
-        reps,
+        notes,
     )
 }

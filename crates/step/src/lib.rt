@@ -3,41 +3,33 @@
 ghost use mathlib.Core.Path.{_≡_};
 ghost use Prim.Native.Nat.{_+_, _*_, _≤_};
 ghost use lib.ListN.{length};
-ghost use Rattle.bank.specs.Ladder.{smallRows};
 ghost use Rattle.model.specs.Limits.{mostContexts};
 ghost use Rattle.model.specs.Steps.{advance as advanceOf, search};
 ghost use Rattle.model.specs.Entry.{tablesOf};
+ghost use Rattle.bank.specs.Notes.{repsIn, downIn, spotsIn, exchangedIn};
 ghost use Rattle.step_search.specs.Spots.{Descended, searchBy};
-ghost use Rattle.step_end.specs.Stepping.{Stepping, KnownTable, InHand, EndedAs};
-use bank::ladder::SMALL_ROWS;
+ghost use Rattle.step_end.specs.Stepping.{Stepping, Noting, KnownTable, InHand, EndedAs};
 use model::Lists;
 use model::Row;
-use model::limits::MOST_ROWS;
 use step_end::finish;
 use step_end::finish::Stepped;
 use step_search::Found;
 
 // The parts of the lists lent to the search in hand.
-fn find(
-    words: &[u32],
-    lists: Lists,
-    index: &[u16],
-    reps: &[u16],
-    down: &mut [u16],
-    at: &mut [u16],
-    exchanged: &mut [u16],
-) -> Found
+fn find(words: &[u32], lists: Lists, index: &[u16], notes: &mut [u16]) -> Found
     requires { ⌜ Stepping (now words) lists (now index)
-        × InHand (now words) lists (now reps)
-        × (lists .used ≤ length (now down))
-        × (lists .used ≤ length (now at))
-        × (lists .used ≤ length (now exchanged)) ⌝ }
+        × Noting (now words) (now notes)
+        × InHand (now words) lists (repsIn (now notes)) ⌝ }
     ensures { λ r.
         let x = tablesOf (now (words .entry)) lists in
-        ⌜ Descended (x .s) (now (reps .entry)) (x .store) (now (down .exit)) (now (at .exit)) (now (exchanged .exit)) (lists .used) ⌝ }
+        let reps = repsIn (now (notes .entry)) in
+        let after = now (notes .exit) in
+        ⌜ (repsIn after ≡ reps)
+        × Descended (x .s) reps (x .store) (downIn after) (spotsIn after) (exchangedIn after) (lists .used) ⌝ }
     ensures ended { λ r.
         let x = tablesOf (now (words .entry)) lists in
-        ⌜ searchBy (x .s) (now (reps .entry)) (x .store) r ≡ search (x .store) (x .answers) (x .s) (x .t) (x .c) (lists .hand) ⌝ }
+        let reps = repsIn (now (notes .entry)) in
+        ⌜ searchBy (x .s) reps (x .store) r ≡ search (x .store) (x .answers) (x .s) (x .t) (x .c) (lists .hand) ⌝ }
 {
     let letters = lists.letters as usize;
     let counts = lists.counts;
@@ -46,98 +38,28 @@ fn find(
         &counts[..letters],
         lists.used,
         index,
-        reps,
-        down,
-        at,
-        exchanged,
+        notes,
         Row(lists.hand),
     )
 }
 
-// With a record in hand: the search, and what its end asks for. The arrays lent have room for the rows used.
-fn in_hand_with(
-    words: &mut [u32],
-    lists: Lists,
-    index: &mut [u16],
-    table: &mut [u8],
-    reps: &[u16],
-    down: &mut [u16],
-    at: &mut [u16],
-    exchanged: &mut [u16],
-) -> Stepped
-    requires { ⌜ Stepping (now words) lists (now index)
-        × (mostContexts * (lists .rules + 1) ≤ length (now table))
-        × InHand (now words) lists (now reps)
-        × (lists .hand ≡ 0 → ⊥)
-        × (lists .used ≤ length (now down))
-        × (lists .used ≤ length (now at))
-        × (lists .used ≤ length (now exchanged)) ⌝ }
-    ensures { λ r. ⌜ EndedAs (now (words .entry)) lists (advanceOf (tablesOf (now (words .entry)) lists)) r (now (words .exit)) ⌝ }
-{
-    let found = find(words, lists, index, reps, down, at, exchanged);
-    step_found::ended_at(words, lists, index, table, reps, down, at, exchanged, found)
-}
-
-// The same where few rows are used.
-fn in_hand_few(
-    words: &mut [u32],
-    lists: Lists,
-    index: &mut [u16],
-    table: &mut [u8],
-    reps: &[u16],
-) -> Stepped
-    requires { ⌜ Stepping (now words) lists (now index)
-        × (mostContexts * (lists .rules + 1) ≤ length (now table))
-        × InHand (now words) lists (now reps)
-        × (lists .hand ≡ 0 → ⊥)
-        × (lists .used ≤ smallRows) ⌝ }
-    ensures { λ r. ⌜ EndedAs (now (words .entry)) lists (advanceOf (tablesOf (now (words .entry)) lists)) r (now (words .exit)) ⌝ }
-{
-    let mut down = [0u16; SMALL_ROWS];
-    let mut at = [0u16; SMALL_ROWS];
-    let mut exchanged = [0u16; SMALL_ROWS];
-    in_hand_with(
-        words,
-        lists,
-        index,
-        table,
-        reps,
-        &mut down,
-        &mut at,
-        &mut exchanged,
-    )
-}
-
-// The same, whatever is used.
+// With a record in hand: the search, and what its end asks for.
 pub fn in_hand(
     words: &mut [u32],
     lists: Lists,
     index: &mut [u16],
     table: &mut [u8],
-    reps: &[u16],
+    notes: &mut [u16],
 ) -> Stepped
     requires { ⌜ Stepping (now words) lists (now index)
+        × Noting (now words) (now notes)
         × (mostContexts * (lists .rules + 1) ≤ length (now table))
-        × InHand (now words) lists (now reps)
+        × InHand (now words) lists (repsIn (now notes))
         × (lists .hand ≡ 0 → ⊥) ⌝ }
     ensures { λ r. ⌜ EndedAs (now (words .entry)) lists (advanceOf (tablesOf (now (words .entry)) lists)) r (now (words .exit)) ⌝ }
 {
-    if lists.used as usize <= SMALL_ROWS {
-        return in_hand_few(words, lists, index, table, reps);
-    }
-    let mut down = [0u16; MOST_ROWS];
-    let mut at = [0u16; MOST_ROWS];
-    let mut exchanged = [0u16; MOST_ROWS];
-    in_hand_with(
-        words,
-        lists,
-        index,
-        table,
-        reps,
-        &mut down,
-        &mut at,
-        &mut exchanged,
-    )
+    let found = find(words, lists, index, notes);
+    step_found::ended_at(words, lists, index, table, notes, found)
 }
 
 // A step. With nothing in hand, rows of the table without an unknown answer are right; there is room in it for one transition more.
@@ -146,18 +68,19 @@ pub fn advance(
     lists: Lists,
     index: &mut [u16],
     table: &mut [u8],
-    reps: &[u16],
+    notes: &mut [u16],
 ) -> Stepped
     requires { ⌜ Stepping (now words) lists (now index)
+        × Noting (now words) (now notes)
         × (mostContexts * (lists .rules + 1) ≤ length (now table))
-        × ((lists .hand ≡ 0 → ⊥) → InHand (now words) lists (now reps))
+        × ((lists .hand ≡ 0 → ⊥) → InHand (now words) lists (repsIn (now notes)))
         × (lists .hand ≡ 0 → KnownTable (now words) lists (now table))
         × (lists .asked ≡ 0)
         × (lists .accepted ≡ 0) ⌝ }
     ensures { λ r. ⌜ EndedAs (now (words .entry)) lists (advanceOf (tablesOf (now (words .entry)) lists)) r (now (words .exit)) ⌝ }
 {
     if lists.hand == 0 {
-        return finish::finish(words, lists, index, table);
+        return finish::finish(words, lists, index, table, notes);
     }
-    in_hand(words, lists, index, table, reps)
+    in_hand(words, lists, index, table, notes)
 }

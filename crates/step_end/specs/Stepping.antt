@@ -2,9 +2,9 @@
 use mathlib.Core.Path.{_≡_}
 use mathlib.Core.Bool.{Bool, true, cond}
 use mathlib.Core.List.{List}
-use Prim.Native.Nat.{ℕ, _+_, _≤_, _<_}
-use lib.ListN.{take, set}
-use Rattle.model.specs.Limits.{mostContexts}
+use Prim.Native.Nat.{ℕ, _+_, _*_, _≤_, _<_}
+use lib.ListN.{length, set}
+use Rattle.model.specs.Limits.{mostContexts, rowWidth}
 use Rattle.model.specs.Base.{In, among}
 use Rattle.model.specs.Table.{Tables, answerAt}
 use Rattle.model.specs.Steps.{shortageNumber, Ended, short, asks, proposes}
@@ -13,6 +13,8 @@ use Rattle.model.specs.TableFacts.{Whole, HandFits}
 use Rattle.model.specs.Entry.{listsFit, tablesOf, listsOf}
 use Rattle.model.specs.declared.Lists.{Lists}
 use Rattle.bank.specs.Ready.{Ready, Kept}
+use Rattle.bank.specs.Notes.{roomIn}
+use Rattle.run_lists.specs.Members.{countsIn, contextsIn}
 use Rattle.table.specs.Answers.{KnownRows}
 use Rattle.bank_undo.specs.Left.{Left}
 use Rattle.step_search.specs.Spots.{Handling}
@@ -26,14 +28,15 @@ pub record Orderly (x : Tables) : Type 0 where
   pub context : (c : ℕ) → In c (x .c) → IsContext (x .store) c
   pub among : (i : ℕ) → In i (x .s) → In i (x .t)
 
-abbrev pub countsIn : Lists → List ℕ
-countsIn l = take (l .letters) (l .counts)
-
 -- WHAT A STEP NEEDS: orderly tables in lists that fit, and a right index over them
 pub record Stepping (words : List ℕ) (l : Lists) (index : List ℕ) : Type 0 where
   pub ready : Ready words (countsIn l) (l .used) index
   pub orderly : Orderly (tablesOf words l)
   pub fit : listsFit l ≡ true
+
+-- and notes for all rows lent
+abbrev pub Noting : (words notes : List ℕ) → Type 0
+Noting ws ns = length ws ≤ rowWidth * roomIn ns
 
 -- with nothing in hand: a table of answers whose rows without an unknown answer are right
 abbrev pub KnownTable : (words : List ℕ) → Lists → (table : List ℕ) → Type 0
@@ -119,7 +122,7 @@ contextIn b l i n = record {
 
 -- appended if it is absent
 abbrev pub withContext : Lists → (context used : ℕ) → Lists
-withContext l i n = contextIn (among i (take (l .contexts) (l .c))) l i n
+withContext l i n = contextIn (among i (contextsIn l)) l i n
 
 abbrev pub closed : Lists → Lists
 closed l = record {

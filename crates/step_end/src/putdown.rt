@@ -7,9 +7,11 @@ ghost use Rattle.model.specs.Facts.{IsRecord, Fits};
 ghost use Rattle.model.specs.Steps.{putDown};
 ghost use Rattle.model.specs.Entry.{tablesOf};
 ghost use Rattle.bank.specs.Ready.{pathOf};
-ghost use Rattle.step_end.specs.Stepping.{Stepping, EndedAs, withContext};
+ghost use Rattle.bank.specs.Notes.{downIn};
+ghost use Rattle.step_end.specs.Stepping.{Stepping, Noting, EndedAs, withContext};
 use crate::finish;
 use crate::finish::Stepped;
+use bank::notes;
 use bank_fill::add;
 use bank_fill::add::Grown;
 use model::Lists;
@@ -40,20 +42,24 @@ pub fn put_down(
     lists: Lists,
     index: &mut [u16],
     table: &mut [u8],
-    down: &[u16],
+    notes: &mut [u16],
     hand: Row,
 ) -> Stepped
     requires { let x = tablesOf (now words) lists .store in
         ⌜ Stepping (now words) lists (now index)
+        × Noting (now words) (now notes)
         × (mostContexts * lists .rules ≤ length (now table))
-        × (lists .used ≤ length (now down))
         × (lists .contexts < mostContexts)
         × IsRecord x (hand .0)
-        × Fits x (pathOf (now down) x (hand .0)) ⌝ }
-    ensures { λ r. ⌜ EndedAs (now (words .entry)) lists (putDown (tablesOf (now (words .entry)) lists) (pathOf (now (down .entry)) (tablesOf (now (words .entry)) lists .store) (hand .0))) r (now (words .exit)) ⌝ }
+        × Fits x (pathOf (downIn (now notes)) x (hand .0)) ⌝ }
+    ensures { λ r.
+        let x = tablesOf (now (words .entry)) lists in
+        let around = pathOf (downIn (now (notes .entry))) (x .store) (hand .0) in
+        ⌜ EndedAs (now (words .entry)) lists (putDown x around) r (now (words .exit)) ⌝ }
 {
     let letters = lists.letters as usize;
     let counts = lists.counts;
+    let down = notes::column(notes, 1);
     match add::fill(
         words,
         &counts[..letters],
@@ -67,7 +73,7 @@ pub fn put_down(
         Grown::At(context, n) => {
             let left = with_context(lists, context, n);
             table::forget(table, left.rules as usize);
-            finish::finish(words, left, index, table)
+            finish::finish(words, left, index, table, notes)
         }
     }
 }

@@ -2,14 +2,17 @@
 // Each end mirrors its definition in model's Steps.
 ghost use mathlib.Core.Path.{_≡_};
 ghost use Prim.Native.Nat.{_+_, _*_, _≤_, _<_};
-ghost use lib.ListN.{length};
+ghost use lib.ListN.{length, getD};
 ghost use Rattle.model.specs.Limits.{mostContexts, mostRules};
 ghost use Rattle.model.specs.Facts.{IsRecord, Fits};
 ghost use Rattle.model.specs.Steps.{search, searched, atNewTransition, atUnknown};
 ghost use Rattle.model.specs.Entry.{tablesOf};
 ghost use Rattle.bank.specs.Ready.{pathOf};
+ghost use Rattle.bank.specs.Notes.{roomIn, repsIn, downIn, spotsIn, exchangedIn};
 ghost use Rattle.step_search.specs.Spots.{Descended, searchBy};
-ghost use Rattle.step_end.specs.Stepping.{Stepping, InHand, EndedAs, withRule};
+ghost use Rattle.step_end.specs.Stepping.{Stepping, Noting, InHand, EndedAs, withRule};
+use bank::notes;
+use bank::notes::NOTE_WIDTH;
 use bank_fill::add;
 use bank_fill::add::Grown;
 use model::Lists;
@@ -38,25 +41,29 @@ fn new_transition(
     lists: Lists,
     index: &mut [u16],
     table: &mut [u8],
-    down: &[u16],
+    notes: &mut [u16],
     hand: Row,
     spot: Row,
 ) -> Stepped
     requires { let x = tablesOf (now words) lists .store in
         ⌜ Stepping (now words) lists (now index)
+        × Noting (now words) (now notes)
         × (mostContexts * (lists .rules + 1) ≤ length (now table))
-        × (lists .used ≤ length (now down))
         × (lists .contexts < mostContexts)
         × IsRecord x (hand .0)
         × IsRecord x (spot .0)
-        × Fits x (pathOf (now down) x (hand .0)) ⌝ }
-    ensures { λ r. ⌜ EndedAs (now (words .entry)) lists (searched (tablesOf (now (words .entry)) lists) (atNewTransition (hand .0) (record { row = spot .0; around = pathOf (now (down .entry)) (tablesOf (now (words .entry)) lists .store) (hand .0) }))) r (now (words .exit)) ⌝ }
+        × Fits x (pathOf (downIn (now notes)) x (hand .0)) ⌝ }
+    ensures { λ r.
+        let x = tablesOf (now (words .entry)) lists in
+        let around = pathOf (downIn (now (notes .entry))) (x .store) (hand .0) in
+        let found = atNewTransition (hand .0) (record { row = spot .0; around = around }) in
+        ⌜ EndedAs (now (words .entry)) lists (searched x found) r (now (words .exit)) ⌝ }
 {
     if lists.rules as usize == MOST_RULES {
         return finish::short(36, lists);
     }
     let left = with_rule(lists, spot);
-    putdown::put_down(words, left, index, table, down, hand)
+    putdown::put_down(words, left, index, table, notes, hand)
 }
 
 // The answer with the representative in the spot's place is unknown: it is asked.
@@ -74,7 +81,11 @@ fn ask_exchanged(
         × IsRecord x (hand .0)
         × (rep .0 < lists .used)
         × Fits x (pathOf (now down) x (hand .0)) ⌝ }
-    ensures { λ r. ⌜ EndedAs (now (words .entry)) lists (searched (tablesOf (now (words .entry)) lists) (atUnknown (hand .0) (record { row = 0; around = pathOf (now (down .entry)) (tablesOf (now (words .entry)) lists .store) (hand .0) }) (rep .0))) r (now (words .exit)) ⌝ }
+    ensures { λ r.
+        let x = tablesOf (now (words .entry)) lists in
+        let around = pathOf (now (down .entry)) (x .store) (hand .0) in
+        let found = atUnknown (hand .0) (record { row = 0; around = around }) (rep .0) in
+        ⌜ EndedAs (now (words .entry)) lists (searched x found) r (now (words .exit)) ⌝ }
 {
     let letters = lists.letters as usize;
     let counts = lists.counts;
@@ -95,37 +106,55 @@ fn ask_exchanged(
     }
 }
 
+// The row at a row's spot.
+fn spot_of(notes: &[u16], row: Row) -> Row
+    requires { ⌜ row .0 < roomIn (now notes) ⌝ }
+    ensures { λ r. ⌜ r .0 ≡ getD (spotsIn (now (notes .entry))) (row .0) 0 ⌝ }
+{
+    let size = notes.len() / NOTE_WIDTH;
+    Row(notes[2 * size + row.0 as usize])
+}
+
+// The representative of a transition.
+fn rep_of(notes: &[u16], row: Row) -> Row
+    requires { ⌜ row .0 < roomIn (now notes) ⌝ }
+    ensures { λ r. ⌜ r .0 ≡ getD (repsIn (now (notes .entry))) (row .0) 0 ⌝ }
+{
+    Row(notes[row.0 as usize])
+}
+
 // Where the search ended, the record is asked about or put down.
 pub fn ended_at(
     words: &mut [u32],
     lists: Lists,
     index: &mut [u16],
     table: &mut [u8],
-    reps: &[u16],
-    down: &[u16],
-    at: &[u16],
-    exchanged: &[u16],
+    notes: &mut [u16],
     found: Found,
 ) -> Stepped
     requires { let x = tablesOf (now words) lists in
+        let reps = repsIn (now notes) in
         ⌜ Stepping (now words) lists (now index)
+        × Noting (now words) (now notes)
         × (mostContexts * (lists .rules + 1) ≤ length (now table))
-        × InHand (now words) lists (now reps)
-        × Descended (x .s) (now reps) (x .store) (now down) (now at) (now exchanged) (lists .used)
-        × (searchBy (x .s) (now reps) (x .store) found ≡ search (x .store) (x .answers) (x .s) (x .t) (x .c) (lists .hand)) ⌝ }
+        × InHand (now words) lists reps
+        × Descended (x .s) reps (x .store) (downIn (now notes)) (spotsIn (now notes)) (exchangedIn (now notes)) (lists .used)
+        × (searchBy (x .s) reps (x .store) found ≡ search (x .store) (x .answers) (x .s) (x .t) (x .c) (lists .hand)) ⌝ }
     ensures { λ r.
         let x = tablesOf (now (words .entry)) lists in
-        ⌜ EndedAs (now (words .entry)) lists (searched x (searchBy (x .s) (now (reps .entry)) (x .store) found)) r (now (words .exit)) ⌝ }
+        let reps = repsIn (now (notes .entry)) in
+        ⌜ EndedAs (now (words .entry)) lists (searched x (searchBy (x .s) reps (x .store) found)) r (now (words .exit)) ⌝ }
 {
     match found {
         Found::NewTransition(h) => {
-            let spot = Row(at[h.0 as usize]);
-            new_transition(words, lists, index, table, down, h, spot)
+            let spot = spot_of(notes, h);
+            new_transition(words, lists, index, table, notes, h, spot)
         }
         Found::Unknown(h) => {
-            let rep = Row(reps[at[h.0 as usize] as usize]);
+            let rep = rep_of(notes, spot_of(notes, h));
+            let down = notes::column(notes, 1);
             ask_exchanged(words, lists, index, down, h, rep)
         }
-        Found::Difference(h) => { putdown::put_down(words, lists, index, table, down, h) }
+        Found::Difference(h) => { putdown::put_down(words, lists, index, table, notes, h) }
     }
 }

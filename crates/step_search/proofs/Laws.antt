@@ -8,3 +8,4 @@ pub mod Descent
 pub mod Search
 pub mod Turns
 pub mod Walk
+pub mod Noted

@@ -3,14 +3,17 @@
 // alone, so one loop from the bottom works it out for all rows, and the turns follow that. A row is in S if it is its own representative.
 ghost use mathlib.Core.Path.{_≡_};
 ghost use Prim.Native.Nat.{_*_, _≤_, _<_};
-ghost use lib.ListN.{length, getD};
+ghost use lib.ListN.{length, getD, set};
 ghost use Rattle.model.specs.Limits.{rowWidth, mostRows};
 ghost use Rattle.model.specs.Store.{kidsAt, nextRow};
 ghost use Rattle.model.specs.Facts.{Good};
 ghost use Rattle.model.specs.Entry.{storeOf, answersIn};
 ghost use Rattle.bank.specs.Ready.{Ready, frameAt};
+ghost use Rattle.bank.specs.Notes.{roomIn, repsIn, downIn, spotsIn, exchangedIn};
 ghost use Rattle.step_search.specs.Spots.{exchangedBy, TurnsBy, DescendedBy, ownRep, notOwn, outsideBy, spotBy, Handed, EndsAt};
 use bank::index;
+use bank::notes;
+use bank::notes::NOTE_WIDTH;
 use bank::rows;
 use model::Row;
 
@@ -129,38 +132,50 @@ fn turn_of(
     }
 }
 
+// Writes the turn of a row down: the three columns behind the representatives.
+fn note_turn(notes: &mut [u16], row: Row, turn: Turn)
+    requires { ⌜ row .0 < roomIn (now notes) ⌝ }
+    ensures { λ _.
+        ⌜ (repsIn (now (notes .exit)) ≡ repsIn (now (notes .entry)))
+        × (downIn (now (notes .exit)) ≡ set (downIn (now (notes .entry))) (row .0) (turn .place))
+        × (spotsIn (now (notes .exit)) ≡ set (spotsIn (now (notes .entry))) (row .0) (turn .spot .0))
+        × (exchangedIn (now (notes .exit)) ≡ set (exchangedIn (now (notes .entry))) (row .0) (turn .row .0)) ⌝ }
+{
+    let size = notes.len() / NOTE_WIDTH;
+    let i = row.0 as usize;
+    notes[size + i] = turn.place as u16;
+    notes[2 * size + i] = turn.spot.0;
+    notes[3 * size + i] = turn.row.0;
+}
+
 // All rows from the bottom: the place down, the row at the spot, the exchanged row.
-fn descend(
-    words: &[u32],
-    counts: &[u8],
-    used: u16,
-    index: &[u16],
-    reps: &[u16],
-    down: &mut [u16],
-    at: &mut [u16],
-    exchanged: &mut [u16],
-)
+fn descend(words: &[u32], counts: &[u8], used: u16, index: &[u16], notes: &mut [u16])
     requires { ⌜ Ready (now words) (now counts) used (now index)
-        × (used ≤ length (now reps))
-        × (getD (now reps) 0 0 ≡ 0)
-        × (used ≤ length (now down))
-        × (used ≤ length (now at))
-        × (used ≤ length (now exchanged)) ⌝ }
+        × (used ≤ roomIn (now notes))
+        × (getD (repsIn (now notes)) 0 0 ≡ 0) ⌝ }
     ensures { λ _.
         let x = storeOf (now (words .entry)) (now (counts .entry)) used in
-        let own = now (reps .entry) in
-        ⌜ DescendedBy (notOwn own) own x (now (down .exit)) (now (at .exit)) (now (exchanged .exit)) used ⌝ }
+        let own = repsIn (now (notes .entry)) in
+        let after = now (notes .exit) in
+        ⌜ (repsIn after ≡ own)
+        × DescendedBy (notOwn own) own x (downIn after) (spotsIn after) (exchangedIn after) used ⌝ }
 {
-    down[0] = 0;
-    at[0] = 0;
-    exchanged[0] = 0;
+    note_turn(
+        notes,
+        Row(0),
+        Turn {
+            place: 0,
+            spot: Row(0),
+            row: Row(0),
+        },
+    );
     let mut i: u16 = 1;
     while i < used {
+        let reps = notes::column(notes, 0);
+        let at = notes::column(notes, 2);
+        let exchanged = notes::column(notes, 3);
         let turn = turn_of(words, counts, used, index, reps, at, exchanged, Row(i));
-        let n = i as usize;
-        down[n] = turn.place as u16;
-        at[n] = turn.spot.0;
-        exchanged[n] = turn.row.0;
+        note_turn(notes, Row(i), turn);
         i += 1;
     }
 }
@@ -208,31 +223,33 @@ fn search(
     }
 }
 
-// The way down of every row, and where the search in hand ends.
+// The way down of every row, into the notes behind the representatives, and where the search in hand ends.
 pub fn find(
     words: &[u32],
     counts: &[u8],
     used: u16,
     index: &[u16],
-    reps: &[u16],
-    down: &mut [u16],
-    at: &mut [u16],
-    exchanged: &mut [u16],
+    notes: &mut [u16],
     hand: Row,
 ) -> Found
-    requires { ⌜ Ready (now words) (now counts) used (now index)
-        × Handed (storeOf (now words) (now counts) used) (answersIn used (now words)) (now reps) (hand .0)
-        × (used ≤ length (now down))
-        × (used ≤ length (now at))
-        × (used ≤ length (now exchanged)) ⌝ }
+    requires { let x = storeOf (now words) (now counts) used in
+        ⌜ Ready (now words) (now counts) used (now index)
+        × Handed x (answersIn used (now words)) (repsIn (now notes)) (hand .0)
+        × (used ≤ roomIn (now notes)) ⌝ }
     ensures { λ r.
         let x = storeOf (now (words .entry)) (now (counts .entry)) used in
-        let own = now (reps .entry) in
-        ⌜ DescendedBy (notOwn own) own x (now (down .exit)) (now (at .exit)) (now (exchanged .exit)) used ⌝ }
+        let own = repsIn (now (notes .entry)) in
+        let after = now (notes .exit) in
+        ⌜ (repsIn after ≡ own)
+        × DescendedBy (notOwn own) own x (downIn after) (spotsIn after) (exchangedIn after) used ⌝ }
     ensures ended { λ r.
         let x = storeOf (now (words .entry)) (now (counts .entry)) used in
-        ⌜ EndsAt x (answersIn used (now (words .entry))) (now (reps .entry)) (hand .0) r ⌝ }
+        let own = repsIn (now (notes .entry)) in
+        ⌜ EndsAt x (answersIn used (now (words .entry))) own (hand .0) r ⌝ }
 {
-    descend(words, counts, used, index, reps, down, at, exchanged);
+    descend(words, counts, used, index, notes);
+    let reps = notes::column(notes, 0);
+    let at = notes::column(notes, 2);
+    let exchanged = notes::column(notes, 3);
     search(words, counts, used, reps, at, exchanged, hand)
 }

@@ -1,4 +1,3 @@
 -- The laws, in reading order: a file uses those above it.
-pub mod States
 pub mod Gap
-pub mod Stepped
+pub mod Asked

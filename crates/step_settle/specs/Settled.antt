@@ -1,38 +1,49 @@
--- Settling (§4.2, §4.3): what it needs of the tables given, and how it ends.
+-- The first unknown answer, asked (§4.2): what that needs of the tables given, and how it ends.
 use mathlib.Core.Path.{_≡_}
-use mathlib.Core.Bool.{true}
 use mathlib.Core.List.{List}
 use Prim.Native.Nat.{ℕ, _≤_}
-use lib.ListN.{length, take}
-use Rattle.model.specs.Limits.{mostContexts, mostRules, mostStates}
-use Rattle.model.specs.Base.{allAmong, over}
-use Rattle.model.specs.Store.{used}
-use Rattle.model.specs.Steps.{Ended, short, asks, proposes, ofRows, ofStates, ofTransitions, ofTurns}
-use Rattle.model.specs.Entry.{storeOf}
+use lib.ListN.{length}
+use Rattle.model.specs.Limits.{mostContexts, mostRules}
+use Rattle.model.specs.Store.{Store, Built, full, built, used, framesOf, fill}
+use Rattle.model.specs.Steps.{unknown, seek, blanked}
+use Rattle.model.specs.Entry.{storeOf, answersIn}
 use Rattle.bank.specs.Ready.{Kept}
-use Rattle.table_columns.specs.Columns.{Answered, Contexts, Used}
 use Rattle.bank_undo.specs.Left.{Left}
-use Rattle.step_settle.specs.declared.Step.{Step}
+use Rattle.table.specs.Answers.{Observed, gapFrom}
+use Rattle.table.specs.declared.Gap.{Gap}
+use Rattle.table_columns.specs.Columns.{Answered, Contexts, Used}
+use Rattle.step_settle.specs.declared.Asked.{Asked}
+use Rattle.step_settle.specs.declared.Asked.the-variants.{Nothing, NoRows, At}
 
-pub record Settling (words counts : List ℕ) (u : ℕ) (s : List ℕ) (q : ℕ) (t : List ℕ) (n : ℕ) (c : List ℕ) (m : ℕ) : Type 0 where
+pub record Settling (words counts : List ℕ) (u : ℕ) (t c : List ℕ) : Type 0 where
   pub answered : Answered words u
-  pub s-long : length s ≡ mostStates
-  pub few-s : q ≤ mostStates
-  pub t-long : length t ≡ mostRules
-  pub few-t : n ≤ mostRules
-  pub c-long : length c ≡ mostContexts
-  pub few-c : m ≤ mostContexts
-  pub used-t : Used u t n
-  pub contexts : Contexts (storeOf words counts u) c m
-  pub s-in-t : allAmong (take q s) (take n t) ≡ true
+  pub few-t : length t ≤ mostRules
+  pub few-c : length c ≤ mostContexts
+  pub used-t : Used u t (length t)
+  pub contexts : Contexts (storeOf words counts u) c (length c)
 
--- HOW SETTLING ENDS: short of rows or states, with the first rows as they were; a question, with its rows added; a proposal, with S grown.
--- It adds no transition and makes no turn, so it runs short of neither
-abbrev pub StepAs : (words counts : List ℕ) → (u : ℕ) → (s : List ℕ) → Ended → Step → (words' s' : List ℕ) → Type 0
-StepAs ws ns u s (short ofRows) r ws' s' = (r ≡ Step.NoRows) × Kept ws u ws'
-StepAs ws ns u s (short ofStates) r ws' s' = (r ≡ Step.NoStates) × Kept ws u ws'
-StepAs ws ns u s (short ofTransitions) r ws' s' = ⊥
-StepAs ws ns u s (short ofTurns) r ws' s' = ⊥
-StepAs ws ns u s (asks y) r ws' s' =
-    (r ≡ Step.Asks (record { 0 = y .asked }) (used (y .store))) × Left ws ns ws' (y .store) (y .answers) × (s' ≡ s)
-StepAs ws ns u s (proposes y) r ws' s' = (r ≡ Step.Proposes (length (y .s))) × Left ws ns ws' (y .store) (y .answers) × (s' ≡ over (y .s) s)
+-- the first unknown answer is that of a record which is built so: its context filled with its transition
+pub record Opens (x : Store) (w t c : List ℕ) (b : Built) : Type 0 where
+  pub context : ℕ
+  pub row : ℕ
+  pub first : seek x w c t ≡ unknown context row
+  pub is : fill x (framesOf x context) row ≡ b
+
+-- asked: its rows are added
+pub record Opened (words counts : List ℕ) (u : ℕ) (t c : List ℕ) (row n : ℕ) (after : List ℕ) : Type 0 where
+  pub y : Store
+  pub opens : Opens (storeOf words counts u) (answersIn u words) t c (built row y)
+  pub count : n ≡ used y
+  pub left : Left words counts after y (blanked (storeOf words counts u) y (answersIn u words))
+
+-- no answer is missing: the table has them all
+pub record Closed (words counts : List ℕ) (u : ℕ) (t c after table : List ℕ) : Type 0 where
+  pub same : after ≡ words
+  pub observed : Observed (storeOf words counts u) (answersIn u words) t (length t) c (length c) table
+  pub none : gapFrom table (length c) 0 (length t) ≡ Gap.Closed
+
+-- HOW ASKING ENDS: nothing to ask; no room for the record, with the first rows as they were; or the row asked about
+abbrev pub AskedAs : (words counts : List ℕ) → (u : ℕ) → (t c : List ℕ) → Asked → (after table : List ℕ) → Type 0
+AskedAs ws ns u t c Nothing after tb = Closed ws ns u t c after tb
+AskedAs ws ns u t c NoRows after tb = Opens (storeOf ws ns u) (answersIn u ws) t c full × Kept ws u after
+AskedAs ws ns u t c (At i n) after tb = Opened ws ns u t c (i .0) n after

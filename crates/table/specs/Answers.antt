@@ -36,7 +36,7 @@ placeBy m (some j) = j
 
 abbrev pub gapBy : (k : ℕ) → Option ℕ → Gap → Gap
 gapBy k none next = next
-gapBy k (some j) next = Gap.At k j
+gapBy k (some j) next = Gap.At k (record { 0 = j })
 
 unfoldable pub gapFrom : (table : List ℕ) → (m k count : ℕ) → Gap
 gapFrom tb m k zero = Gap.Closed
@@ -91,7 +91,7 @@ pub record Placing (places : List ℕ) (q n : ℕ) : Type 0 where
 -- the question at a gap, and whether there is one
 abbrev pub soughtBy : (t c : List ℕ) → Gap → Sought
 soughtBy t c Gap.Closed = noneUnknown
-soughtBy t c (Gap.At k j) = unknown (getD c j 0) (getD t k 0)
+soughtBy t c (Gap.At k j) = unknown (getD c (j .0) 0) (getD t k 0)
 
 abbrev pub isOpen : Gap → Bool
 isOpen Gap.Closed = false

@@ -7,6 +7,7 @@ ghost use Rattle.model.specs.Limits.{mostContexts, mostRules, mostStates};
 ghost use Rattle.model.specs.Base.{same, among};
 ghost use Rattle.model.specs.Sound.{differKnown};
 ghost use Rattle.table.specs.Answers.{rowAt, Sized, Forgotten, unknownIn, placeBy, gapFrom, stateAt, growAt, grownBy};
+use model::Context;
 use model::State;
 use model::limits::MOST_CONTEXTS;
 use model::limits::MOST_STATES;
@@ -76,25 +77,25 @@ pub fn forget(table: &mut [u8], rules: usize)
     }
 }
 
-// The first unknown answer, if any: the transition's place in T and the context's place in C.
+// The first unknown answer, if any: the transition's place in T, and the context.
 pub enum Gap {
     Closed,
-    At(u16, u16),
+    At(u16, Context),
 }
 
-// The place of the first unknown answer of one transition; `contexts` for none.
-fn first_in(table: &[u8], contexts: usize, a: usize) -> usize
+// The first context at which the answer of a transition is unknown; past the last for none.
+fn first_in(table: &[u8], contexts: usize, a: usize) -> Context
     requires { ⌜ Sized (now table) (a + 1) contexts ⌝ }
-    ensures { λ r. ⌜ r ≡ placeBy contexts (unknownIn (rowAt (now (table .entry)) contexts a) 0) ⌝ }
+    ensures { λ r. ⌜ r .0 ≡ placeBy contexts (unknownIn (rowAt (now (table .entry)) contexts a) 0) ⌝ }
 {
     let mut j = 0;
     while j < contexts {
         if table[MOST_CONTEXTS * a + j] == 0 {
-            return j;
+            return Context(j as u16);
         }
         j += 1;
     }
-    contexts
+    Context(contexts as u16)
 }
 
 // Transitions in order, and for each the contexts in order (§4.2).
@@ -104,9 +105,9 @@ pub fn first_unknown(table: &[u8], rules: usize, contexts: usize) -> Gap
 {
     let mut k = 0;
     while k < rules {
-        let j = first_in(table, contexts, k);
-        if j < contexts {
-            return Gap::At(k as u16, j as u16);
+        let context = first_in(table, contexts, k);
+        if (context.0 as usize) < contexts {
+            return Gap::At(k as u16, context);
         }
         k += 1;
     }

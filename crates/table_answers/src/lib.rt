@@ -1,70 +1,50 @@
 // table: the answers of all transitions at all contexts, whole or up to the first gap (§1.5).
-// Proved equal to model's answersOf. An array that is zeroed costs time, so each comes in three sizes, and the smallest with an entry for
-// each used row is taken.
-ghost use mathlib.Core.Path.{_≡_};
+// Each transition's answers are read off its column. Proved equal to model's answersOf.
 ghost use Prim.Native.Nat.{_*_, _≤_};
 ghost use lib.ListN.{length};
 ghost use Rattle.model.specs.Limits.{mostContexts, mostRules};
 ghost use Rattle.model.specs.Entry.{storeOf, answersIn};
 ghost use Rattle.bank.specs.Ready.{Ready};
+ghost use Rattle.bank.specs.Notes.{roomIn};
 ghost use Rattle.table.specs.Answers.{Observed, KnownRows, ToGap};
 ghost use Rattle.table_columns.specs.Columns.{Answered, Contexts, Used};
-use bank::ladder::MID_ROWS;
+use model::Row;
 use model::limits::MOST_CONTEXTS;
-use model::limits::MOST_ROWS;
-use model::limits::MOST_RULES;
-use table_columns::NOTE_WIDTH;
 
-pub mod whole; // whole.rt: the whole table, by sizes
-pub mod gap; // gap.rt: the table up to its first gap, by sizes
-
-// The answers of the first transitions at the first contexts, into the table.
+// The answers of T at C, into the table.
 pub fn observe(
     words: &[u32],
     counts: &[u8],
     used: u16,
     index: &[u16],
-    t: &[u16; MOST_RULES],
-    rules: usize,
-    c: &[u16; MOST_CONTEXTS],
-    contexts: usize,
+    t: &[u16],
+    c: &[u16],
     table: &mut [u8],
+    notes: &mut [u16],
 )
-    requires { ⌜ Ready (now words) (now counts) used (now index)
+    requires { let x = storeOf (now words) (now counts) used in
+        ⌜ Ready (now words) (now counts) used (now index)
         × Answered (now words) used
-        × Used used (now t) rules
-        × (length (now t) ≡ mostRules)
-        × (rules ≤ mostRules)
-        × Contexts (storeOf (now words) (now counts) used) (now c) contexts
-        × (length (now c) ≡ mostContexts)
-        × (contexts ≤ mostContexts)
-        × (mostContexts * rules ≤ length (now table)) ⌝ }
-    ensures { λ _. ⌜ Observed (storeOf (now (words .entry)) (now (counts .entry)) used) (answersIn used (now (words .entry))) (now (t .entry)) rules (now (c .entry)) contexts (now (table .exit)) ⌝ }
+        × Used used (now t) (length (now t))
+        × Contexts x (now c) (length (now c))
+        × (length (now c) ≤ mostContexts)
+        × (length (now t) ≤ mostRules)
+        × (mostContexts * length (now t) ≤ length (now table))
+        × (used ≤ roomIn (now notes)) ⌝ }
+    ensures { λ _.
+        let x = storeOf (now (words .entry)) (now (counts .entry)) used in
+        let w = answersIn used (now (words .entry)) in
+        ⌜ Observed x w (now (t .entry)) (length (now (t .entry))) (now (c .entry)) (length (now (c .entry))) (now (table .exit)) ⌝ }
 {
-    let transitions = &t[..];
-    let members = &c[..];
-    if used as usize <= MID_ROWS {
-        return whole::observe_some(
-            words,
-            counts,
-            used,
-            index,
-            &transitions[..rules],
-            &members[..contexts],
-            table,
-        );
+    let mut tops = [0u16; MOST_CONTEXTS];
+    let n = table_columns::needed::needed_rows(words, counts, used, index, c, notes, &mut tops);
+    let contexts = c.len();
+    let mut k = 0;
+    while k < t.len() {
+        table_columns::fill_column(words, counts, used, index, n, Row(t[k]), notes);
+        table_columns::read_column(words, used, &tops[..contexts], notes, k, table);
+        k += 1;
     }
-    let mut notes = [0u16; NOTE_WIDTH * MOST_ROWS];
-    whole::observe_with(
-        words,
-        counts,
-        used,
-        index,
-        &transitions[..rules],
-        &members[..contexts],
-        table,
-        &mut notes,
-    )
 }
 
 // The same up to the first transition with an unknown answer, if there is one: how many transitions have their answers.
@@ -74,46 +54,40 @@ pub fn observe_to_gap(
     counts: &[u8],
     used: u16,
     index: &[u16],
-    t: &[u16; MOST_RULES],
-    rules: usize,
-    c: &[u16; MOST_CONTEXTS],
-    contexts: usize,
+    t: &[u16],
+    c: &[u16],
     table: &mut [u8],
+    notes: &mut [u16],
 ) -> usize
     requires { let x = storeOf (now words) (now counts) used in
+        let w = answersIn used (now words) in
         ⌜ Ready (now words) (now counts) used (now index)
         × Answered (now words) used
-        × Used used (now t) rules
-        × (length (now t) ≡ mostRules)
-        × (rules ≤ mostRules)
-        × Contexts x (now c) contexts
-        × (length (now c) ≡ mostContexts)
-        × (contexts ≤ mostContexts)
-        × KnownRows x (answersIn used (now words)) (now t) rules (now c) contexts (now table) ⌝ }
-    ensures { λ r. ⌜ ToGap (storeOf (now (words .entry)) (now (counts .entry)) used) (answersIn used (now (words .entry))) (now (t .entry)) rules (now (c .entry)) contexts (now (table .exit)) r ⌝ }
+        × Used used (now t) (length (now t))
+        × Contexts x (now c) (length (now c))
+        × (length (now c) ≤ mostContexts)
+        × KnownRows x w (now t) (length (now t)) (now c) (length (now c)) (now table)
+        × (used ≤ roomIn (now notes)) ⌝ }
+    ensures { λ r.
+        let x = storeOf (now (words .entry)) (now (counts .entry)) used in
+        let w = answersIn used (now (words .entry)) in
+        ⌜ ToGap x w (now (t .entry)) (length (now (t .entry))) (now (c .entry)) (length (now (c .entry))) (now (table .exit)) r ⌝ }
 {
-    let transitions = &t[..];
-    let members = &c[..];
-    if used as usize <= MID_ROWS {
-        return gap::gap_some(
-            words,
-            counts,
-            used,
-            index,
-            &transitions[..rules],
-            &members[..contexts],
-            table,
-        );
+    let mut tops = [0u16; MOST_CONTEXTS];
+    let n = table_columns::needed::needed_rows(words, counts, used, index, c, notes, &mut tops);
+    let contexts = c.len();
+    let mut k = 0;
+    while k < t.len() {
+        if !table::has_answer(table, contexts, k, 0) {
+            k += 1;
+            continue;
+        }
+        table_columns::fill_column(words, counts, used, index, n, Row(t[k]), notes);
+        table_columns::read_column(words, used, &tops[..contexts], notes, k, table);
+        if table::has_answer(table, contexts, k, 0) {
+            return k + 1;
+        }
+        k += 1;
     }
-    let mut notes = [0u16; NOTE_WIDTH * MOST_ROWS];
-    gap::gap_with(
-        words,
-        counts,
-        used,
-        index,
-        &transitions[..rules],
-        &members[..contexts],
-        table,
-        &mut notes,
-    )
+    k
 }

@@ -1,20 +1,14 @@
--- The notes: one scratch slice of four columns, with a number for each position. What the columns of answers keep there:
--- the needed rows, the position of each one's hole child, the ends of runs, and the rows that they fill to.
+-- What the columns of answers keep in the notes, a number for each position: the needed rows, the position of each one's hole child,
+-- the ends of runs, and the rows that they fill to.
 use mathlib.Core.Path.{_≡_}
 use mathlib.Core.List.{List, map}
-use Prim.Native.Nat.{ℕ, _+_, _*_, _/_, _≤_, _<_}
+use Prim.Native.Nat.{ℕ, _+_, _*_, _≤_, _<_}
 use lib.ListN.{length, getD, set}
 use Rattle.model.specs.Store.{Store, filledRow, framesOf}
 use Rattle.bank.specs.Rows.{answerIn}
 use Rattle.bank.specs.Index.{holeOf}
+use Rattle.bank.specs.Notes.{roomIn}
 use Rattle.table_columns.specs.Columns.{holeKid}
-
-abbrev pub noteWidth : ℕ
-noteWidth = 4
-
--- the positions that notes have room for
-abbrev pub roomIn : (notes : List ℕ) → ℕ
-roomIn ns = length ns / noteWidth
 
 -- THE COLUMNS, where there is room for z positions
 -- the row at a position

@@ -10,16 +10,15 @@ ghost use Rattle.model.specs.Entry.{storeOf};
 ghost use Rattle.bank.specs.Ready.{Ready, frameAt};
 ghost use Rattle.bank.specs.Index.{holeOf};
 ghost use Rattle.table_columns.specs.Columns.{holeKid, Answered};
-ghost use Rattle.table_columns.specs.Notes.{roomIn, filledNote, SameNotes, Cleared, NeededRows, Runs, AllBelow, UsedAt, Column, columnAnswers};
+ghost use Rattle.bank.specs.Notes.{roomIn};
+ghost use Rattle.table_columns.specs.Notes.{filledNote, SameNotes, Cleared, NeededRows, Runs, AllBelow, UsedAt, Column, columnAnswers};
 use bank::index;
+use bank::notes::NOTE_WIDTH;
 use bank::rows;
 use model::Row;
 use model::limits::MOST_CONTEXTS;
 
 pub mod needed; // needed.rt: the rows that the contexts need, and their positions
-
-// Numbers of the notes for each position.
-pub const NOTE_WIDTH: usize = 4;
 
 // The child of a row that has the hole.
 fn hole_kid(words: &[u32], counts: &[u8], used: u16, index: &[u16], row: Row) -> Row
@@ -158,7 +157,8 @@ pub fn read_column(
         × (mostContexts * k + length (now tops) ≤ length (now table)) ⌝ }
     ensures { λ _.
         let z = roomIn (now (notes .entry)) in
-        ⌜ now (table .exit) ≡ sets (now (table .entry)) (mostContexts * k) (columnAnswers (now (words .entry)) z (now (notes .entry)) (now (tops .entry))) ⌝ }
+        let a = columnAnswers (now (words .entry)) z (now (notes .entry)) (now (tops .entry)) in
+        ⌜ now (table .exit) ≡ sets (now (table .entry)) (mostContexts * k) a ⌝ }
 {
     let last = 3 * (notes.len() / NOTE_WIDTH);
     let mut j = 0;

@@ -8,10 +8,11 @@ ghost use Rattle.model.specs.Entry.{storeOf};
 ghost use Rattle.bank.specs.Index.{holeOf};
 ghost use Rattle.bank.specs.Ready.{Ready};
 ghost use Rattle.table_columns.specs.Columns.{Contexts};
-ghost use Rattle.table_columns.specs.Notes.{roomIn, rowNote, markNote, SameNotes, MembersMarked, HoledMarks, KidsMarked, StayMarked, NeedMarks, NeededRows, AllSeated, holeFirst, neededMore, Runs, Tops, AllBelow, TopsRead};
-use crate::NOTE_WIDTH;
+ghost use Rattle.bank.specs.Notes.{roomIn};
+ghost use Rattle.table_columns.specs.Notes.{rowNote, markNote, SameNotes, MembersMarked, HoledMarks, KidsMarked, StayMarked, NeedMarks, NeededRows, AllSeated, holeFirst, neededMore, Runs, Tops, AllBelow, TopsRead};
 use crate::clear_run;
 use crate::hole_kid;
+use bank::notes::NOTE_WIDTH;
 use model::Row;
 
 // Marks a row with a hole and the rows that it leads down to, up to one that is marked already.

@@ -5,7 +5,6 @@ ghost use mathlib.Core.Bool.{true};
 ghost use Prim.Native.Nat.{ℕ, _<_, _≤_};
 ghost use lib.Dec.{eqb};
 ghost use lib.ListN.{length, getD, take};
-ghost use Rattle.bank.specs.Ladder.{smallRows};
 ghost use Rattle.model.specs.Limits.{mostListed, mostStates};
 ghost use Rattle.model.specs.Base.{noRepeats};
 ghost use Rattle.model.specs.Facts.{Parses};
@@ -13,14 +12,15 @@ ghost use Rattle.model.specs.Entry.{storeOf, answersIn};
 ghost use Rattle.bank.specs.Rows.{answerIn, Within};
 ghost use Rattle.bank.specs.Index.{Finding, findIn};
 ghost use Rattle.bank.specs.Ready.{Ready};
+ghost use Rattle.bank.specs.Notes.{roomIn, columnIn, repsIn};
 ghost use Rattle.table.specs.Answers.{Sized};
 ghost use Rattle.table_verdict.specs.Rules.{RepsBy, RepsIn, repRow, ledList, acceptsBy, acceptsListBy};
 use bank::index;
-use bank::ladder::SMALL_ROWS;
+use bank::notes;
+use bank::notes::NOTE_WIDTH;
 use bank::rows;
 use model::Row;
 use model::limits::MOST_LISTED;
-use model::limits::MOST_ROWS;
 use model::limits::MOST_STATES;
 
 // All entries 0.
@@ -124,101 +124,51 @@ fn row_rep(
     target_of(words, used, index, reps, symbol, places)
 }
 
-// The representative of the state of every row up to a row, by one loop from the bottom.
-pub fn row_reps(
-    words: &[u32],
-    counts: &[u8],
-    used: u16,
-    index: &[u16],
-    reps: &[u16],
-    upto: Row,
-    led: &mut [u16],
-)
+// The representative of the state of every row up to a row, by one loop from the bottom, into the second column of the notes.
+fn row_reps(words: &[u32], counts: &[u8], used: u16, index: &[u16], upto: Row, notes: &mut [u16])
     requires { ⌜ Ready (now words) (now counts) used (now index)
-        × (used ≤ length (now reps))
-        × (used ≤ length (now led))
+        × (used ≤ roomIn (now notes))
         × (upto .0 < used) ⌝ }
     ensures { λ _.
         let x = storeOf (now (words .entry)) (now (counts .entry)) used in
-        ⌜ (length (now (led .exit)) ≡ length (now (led .entry)))
-        × ((i : ℕ) → i ≤ upto .0 → getD (now (led .exit)) i 0 ≡ repRow x (now (reps .entry)) i) ⌝ }
+        let reps = repsIn (now (notes .entry)) in
+        ⌜ (repsIn (now (notes .exit)) ≡ reps)
+        × ((i : ℕ) → i ≤ upto .0 → getD (columnIn (now (notes .exit)) 1) i 0 ≡ repRow x reps i) ⌝ }
 {
-    led[0] = 0;
+    let size = notes.len() / NOTE_WIDTH;
+    notes[size] = 0;
     let mut i: u16 = 1;
     while i <= upto.0 {
+        let reps = notes::column(notes, 0);
+        let led = notes::column(notes, 1);
         let rep = row_rep(words, counts, used, index, reps, led, Row(i));
-        led[i as usize] = rep.0;
+        notes[size + i as usize] = rep.0;
         i += 1;
     }
 }
 
-// The verdict on a stored record.
+// The verdict on a stored record. The representatives stay.
 pub fn accepts_row(
     words: &[u32],
     counts: &[u8],
     used: u16,
     index: &[u16],
-    reps: &[u16],
+    notes: &mut [u16],
     row: Row,
 ) -> bool
     requires { ⌜ Ready (now words) (now counts) used (now index)
-        × RepsIn used (now reps)
+        × RepsIn used (repsIn (now notes))
+        × (used ≤ roomIn (now notes))
         × (row .0 < used) ⌝ }
     ensures { λ r.
         let x = storeOf (now (words .entry)) (now (counts .entry)) used in
         let answers = answersIn used (now (words .entry)) in
-        ⌜ r ≡ acceptsBy x answers (now (reps .entry)) (row .0) ⌝ }
+        ⌜ r ≡ acceptsBy x answers (repsIn (now (notes .entry))) (row .0) ⌝ }
+    ensures reps { λ r. ⌜ repsIn (now (notes .exit)) ≡ repsIn (now (notes .entry)) ⌝ }
 {
-    if used as usize <= SMALL_ROWS {
-        return accepts_few(words, counts, used, index, reps, row);
-    }
-    let mut led = [0u16; MOST_ROWS];
-    accepts_with(words, counts, used, index, reps, row, &mut led)
-}
-
-// The same over few rows.
-fn accepts_few(
-    words: &[u32],
-    counts: &[u8],
-    used: u16,
-    index: &[u16],
-    reps: &[u16],
-    row: Row,
-) -> bool
-    requires { ⌜ Ready (now words) (now counts) used (now index)
-        × RepsIn used (now reps)
-        × (row .0 < used)
-        × (used ≤ smallRows) ⌝ }
-    ensures { λ r.
-        let x = storeOf (now (words .entry)) (now (counts .entry)) used in
-        let answers = answersIn used (now (words .entry)) in
-        ⌜ r ≡ acceptsBy x answers (now (reps .entry)) (row .0) ⌝ }
-{
-    let mut led = [0u16; SMALL_ROWS];
-    accepts_with(words, counts, used, index, reps, row, &mut led)
-}
-
-// The same in an array that holds an entry for each used row.
-fn accepts_with(
-    words: &[u32],
-    counts: &[u8],
-    used: u16,
-    index: &[u16],
-    reps: &[u16],
-    row: Row,
-    led: &mut [u16],
-) -> bool
-    requires { ⌜ Ready (now words) (now counts) used (now index)
-        × RepsIn used (now reps)
-        × (row .0 < used)
-        × (used ≤ length (now led)) ⌝ }
-    ensures { λ r.
-        let x = storeOf (now (words .entry)) (now (counts .entry)) used in
-        let answers = answersIn used (now (words .entry)) in
-        ⌜ r ≡ acceptsBy x answers (now (reps .entry)) (row .0) ⌝ }
-{
-    row_reps(words, counts, used, index, reps, row, led);
-    let rep = led[row.0 as usize];
+    row_reps(words, counts, used, index, row, notes);
+    let size = notes.len() / NOTE_WIDTH;
+    let rep = notes[size + row.0 as usize];
     if rep == 0 {
         return false;
     }

@@ -1,8 +1,10 @@
 -- A transition over lent words: its row is a used one beyond the hole, its children and its representative are states and have places below 32.
 -- By T2 and T3 as a run needs them.
-use mathlib.Core.List.{List}
-use Prim.Native.Nat.{ℕ, _≤_, _<_}
+use mathlib.Core.Bool.{Bool, true, false, cond}
+use mathlib.Core.List.{List, [], _∷_}
+use Prim.Native.Nat.{ℕ, suc, _+_, _≤_, _<_}
 use native.Mathlib.Omega.{arith}
+use lib.Dec.{eqb}
 use lib.ListN.{length, getD}
 use Rattle.model.specs.Limits.{mostStates}
 use Rattle.model.specs.Base.{In, placeOf}
@@ -15,6 +17,16 @@ use Rattle.table_verdict.specs.Rows.{RowsIn}
 use Rattle.table_verdict.specs.Rules.{Ruled}
 use Rattle.table_verdict.proofs.Laws.Words.{row-known}
 use Rattle.call_emit.specs.Proposal.{Transition}
+
+-- a place is within the list or just behind it
+pub place-most : (k n : ℕ) (ss : List ℕ) → placeOf k n ss ≤ n + length ss
+unfolding placeOf
+place-most k n [] = omega arith
+place-most k n (s ∷ ss) = go (place-most k (suc n) ss) (eqb k s)
+  where
+    go : placeOf k (suc n) ss ≤ suc n + length ss → (b : Bool) → cond b n (placeOf k (suc n) ss) ≤ n + length (s ∷ ss)
+    go h true = omega arith
+    go h false = omega arith
 
 -- each member of T is one
 pub transition-of : {x : Store} {s t reps : List ℕ} → Ruled x s t reps → (k : ℕ) → k < length t → Transition x s reps (getD t k 0)

@@ -14,11 +14,6 @@ use Rattle.call_emit.proofs.Laws.Transition.{row-used, symbol-small, ki
 use Rattle.call_emit.proofs.Laws.Rule.{RuleTo, rule-start, rule-more, rule-end}
 use Rattle.call_emit.proofs.rule_bytes.Statement.{statement}
 use Rattle.call_emit.proofs.rule_bytes.Tie as tie
-use Rattle.call_emit.proofs.rule_bytes.Reads as reads
-use Rattle.call_emit.proofs.rule_bytes.Lts as lts
-use Rattle.bank.proofs.rows.kid_of.Reads as kid-of-reads
-use Rattle.bank.proofs.rows.symbol_of.Reads as symbol-of-reads
-use Rattle.run_lists.proofs.place_of.Reads as place-of-reads
 
 abbrev Inv-loop : tie.InvT-loop
 Inv-loop words counts used s reps row symbol count bytes₀ i₀ bytes i =
@@ -28,7 +23,7 @@ abbrev μ-loop : tie.MeasureT-loop
 μ-loop words counts used s reps row symbol count bytes₀ i₀ bytes i = count - i
 
 abbrev Start : Type 0
-Start = lts.Start (symbol-of-reads.Asked, symbol-of-reads.Learnt, kid-of-reads.Asked, kid-of-reads.Learnt, place-of-reads.Asked, place-of-reads.Learnt) reads.Pre reads.Post Inv-loop μ-loop
+Start = tie.Start Inv-loop μ-loop
 
 abbrev store : Start → Store
 store s = storeOf (s .args .words .now) (s .args .counts .now) (s .args .used)
@@ -47,7 +42,7 @@ used s = row-used (s .pre .0) (s .pre .1) (s .pre .3)
 
 -- a turn: its start, and the child that it reaches
 abbrev Turn : Type 0
-Turn = lts.In-loop (symbol-of-reads.Asked, symbol-of-reads.Learnt, kid-of-reads.Asked, kid-of-reads.Learnt, place-of-reads.Asked, place-of-reads.Learnt) reads.Pre reads.Post Inv-loop μ-loop
+Turn = tie.In-loop Inv-loop μ-loop
 
 abbrev start : Turn → Start
 start t = t .before .before .before .before .before .before .before .before
@@ -59,7 +54,7 @@ few : (t : Turn) → t .before .loop .i < 4
 few t = let s : Start = start t in omega (arith, turning t, row-few (s .pre .0) (row s) (used s) (some s))
 
 abbrev Read : Type 0
-Read = lts.After-kid-of (symbol-of-reads.Asked, symbol-of-reads.Learnt, kid-of-reads.Asked, kid-of-reads.Learnt, place-of-reads.Asked, place-of-reads.Learnt) reads.Pre reads.Post Inv-loop μ-loop
+Read = tie.After-kid-of Inv-loop μ-loop
 
 kid : (c : Read) → c .kid-of .result ≡ getD (kidsAt (store (start (c .before))) (row (start (c .before)))) (c .before .before .loop .i) 0
 kid c =
@@ -67,24 +62,24 @@ kid c =
     c .kid-of .ensures ∙ row-kid (s .pre .0) (row s) (used s) (some s) (c .before .before .loop .i) (turning (c .before))
 
 abbrev Placed : Type 0
-Placed = lts.After-place-of (symbol-of-reads.Asked, symbol-of-reads.Learnt, kid-of-reads.Asked, kid-of-reads.Learnt, place-of-reads.Asked, place-of-reads.Learnt) reads.Pre reads.Post Inv-loop μ-loop
+Placed = tie.After-state-of Inv-loop μ-loop
 
 abbrev turn : Placed → Turn
 turn c = c .before .before
 
 state : (c : Placed) →
-    c .place-of .result ≡ placeOf (getD (kidsAt (store (start (turn c))) (row (start (turn c)))) (turn c .before .loop .i) 0) 0 (states (start (turn c)))
-state c = c .place-of .ensures ∙ ap (λ (j : ℕ). placeOf j 0 (states (start (turn c)))) (kid (c .before))
+    c .state-of .result .0 ≡ placeOf (getD (kidsAt (store (start (turn c))) (row (start (turn c)))) (turn c .before .loop .i) 0) 0 (states (start (turn c)))
+state c = c .state-of .ensures ∙ ap (λ (j : ℕ). placeOf j 0 (states (start (turn c)))) (kid (c .before))
 
--- past the last search
+-- past the search of the target
 abbrev Ended : Type 0
-Ended = lts.After-place-of2 (symbol-of-reads.Asked, symbol-of-reads.Learnt, kid-of-reads.Asked, kid-of-reads.Learnt, place-of-reads.Asked, place-of-reads.Learnt) reads.Pre reads.Post Inv-loop μ-loop
+Ended = tie.After-state-of2 Inv-loop μ-loop
 
 abbrev begun : Ended → Start
 begun c = c .before .before .before .before .before .before .before .before .before .before .before
 
-target : (c : Ended) → c .place-of2 .result ≡ placeOf (getD (begun c .args .reps .now) (row (begun c)) 0) 0 (states (begun c))
-target c = c .place-of2 .ensures
+target : (c : Ended) → c .state-of2 .result .0 ≡ placeOf (getD (begun c .args .reps .now) (row (begun c)) 0) 0 (states (begun c))
+target c = c .state-of2 .ensures
 
 symbol-of-requires : tie.Need-symbol-of-requires Inv-loop μ-loop
 symbol-of-requires c κs = let s : Start = c .before .before .before .before in row-within (s .pre .0) (row s) (used s)
@@ -133,35 +128,37 @@ cast-kid c =
       row-early (s .pre .0) (row s) (used s) (some s) (c .before .before .loop .i) (turning (c .before)),
     )
 
-place-of-requires : tie.Need-place-of-requires Inv-loop μ-loop
-place-of-requires c κs = omega arith
+state-of-requires : tie.Need-state-of-requires Inv-loop μ-loop
+state-of-requires c κs = let s : Start = start (c .before) in s .pre .1
 
 cast-bytes-2 : tie.Need-cast-bytes-2 Inv-loop μ-loop
 cast-bytes-2 c =
-    let s : Start = start (c .before .before) in
+    let p : Placed = c .before in
+    let s : Start = start (turn p) in
     omega (
       arith,
-      state c,
-      kid-place (s .pre .0) (s .pre .1) (s .pre .3) (c .before .before .before .loop .i) (turning (c .before .before)),
+      state p,
+      kid-place (s .pre .0) (s .pre .1) (s .pre .3) (turn p .before .loop .i) (turning (turn p)),
     )
 
 add-bytes : tie.Need-add-bytes Inv-loop μ-loop
-add-bytes c = omega (arith, few (c .before .before))
+add-bytes c = omega (arith, few (turn (c .before)))
 
 array-write-bytes-2 : tie.Need-array-write-bytes-2 Inv-loop μ-loop
-array-write-bytes-2 c = omega (arith, few (c .before .before))
+array-write-bytes-2 c = omega (arith, few (turn (c .before)))
 
 add-i : tie.Need-add-i Inv-loop μ-loop
-add-i c = omega (arith, few (c .before .before))
+add-i c = omega (arith, few (turn (c .before)))
 
 loop-less : tie.Need-loop-less Inv-loop μ-loop
 loop-less c = search needs
 
 loop-again : tie.Need-loop-again Inv-loop μ-loop
 loop-again c =
-    let t : Turn = c .before .before in
+    let p : Placed = c .before in
+    let t : Turn = turn p in
     let s : Start = start t in
-    (rule-more (store s) (states s) (row s) (t .before .loop .inv .0) (few t) (c .place-of .result) (state c), t .before .loop .inv .1)
+    (rule-more (store s) (states s) (row s) (t .before .loop .inv .0) (few t) (p .state-of .result .0) (state p), t .before .loop .inv .1)
 
 cast-t14 : tie.Need-cast-t14 Inv-loop μ-loop
 cast-t14 c = search needs
@@ -174,15 +171,15 @@ shared-slice-read-t28 c =
     let s : Start = c .before .before .before .before .before .before .before .before .before .before in
     omega (arith, used s, s .pre .2)
 
-place-of-requires-2 : tie.Need-place-of-requires-2 Inv-loop μ-loop
-place-of-requires-2 c κs = omega arith
+state-of-requires-2 : tie.Need-state-of-requires-2 Inv-loop μ-loop
+state-of-requires-2 c κs = let s : Start = c .before .before .before .before .before .before .before .before .before .before in s .pre .1
 
 cast-bytes-3 : tie.Need-cast-bytes-3 Inv-loop μ-loop
 cast-bytes-3 c =
-    let s : Start = begun c in
+    let s : Start = begun (c .before) in
     omega (
       arith,
-      target c,
+      target (c .before),
       target-place (s .pre .0) (s .pre .1) (s .pre .3),
     )
 
@@ -191,13 +188,14 @@ array-write-bytes-3 c = search needs
 
 returns : tie.Need-returns Inv-loop μ-loop
 returns c =
-    let s : Start = begun c in
-    let l = c .before .before .before .before .loop in
+    let e : Ended = c .before in
+    let s : Start = begun e in
+    let l = e .before .before .before .before .loop in
     let few-kids = row-few (s .pre .0) (row s) (used s) (some s) in
     let count = ap (λ (a : ℕ). getD (s .args .counts .now) a 0) (sym (row-symbol (s .pre .0) (row s) (used s))) ∙ row-count (s .pre .0) (row s) (used s) (some s) in
-    let whole : length (kidsAt (store s) (row s)) ≤ l .i = omega (arith, c .before .before .before .loop-test .left, l .inv .1) in (
-      length-set (l .bytes) 5 (c .place-of2 .result) ∙ l .inv .0 .long,
-      rule-end (store s) (states s) (row s) (s .args .reps .now) (l .inv .0) whole few-kids count (c .place-of2 .result) (target c),
+    let whole : length (kidsAt (store s) (row s)) ≤ l .i = omega (arith, e .before .before .before .loop-test .left, l .inv .1) in (
+      length-set (l .bytes) 5 (e .state-of2 .result .0) ∙ l .inv .0 .long,
+      rule-end (store s) (states s) (row s) (s .args .reps .now) (l .inv .0) whole few-kids count (e .state-of2 .result .0) (target e),
     )
 
 pub rule-bytes-spec : {M : Type 1} → statement M
@@ -215,7 +213,7 @@ rule-bytes-spec =
     loop-holds
     kid-of-requires
     cast-kid
-    place-of-requires
+    state-of-requires
     cast-bytes-2
     add-bytes
     array-write-bytes-2
@@ -225,7 +223,7 @@ rule-bytes-spec =
     cast-t14
     mul-t26
     shared-slice-read-t28
-    place-of-requires-2
+    state-of-requires-2
     cast-bytes-3
     array-write-bytes-3
     returns)

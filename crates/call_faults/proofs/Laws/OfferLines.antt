@@ -1,5 +1,5 @@
--- An offer's own lines (§5.3), each by the tests made before it; and what sound tables with no question open give to its tests.
--- Each line that does not apply leaves the rest to decide; with no question open no answer is missing, so the hypothesis is the automaton proposed.
+-- An offer's own lines (§5.3), each by the tests made before it; and what the proposed automaton gives to its tests.
+-- Each line that does not apply leaves the rest to decide; a run by the representatives is a run of the automaton.
 use mathlib.Core.Path.{_≡_, refl, sym, ap, _∙_}
 use mathlib.Core.Bool.{Bool, true, false, _&&_, not, cond, Bool·beq, true≢false}
 use mathlib.Core.List.{List, [], _∷_}
@@ -7,30 +7,26 @@ use Prim.Native.Nat.{ℕ, zero, suc, _+_, _≤_, _<_}
 use native.Mathlib.Omega.{arith}
 use borrow.Author.Tests.{eq-eqb, ne-eqb, le-leb, lt-leb}
 use lib.Dec.{eqb}
-use lib.ListN.{getD, take, drop, length-drop}
+use lib.ListN.{getD, drop, length-drop}
 use Rattle.model.specs.Store.{Store, used, countOf, padded, findRow}
 use Rattle.model.specs.Base.{top}
 use Rattle.model.specs.Terms.{orElse, unless, recordFault, knownFrom, knownRow}
 use Rattle.model.specs.Automata.{acceptsList}
-use Rattle.model.specs.Table.{Tables, answerAt, isMissing, automatonOf}
-use Rattle.model.specs.Sound.{contextsFew, isT5, isT6, isT7, isT8, isSound}
+use Rattle.model.specs.Table.{Tables, answerAt, automatonOf}
 use Rattle.model.specs.Calls.{markFits, contradicts, verdictIs, offerFault}
 use Rattle.model.specs.Facts.{Parses}
 use Rattle.model.specs.Entry.{storeOf, answersIn, tablesOf}
 use Rattle.model.specs.declared.Lists.{Lists}
-use Rattle.model.proofs.Laws.Tests.{and-left, and-right}
 use Rattle.model.proofs.Laws.Rows.{found}
-use Rattle.model.proofs.Laws.ReflectTable.{idle-of, known-back}
 use Rattle.bank.specs.Ready.{Ready}
 use Rattle.bank.proofs.Laws.Trees.{by-equal}
 use Rattle.bank.proofs.Laws.Words.{used-of}
-use Rattle.table_verdict.specs.Rules.{Ruled, RepsIn, acceptsListBy}
+use Rattle.run_lists.specs.Members.{countsIn}
+use Rattle.table_verdict.specs.Rules.{RepsIn, acceptsListBy}
 use Rattle.table_verdict.proofs.Laws.Words.{few-rows}
 use Rattle.table_verdict.proofs.Laws.States.{reps-ruled}
 use Rattle.table_verdict.proofs.Laws.Verdict.{accepts-list-is}
-use Rattle.sound.specs.Working.{Arrays, Working, preparedFit, judgedFit}
-use Rattle.sound.proofs.Laws.Judged.{sound-parts, ruled, hypothesis-is}
-use Rattle.step_end.specs.Stepping.{countsIn}
+use Rattle.sound.specs.Proposal.{Proposal}
 use Rattle.call_faults.specs.Lines.{Tested}
 
 -- THE LINES
@@ -126,36 +122,10 @@ known-within x s (a ∷ xs) is h =
 pub known-row-within : (ws ns : List ℕ) (n : ℕ) {ix : List ℕ} → Ready ws ns n ix → (xs : List ℕ) → knownRow (storeOf ws ns n) xs < n
 known-row-within ws ns n r xs = omega (arith, known-within (storeOf ws ns n) (r .good .start) xs [] (r .good .start), used-of ws ns n)
 
--- SOUND TABLES with no question open: their rules, their hypothesis, and its verdict
-module _ (ws : List ℕ) (l : Lists) {index table places reps : List ℕ} (a : Arrays (l .s) (l .states) (l .t) (l .rules) (l .c) (l .contexts))
-    (w : Working ws (countsIn l) (l .used) (l .s) (l .states) (l .t) (l .rules) (l .c) (l .contexts) index table places reps) (e : isSound (tablesOf ws l) ≡ true)
-    (z : l .asked ≡ 0) where
-  abbrev tested : Tables
-  tested = tablesOf ws l
-
-  abbrev middle : Bool
-  middle = contextsFew tested && (isT5 tested && isT6 tested)
-
-  both : preparedFit tested && judgedFit tested ≡ true
-  both = sound-parts tested ∙ e
-
-  prepared : preparedFit tested ≡ true
-  prepared = and-left (preparedFit tested) (judgedFit tested) both
-
-  judged : judgedFit tested ≡ true
-  judged = and-right (preparedFit tested) (judgedFit tested) both
-
-  tables-fit : contextsFew tested && (isT5 tested && isT6 tested) ≡ true
-  tables-fit = and-left middle (isT7 tested && isT8 tested) judged
-
-  none-missing : isMissing tested ≡ false
-  none-missing = known-back tested (idle-of tested z (and-right (isT7 tested) (isT8 tested) (and-right middle (isT7 tested && isT8 tested) judged)) .1)
-
-  offer-ruled : Ruled (storeOf ws (countsIn l) (l .used)) (take (l .states) (l .s)) (take (l .rules) (l .t)) reps
-  offer-ruled = ruled a w prepared (l .hand) (l .asked) (eqb (l .accepted) 1) tables-fit none-missing
-
+-- THE PROPOSAL: its representatives can be read, and its verdict is the automaton's
+module _ (ws : List ℕ) (l : Lists) {index reps : List ℕ} (r : Ready ws (countsIn l) (l .used) index) (d : Proposal ws l reps) where
   pub offer-reps : RepsIn (l .used) reps
-  offer-reps = reps-ruled (w .ready) offer-ruled
+  offer-reps = reps-ruled r (d .ruled)
 
   abbrev guess : Bool → ℕ → Bool
   guess b m = eqb (cond b 1 0) m
@@ -164,8 +134,7 @@ module _ (ws : List ℕ) (l : Lists) {index table places reps : List ℕ} (a : A
       (p : y ≡ acceptsListBy (storeOf ws (countsIn l) (l .used)) (answersIn (l .used) ws) reps xs) where
     verdict-of : y ≡ acceptsList (automatonOf (tablesOf ws l)) xs
     verdict-of =
-        p ∙ accepts-list-is (w .ready .good) offer-ruled (few-rows (w .ready)) (answersIn (l .used) ws) xs q ∙
-        ap (λ A. acceptsList A xs) (hypothesis-is a w prepared (l .hand) (l .asked) (eqb (l .accepted) 1) tables-fit none-missing)
+        p ∙ accepts-list-is (r .good) (d .ruled) (few-rows r) (answersIn (l .used) ws) xs q ∙ ap (λ A. acceptsList A xs) (d .is)
 
     verdict-by : verdictIs (tablesOf ws l) xs m ≡ eqb (cond y 1 0) m
     verdict-by = λ i. guess (sym verdict-of i) m

@@ -14,46 +14,27 @@ use Rattle.model.proofs.Laws.Lent.{listsFit-facts}
 use Rattle.model.proofs.Laws.Trees.{recordFault-parses}
 use Rattle.bank.specs.Rows.{answerIn}
 use Rattle.bank.proofs.Laws.Words.{answer-in}
-use Rattle.step_end.specs.Stepping.{countsIn}
+use Rattle.run_lists.specs.Members.{countsIn}
 use Rattle.call_faults.proofs.Laws.OfferLines.{line-same, line-unknown, line-known, line-against, known-row-within}
 use Rattle.call_faults.specs.Lines.{Tested}
 use Rattle.call_faults.proofs.fault_of.Statement.{statement}
 use Rattle.call_faults.proofs.fault_of.Tie as tie
-use Rattle.call_faults.proofs.fault_of.Reads as reads
-use Rattle.call_faults.proofs.fault_of.Lts as lts
-use Rattle.bank.proofs.rows.answer_of.Reads as answer-of-reads
-use Rattle.bank_listed.proofs.known_row.Reads as known-row-reads
-use Rattle.call_faults.proofs.input_fault.Reads as input-fault-reads
-use Rattle.call_faults.proofs.verdict_is.Reads as verdict-is-reads
-
--- what the calls within ask and teach, in the order of the walk
-abbrev claims : lts.Claims
-claims = (
-  input-fault-reads.Asked,
-  input-fault-reads.Learnt,
-  verdict-is-reads.Asked,
-  verdict-is-reads.Learnt,
-  known-row-reads.Asked,
-  known-row-reads.Learnt,
-  answer-of-reads.Asked,
-  answer-of-reads.Learnt,
-)
 
 -- the milestones: the start, an input without fault, a verdict other than the mark, the answer stored
 abbrev Start : Type 0
-Start = lts.Start claims reads.Pre reads.Post
+Start = tie.Start
 
 abbrev Fitting : Type 0
-Fitting = lts.Else1 claims reads.Pre reads.Post
+Fitting = tie.Else1
 
 abbrev Differs : Type 0
-Differs = lts.Else2 claims reads.Pre reads.Post
+Differs = tie.Else2
 
 abbrev Answered : Type 0
-Answered = lts.After-answer-of claims reads.Pre reads.Post
+Answered = tie.After-answer-of
 
 abbrev start : Fitting → Start
-start c = c .before .before .before .before .before .before .before
+start c = c .before .before .before .before .before .before
 
 abbrev fitting : Differs → Fitting
 fitting c = c .before .before
@@ -77,7 +58,7 @@ abbrev known : Start → ℕ
 known s = knownRow (storeOf (s .args .words .now) (countsIn (s .args .lists)) (s .args .lists .used)) (s .args .symbols .now)
 
 within : (s : Start) → known s < s .args .lists .used
-within s = known-row-within (s .args .words .now) (countsIn (s .args .lists)) (s .args .lists .used) (s .pre .3 .ready) (s .args .symbols .now)
+within s = known-row-within (s .args .words .now) (countsIn (s .args .lists)) (s .args .lists .used) (s .pre .1) (s .args .symbols .now)
 
 answered : (c : Answered) → c .answer-of .result ≡ answerAt (answersIn (first c .args .lists .used) (first c .args .words .now)) (known (first c))
 answered c =
@@ -88,10 +69,10 @@ input-fault-requires : tie.Need-input-fault-requires
 input-fault-requires c κs = search needs
 
 returns : tie.Need-returns
-returns c = let s = c .before .before .before .before .before .before .before in c .before .input-fault .ensures .given (c .if1 .taken) (s .args .words .now)
+returns c = let s = c .before .before .before .before .before .before in c .before .input-fault .ensures .given (c .if1 .taken) (s .args .words .now)
 
 verdict-is-requires : tie.Need-verdict-is-requires
-verdict-is-requires c κs = let s = start c in (s .pre .1, s .pre .2, s .pre .3, tested c)
+verdict-is-requires c κs = let s = start c in (s .pre .0, s .pre .1, s .pre .2 (tested c .idle), tested c)
 
 returns-2 : tie.Need-returns-2
 returns-2 c =
@@ -104,26 +85,26 @@ cast-letters c = search needs
 
 array-share-prefix-counts : tie.Need-array-share-prefix-counts
 array-share-prefix-counts c =
-    let s : Start = c .before .before .before .before .before .before .before .before .before .before .before in
+    let s : Start = c .before .before .before .before .before .before .before .before .before .before in
     let e : length (s .args .lists .counts) ≡ mostSymbols = search needs in
-    omega (arith, listsFit-facts (s .args .lists) (s .pre .1) .letters)
+    omega (arith, listsFit-facts (s .args .lists) (s .pre .0) .letters)
 
 slice-aggregate-known-row : tie.Need-slice-aggregate-known-row
 slice-aggregate-known-row c =
-    let s : Start = c .before .before .before .before .before .before .before .before .before .before .before .before in
+    let s : Start = c .before .before .before .before .before .before .before .before .before .before .before in
     let e : length (s .args .lists .counts) ≡ mostSymbols = search needs in
-    sym (length-take-le (s .args .lists .letters) (s .args .lists .counts) (omega (arith, listsFit-facts (s .args .lists) (s .pre .1) .letters)))
+    sym (length-take-le (s .args .lists .letters) (s .args .lists .counts) (omega (arith, listsFit-facts (s .args .lists) (s .pre .0) .letters)))
 
 known-row-requires : tie.Need-known-row-requires
 known-row-requires c κs =
     let f : Fitting = c .before .before .before .before .before in
     let p = parsed f in
-    (start f .pre .3 .ready, p .0, p .1)
+    (start f .pre .1, p .0, p .1)
 
 answer-of-requires : tie.Need-answer-of-requires
 answer-of-requires c κs =
-    let s : Start = c .before .before .before .before .before .before .before .before .before .before .before .before .before in
-    omega (arith, within s, c .known-row .ensures, s .pre .3 .ready .finding .room)
+    let s : Start = c .before .before .before .before .before .before .before .before .before .before .before .before in
+    omega (arith, within s, c .known-row .ensures, s .pre .1 .finding .room)
 
 returns-3 : tie.Need-returns-3
 returns-3 c =

@@ -10,6 +10,16 @@ use Rattle.call_take.proofs.Laws.Answered.{told-unsound, told-sound, unasked-fa
 use Rattle.call_lent.proofs.answer_in.Statement.{statement}
 use Rattle.call_lent.proofs.answer_in.Tie as tie
 
+-- the tables tested; past the tests, the answer taken
+abbrev Tested : Type 0
+Tested = tie.After-lists-sound
+
+abbrev start : Tested → tie.Start
+start c = c .before .before .before .before .before .before .before .before .before .before
+
+abbrev tested : tie.Else1 → Tested
+tested c = c .before .before .before .before .before .before .before
+
 lists-sound-requires : tie.Need-lists-sound-requires
 lists-sound-requires c κs = search needs
 
@@ -30,9 +40,10 @@ same-length-4 c = search needs
 
 returns : tie.Need-returns
 returns c =
-    let s = c .before .before .before .before .before .before .before .before .before .before .before .before .before .before .before .before .before .before .before in
-    let z = c .before .before .before .before .before .before .before .before .lists-sound in
-    called-unsound (s .args .words .now) (s .args .lists) (answers (s .args .mark)) (c .refuse .result) (s .pre .0) (s .pre .1) (told-unsound (s .args .words .now) (s .args .lists) (z .result) (z .ensures .0) (c .before .if1 .taken)) (c .refuse .ensures .0) (c .refuse .ensures .1)
+    let z : Tested = c .before .before .before .before .before .before .before .before in
+    let s = start z in
+    let unsound = told-unsound (s .args .words .now) (s .args .lists) (z .lists-sound .result) (z .lists-sound .ensures .0) (c .before .if1 .taken) in
+    called-unsound (s .args .words .now) (s .args .lists) (answers (s .args .mark)) (c .refuse .result) (s .pre .0) (s .pre .1) unsound (c .refuse .ensures .0) (c .refuse .ensures .1)
 
 refuse-requires-2 : tie.Need-refuse-requires-2
 refuse-requires-2 c κs = search needs
@@ -51,10 +62,12 @@ same-length-8 c = search needs
 
 returns-2 : tie.Need-returns-2
 returns-2 c =
-    let s = c .before .before .before .before .before .before .before .before .before .before .before .before .before .before .before .before .before .before .before .before .before in
-    let z = c .before .before .before .before .before .before .before .before .before .before .lists-sound in
-    called-fault (s .args .words .now) (s .args .lists) (answers (s .args .mark)) (c .refuse2 .result) (s .pre .0) (s .pre .1) (told-sound (s .args .words .now) (s .args .lists) (z .result) (z .ensures .0) (c .before .before .before .if1 .left)) 31
-    (unasked-fault (tablesOf (s .args .words .now) (s .args .lists)) (s .args .mark) (c .before .if2 .taken)) (λ e. absurd (omega (arith, e))) (c .refuse2 .ensures .0) (c .refuse2 .ensures .1)
+    let e : tie.Else1 = c .before .before .before in
+    let z = tested e in
+    let s = start z in
+    let sound = told-sound (s .args .words .now) (s .args .lists) (z .lists-sound .result) (z .lists-sound .ensures .0) (e .if1 .left) in
+    called-fault (s .args .words .now) (s .args .lists) (answers (s .args .mark)) (c .refuse2 .result) (s .pre .0) (s .pre .1) sound 31
+    (unasked-fault (tablesOf (s .args .words .now) (s .args .lists)) (s .args .mark) (c .before .if2 .taken)) (λ d. absurd (omega (arith, d))) (c .refuse2 .ensures .0) (c .refuse2 .ensures .1)
 
 refuse-requires-3 : tie.Need-refuse-requires-3
 refuse-requires-3 c κs = search needs
@@ -73,17 +86,22 @@ same-length-12 c = search needs
 
 returns-3 : tie.Need-returns-3
 returns-3 c =
-    let s = c .before .before .before .before .before .before .before .before .before .before .before .before .before .before .before .before .before .before .before .before .before .before in
-    let z = c .before .before .before .before .before .before .before .before .before .before .before .lists-sound in
-    called-fault (s .args .words .now) (s .args .lists) (answers (s .args .mark)) (c .refuse3 .result) (s .pre .0) (s .pre .1) (told-sound (s .args .words .now) (s .args .lists) (z .result) (z .ensures .0) (c .before .before .before .before .if1 .left)) 16
-    (mark-fault (tablesOf (s .args .words .now) (s .args .lists)) (s .args .mark) (c .before .before .if2 .left) (c .before .if3 .taken)) (λ e. absurd (omega (arith, e))) (c .refuse3 .ensures .0) (c .refuse3 .ensures .1)
+    let e : tie.Else1 = c .before .before .before .before in
+    let z = tested e in
+    let s = start z in
+    let sound = told-sound (s .args .words .now) (s .args .lists) (z .lists-sound .result) (z .lists-sound .ensures .0) (e .if1 .left) in
+    called-fault (s .args .words .now) (s .args .lists) (answers (s .args .mark)) (c .refuse3 .result) (s .pre .0) (s .pre .1) sound 16
+    (mark-fault (tablesOf (s .args .words .now) (s .args .lists)) (s .args .mark) (c .before .before .if2 .left) (c .before .if3 .taken)) (λ d. absurd (omega (arith, d))) (c .refuse3 .ensures .0) (c .refuse3 .ensures .1)
 
 take-answer-requires : tie.Need-take-answer-requires
 take-answer-requires c κs =
-    let s = c .before .before .before .before .before .before .before .before .before .before .before .before .before .before .before .before .before .before .before .before .before .before .before .before .before .before .before in
-    let z = c .before .before .before .before .before .before .before .before .before .before .before .before .before .before .before .before .lists-sound in
-    let d = c .before .before .before .before .before .before .before .before .before .if1 .left in
-    (s .pre .0, s .pre .1, told-sound (s .args .words .now) (s .args .lists) (z .result) (z .ensures .0) d, c .before .before .before .before .before .before .before .if2 .left, c .before .before .before .before .before .before .if3 .left, z .ensures .1 (not-false (z .result) d), s .pre .2, omega (arith, z .kept .1 .1 .1 .0, s .pre .4))
+    let m : tie.Else3 = c .before .before .before .before .before in
+    let e : tie.Else1 = m .before .before .before in
+    let z = tested e in
+    let s = start z in
+    let sound = told-sound (s .args .words .now) (s .args .lists) (z .lists-sound .result) (z .lists-sound .ensures .0) (e .if1 .left) in
+    let w = z .lists-sound .ensures .1 (not-false (z .lists-sound .result) (e .if1 .left)) in
+    (s .pre .0, s .pre .1, sound, m .before .if2 .left, m .if3 .left, w, s .pre .2, omega (arith, z .lists-sound .kept .1 .1 .1 .0, s .pre .4))
 
 same-length-13 : tie.Need-same-length-13
 same-length-13 c = search needs
@@ -92,10 +110,13 @@ same-length-14 : tie.Need-same-length-14
 same-length-14 c = search needs
 
 same-length-15 : tie.Need-same-length-15
-same-length-15 c = c .before .before .before .before .before .before .before .before .take-answer .kept .1 .1 .1 .1 .0 ∙ c .before .before .before .before .before .before .before .before .before .before .before .before .before .before .before .before .before .before .before .before .before .before .before .before .before .lists-sound .kept .1 .1 .0
+same-length-15 c =
+    let k : tie.After-take-answer = c .before .before .before .before .before .before .before .before .before .before in
+    let m : tie.Else3 = k .before .before .before .before .before .before in
+    k .take-answer .kept .1 .1 .1 .1 .0 ∙ tested (m .before .before .before) .lists-sound .kept .1 .1 .0
 
 same-length-16 : tie.Need-same-length-16
-same-length-16 c = c .before .before .before .before .before .before .before .before .take-answer .kept .1 .1 .1 .1 .1 .0 ∙ c .before .before .before .before .before .before .before .before .before .before .before .before .before .before .before .before .before .before .before .before .before .before .before .before .before .lists-sound .kept .1 .1 .1 .0
+same-length-16 c = search needs
 
 same-length-17 : tie.Need-same-length-17
 same-length-17 c = search needs

@@ -35,7 +35,11 @@ same-length-5 : tie.Need-same-length-5
 same-length-5 c = search needs
 
 returns : tie.Need-returns
-returns c = subst (λ (k : Said). CallAs (c .before .before .before .before .before .before .before .before .before .before .before .before .before .before .before .before .before .before .before .before .before .before .before .before .before .before .args .words .now) (c .before .before .before .before .before .before .before .before .before .before .before .before .before .before .before .before .before .before .before .before .before .before .before .before .before .before .args .lists) (callOf k (c .before .before .before .before .before .before .before .before .before .before .before .before .before .before .before .before .before .before .before .before .before .before .before .before .before .before .args .symbols .now)) (c .before .before .before .before .before .before .before .before .before .before .answer-in .result) (c .before .before .before .before .before .before .before .before .before .before .answer-in .last .0)) (sym (c .before .before .before .before .before .before .before .before .before .before .before .before .before .before .before .before .before .before .said .given .1)) (c .before .before .before .before .before .before .before .before .before .before .answer-in .ensures)
+returns c =
+    let k : tie.After-answer-in = c .before .before .before .before .before .before .before .before .before .before in
+    let m : tie.After-said = k .before .before .before .before .before .before .before in
+    let s = m .before .before .before .before .before .before .before .before in
+    subst (λ (v : Said). CallAs (s .args .words .now) (s .args .lists) (callOf v (s .args .symbols .now)) (k .answer-in .result) (k .answer-in .last .0)) (sym (m .said .given .1)) (k .answer-in .ensures)
 
 same-length-6 : tie.Need-same-length-6
 same-length-6 c = search needs
@@ -53,7 +57,11 @@ same-length-10 : tie.Need-same-length-10
 same-length-10 c = search needs
 
 returns-2 : tie.Need-returns-2
-returns-2 c = subst (λ (k : Said). CallAs (c .before .before .before .before .before .before .before .before .before .before .before .before .before .before .before .before .before .before .before .before .before .before .before .before .before .before .args .words .now) (c .before .before .before .before .before .before .before .before .before .before .before .before .before .before .before .before .before .before .before .before .before .before .before .before .before .before .args .lists) (callOf k (c .before .before .before .before .before .before .before .before .before .before .before .before .before .before .before .before .before .before .before .before .before .before .before .before .before .before .args .symbols .now)) (c .before .before .before .before .before .before .before .before .before .before .offer-in .result) (c .before .before .before .before .before .before .before .before .before .before .offer-in .last .0)) (sym (c .before .before .before .before .before .before .before .before .before .before .before .before .before .before .before .before .before .before .said2 .given .1)) (c .before .before .before .before .before .before .before .before .before .before .offer-in .ensures)
+returns-2 c =
+    let k : tie.After-offer-in = c .before .before .before .before .before .before .before .before .before .before in
+    let m : tie.After-said2 = k .before .before .before .before .before .before .before in
+    let s = m .before .before .before .before .before .before .before .before in
+    subst (λ (v : Said). CallAs (s .args .words .now) (s .args .lists) (callOf v (s .args .symbols .now)) (k .offer-in .result) (k .offer-in .last .0)) (sym (m .said2 .given .1)) (k .offer-in .ensures)
 
 pub call-in-spec : {M : Type 1} → statement M
 call-in-spec =

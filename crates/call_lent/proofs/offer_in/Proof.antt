@@ -1,12 +1,43 @@
 -- `call_lent::offer_in` meets its contract: 30 for unsound tables, then the offer's own lines, then the step.
-use mathlib.Core.Path.{sym, _∙_}
+-- Sound tables with no question open have the proposal that the lines read.
+use mathlib.Core.Path.{_≡_, sym, subst, _∙_}
 use native.Mathlib.Omega.{arith}
 use borrow.Author.Tests.{not-true, not-false}
 use borrow.Author.Needs.{needs}
+use lib.ListN.{length}
+use Rattle.model.specs.Limits.{mostContexts, mostRules, mostStates}
 use Rattle.model.specs.Calls.{offers}
+use Rattle.model.proofs.Laws.Lent.{listsFit-facts}
+use Rattle.sound.specs.Working.{Arrays}
+use Rattle.sound.specs.Proposal.{Proposal}
+use Rattle.sound.proofs.Laws.Proposal.{proposal}
 use Rattle.call.proofs.Laws.Called.{called-unsound, called-fault}
 use Rattle.call_lent.proofs.offer_in.Statement.{statement}
 use Rattle.call_lent.proofs.offer_in.Tie as tie
+
+-- the tables tested; the offer's lines tested
+abbrev Tested : Type 0
+Tested = tie.After-lists-sound
+
+abbrev start : Tested → tie.Start
+start c = c .before .before .before .before .before .before .before .before .before .before .before
+
+abbrev tested : tie.Else1 → Tested
+tested c = c .before .before .before .before .before .before .before
+
+abbrev sounded : tie.After-take-offer → Tested
+sounded k =
+    let m : tie.Else2 = k .before .before .before .before .before .before in
+    let f : tie.After-fault-of = m .before in
+    tested (f .before .before .before .before .before)
+
+arrays : (s : tie.Start) → Arrays (s .args .lists .s) (s .args .lists .states) (s .args .lists .t) (s .args .lists .rules) (s .args .lists .c) (s .args .lists .contexts)
+arrays s =
+    let f = listsFit-facts (s .args .lists) (s .pre .1) in
+    let a : length (s .args .lists .s) ≡ mostStates = search needs in
+    let b : length (s .args .lists .t) ≡ mostRules = search needs in
+    let d : length (s .args .lists .c) ≡ mostContexts = search needs in
+    record { few-s = omega (arith, f .states, a); few-t = omega (arith, f .rules, b); few-c = omega (arith, f .contexts, d) }
 
 lists-sound-requires : tie.Need-lists-sound-requires
 lists-sound-requires c κs = search needs
@@ -28,16 +59,23 @@ same-length-4 c = search needs
 
 returns : tie.Need-returns
 returns c =
-    let s = c .before .before .before .before .before .before .before .before .before .before .before .before .before .before .before .before .before .before .before .before in
-    called-unsound (s .args .words .now) (s .args .lists) (offers (s .args .symbols .now) (s .args .mark)) (c .refuse .result) (s .pre .0) (s .pre .1)
-    (sym (c .before .before .before .before .before .before .before .before .lists-sound .ensures .0) ∙ not-true (c .before .before .before .before .before .before .before .before .lists-sound .result) (c .before .if1 .taken)) (c .refuse .ensures .0) (c .refuse .ensures .1)
+    let z : Tested = c .before .before .before .before .before .before .before .before in
+    let s = start z in
+    let unsound = sym (z .lists-sound .ensures .0) ∙ not-true (z .lists-sound .result) (c .before .if1 .taken) in
+    called-unsound (s .args .words .now) (s .args .lists) (offers (s .args .symbols .now) (s .args .mark)) (c .refuse .result) (s .pre .0) (s .pre .1) unsound (c .refuse .ensures .0) (c .refuse .ensures .1)
+
+column-requires : tie.Need-column-requires
+column-requires c κs = search needs
 
 fault-of-requires : tie.Need-fault-of-requires
 fault-of-requires c κs =
-    let s = c .before .before .before .before .before .before .before .before .before .before .before .before .before .before .before .before .before .before .before .before .before .before .before .before in
-    let w = c .before .before .before .before .before .before .before .before .before .before .before .before .lists-sound in
-    let t = not-false (w .result) (c .before .before .before .before .before .if1 .left) in
-    (s .pre .0, s .pre .1, sym (w .ensures .0) ∙ t, w .ensures .1 t)
+    let e : tie.Else1 = c .before .before .before .before in
+    let z = tested e in
+    let s = start z in
+    let d = not-false (z .lists-sound .result) (e .if1 .left) in
+    let w = z .lists-sound .ensures .1 d in
+    let sound = sym (z .lists-sound .ensures .0) ∙ d in
+    (s .pre .1, w .ready, λ idle. subst (Proposal (s .args .words .now) (s .args .lists)) (sym (c .before .before .column .ensures)) (proposal (s .args .lists) (arrays s) w sound idle))
 
 refuse-requires-2 : tie.Need-refuse-requires-2
 refuse-requires-2 c κs = search needs
@@ -46,7 +84,7 @@ same-length-5 : tie.Need-same-length-5
 same-length-5 c = search needs
 
 same-length-6 : tie.Need-same-length-6
-same-length-6 c = c .before .before .before .before .before .before .before .before .before .before .before .before .before .before .before .lists-sound .kept .1 .1 .0
+same-length-6 c = search needs
 
 same-length-7 : tie.Need-same-length-7
 same-length-7 c = search needs
@@ -56,17 +94,23 @@ same-length-8 c = search needs
 
 returns-2 : tie.Need-returns-2
 returns-2 c =
-    let s = c .before .before .before .before .before .before .before .before .before .before .before .before .before .before .before .before .before .before .before .before .before .before .before .before .before .before .before in
-    let w = c .before .before .before .before .before .before .before .before .before .before .before .before .before .before .before .lists-sound in
-    called-fault (s .args .words .now) (s .args .lists) (offers (s .args .symbols .now) (s .args .mark)) (c .refuse2 .result) (s .pre .0) (s .pre .1)
-    (sym (w .ensures .0) ∙ not-false (w .result) (c .before .before .before .before .before .before .before .before .if1 .left)) (c .before .before .fault-of .result) (sym (c .before .before .fault-of .ensures)) (c .before .if2 .taken) (c .refuse2 .ensures .0) (c .refuse2 .ensures .1)
+    let f : tie.After-fault-of = c .before .before in
+    let e : tie.Else1 = f .before .before .before .before .before in
+    let z = tested e in
+    let s = start z in
+    let sound = sym (z .lists-sound .ensures .0) ∙ not-false (z .lists-sound .result) (e .if1 .left) in
+    called-fault (s .args .words .now) (s .args .lists) (offers (s .args .symbols .now) (s .args .mark)) (c .refuse2 .result) (s .pre .0) (s .pre .1) sound
+    (f .fault-of .result) (sym (f .fault-of .ensures)) (c .before .if2 .taken) (c .refuse2 .ensures .0) (c .refuse2 .ensures .1)
 
 take-offer-requires : tie.Need-take-offer-requires
 take-offer-requires c κs =
-    let s = c .before .before .before .before .before .before .before .before .before .before .before .before .before .before .before .before .before .before .before .before .before .before .before .before .before .before .before .before .before .before .before .before in
-    let w = c .before .before .before .before .before .before .before .before .before .before .before .before .before .before .before .before .before .before .before .before .lists-sound in
-    let t = not-false (w .result) (c .before .before .before .before .before .before .before .before .before .before .before .before .before .if1 .left) in
-    (s .pre .0, s .pre .1, sym (w .ensures .0) ∙ t, sym (c .before .before .before .before .before .before .before .fault-of .ensures) ∙ c .before .before .before .before .before .before .if2 .left, w .ensures .1 t, s .pre .2, omega (arith, w .kept .1 .1 .1 .0, s .pre .4))
+    let m : tie.Else2 = c .before .before .before .before .before in
+    let f : tie.After-fault-of = m .before in
+    let e : tie.Else1 = f .before .before .before .before .before in
+    let z = tested e in
+    let s = start z in
+    let d = not-false (z .lists-sound .result) (e .if1 .left) in
+    (s .pre .0, s .pre .1, sym (z .lists-sound .ensures .0) ∙ d, sym (f .fault-of .ensures) ∙ m .if2 .left, z .lists-sound .ensures .1 d, s .pre .2, omega (arith, z .lists-sound .kept .1 .1 .1 .0, s .pre .4))
 
 same-length-9 : tie.Need-same-length-9
 same-length-9 c = search needs
@@ -75,13 +119,19 @@ same-length-10 : tie.Need-same-length-10
 same-length-10 c = search needs
 
 same-length-11 : tie.Need-same-length-11
-same-length-11 c = c .before .before .before .before .before .before .before .before .take-offer .kept .1 .1 .1 .1 .1 .0 ∙ c .before .before .before .before .before .before .before .before .before .before .before .before .before .before .before .before .before .before .before .before .before .before .before .before .before .before .before .before .before .lists-sound .kept .1 .1 .0
+same-length-11 c =
+    let k : tie.After-take-offer = c .before .before .before .before .before .before .before .before .before .before in
+    k .take-offer .kept .1 .1 .1 .1 .1 .0 ∙ sounded k .lists-sound .kept .1 .1 .0
 
 same-length-12 : tie.Need-same-length-12
-same-length-12 c = c .before .before .before .before .before .before .before .before .take-offer .kept .1 .1 .1 .1 .1 .1 .0 ∙ c .before .before .before .before .before .before .before .before .before .before .before .before .before .before .before .before .before .before .before .before .before .before .before .before .before .before .before .before .before .lists-sound .kept .1 .1 .1 .0
+same-length-12 c =
+    let k : tie.After-take-offer = c .before .before .before .before .before .before .before .before .before .before in
+    k .take-offer .kept .1 .1 .1 .1 .1 .1 .0 ∙ sounded k .lists-sound .kept .1 .1 .1 .0
 
 same-length-13 : tie.Need-same-length-13
-same-length-13 c = c .before .before .before .before .before .before .before .before .before .before .before .before .before .before .before .before .before .before .before .before .before .before .before .before .before .before .before .before .before .lists-sound .kept .1 .1 .1 .1 .1 .0
+same-length-13 c =
+    let k : tie.After-take-offer = c .before .before .before .before .before .before .before .before .before .before in
+    k .take-offer .kept .1 .1 .1 .1 .1 .1 .1 .0 ∙ sounded k .lists-sound .kept .1 .1 .1 .1 .0
 
 returns-3 : tie.Need-returns-3
 returns-3 c = search needs
@@ -97,6 +147,7 @@ offer-in-spec =
     same-length-3
     same-length-4
     returns
+    column-requires
     fault-of-requires
     refuse-requires-2
     same-length-5

@@ -41,26 +41,27 @@ accepting-requires c κs = search needs
 
 told-requires : tie.Need-told-requires
 told-requires c κs =
-    let s = c .before .before .before .before .before .before .before .before .before in
-    let k = c .before .before .before .before .before .before .look in
-    subst (λ (l : Lists). listsFit l ≡ true) (sym (c .before .accepting .ensures)) (accepting-fit (s .args .lists) (look-taken (s .args .words .now) (s .args .lists) (k .result) (k .ensures) (c .before .before .before .before .if1 .left) .1))
+    let s = c .before .before .before .before .before .before .before .before in
+    let k = c .before .before .before .before .before .look in
+    let t = look-taken (s .args .words .now) (s .args .lists) (k .result) (k .ensures) (c .before .before .before .if1 .left) in
+    subst (λ (l : Lists). listsFit l ≡ true) (sym (c .accepting .ensures)) (accepting-fit (s .args .lists) (t .1))
 
 same-length-3 : tie.Need-same-length-3
 same-length-3 c = search needs
 
 returns-3 : tie.Need-returns-3
 returns-3 c =
-    let s = c .before .before .before .before .before .before .before .before .before .before in
-    let k = c .before .before .before .before .before .before .before .look in
-    let n = c .before .before .before .before .before .if1 .left in
+    let s = c .before .before .before .before .before .before .before .before .before in
+    let k = c .before .before .before .before .before .before .look in
+    let n = c .before .before .before .before .if1 .left in
     let l = s .args .lists in
     let t = look-taken (s .args .words .now) l (k .result) (k .ensures) n in
     let a : length (l .counts) ≡ mostSymbols = search needs in
     let d : length (l .s) ≡ mostStates = length-unmapped ℕ (l .s) mostStates (s .good .1 .0 .1 .1 .1 .1 .1 .1 .1 .0 .1 .0 .1) in
     let e : length (l .t) ≡ mostRules = length-unmapped ℕ (l .t) mostRules (s .good .1 .0 .1 .1 .1 .1 .1 .1 .1 .1 .1 .0 .1 .0 .1) in
     let f : length (l .c) ≡ mostContexts = length-unmapped ℕ (l .c) mostContexts (s .good .1 .0 .1 .1 .1 .1 .1 .1 .1 .1 .1 .1 .1 .0 .1 .0 .1) in
-    accept-taken (s .args .words .now) l (k .result) (k .ensures) n _ (in-arrays l (t .1) a d e f) (c .before .before .before .if2 .left)
-    (c .told .ensures ∙ ap (λ (m : Lists). seenOf (look (tablesOf (s .args .words .now) m))) (c .before .before .accepting .ensures)) (c .before .before .accepting .ensures)
+    accept-taken (s .args .words .now) l (k .result) (k .ensures) n _ (in-arrays l (t .1) a d e f) (c .before .before .if2 .left)
+    (c .told .ensures (s .args .words .now) ∙ ap (λ (m : Lists). seenOf (look (tablesOf (s .args .words .now) m))) (c .before .accepting .ensures)) (c .before .accepting .ensures)
 
 pub accept-spec : {M : Type 1} → statement M
 accept-spec =

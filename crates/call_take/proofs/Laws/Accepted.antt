@@ -17,9 +17,10 @@ use Rattle.model.specs.declared.Lists.{Lists}
 use Rattle.model.specs.declared.Seen.{Seen}
 use Rattle.model.proofs.Laws.Lent.{over-take, length-nodesIn, words-same, rows-within, listsFit-facts, listsFit-true}
 use Rattle.model.proofs.Laws.Sounds.{sound-facts}
-use Rattle.call_look.proofs.Laws.Looked.{size-refused, lists-refused, unsound-refused, looked}
+use Rattle.call.proofs.Laws.Looked.{size-refused, lists-refused, unsound-refused, looked}
 use Rattle.bank.proofs.Laws.Words.{used-of}
-use Rattle.step_end.specs.Stepping.{accepting, countsIn}
+use Rattle.run_lists.specs.Members.{countsIn}
+use Rattle.step_end.specs.Stepping.{accepting}
 use Rattle.call.specs.Calls.{CallAs}
 use Rattle.call.specs.declared.Done.{Done}
 use Rattle.call.proofs.Laws.Called.{called-size, called-lists, called-unsound, called-fault, called-left}

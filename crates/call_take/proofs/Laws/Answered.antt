@@ -21,7 +21,7 @@ use Rattle.model.specs.Phase.{Phase, idle, holding, filling}
 use Rattle.model.specs.Sound.{isSound}
 use Rattle.model.specs.Calls.{answerFault}
 use Rattle.model.specs.Steps.{answered}
-use Rattle.model.specs.Entry.{listsFit, tablesOf}
+use Rattle.model.specs.Entry.{sizeFits, listsFit, tablesOf}
 use Rattle.model.specs.declared.Lists.{Lists}
 use Rattle.model.proofs.Laws.Lent.{listsFit-facts, listsFit-true}
 use Rattle.model.proofs.Laws.Sounds.{sound-facts}
@@ -31,15 +31,18 @@ use Rattle.model.proofs.Laws.Unchanged.{full-of}
 use Rattle.model.proofs.Laws.Step.{AnswerOk, answer-held, answer-filling, mark-some, mark-small}
 use Rattle.model.proofs.Laws.Answer.{answered-core, answered-whole, answered-fits}
 use Rattle.bank.specs.Rows.{answerIn, withAnswer, Within}
+use Rattle.bank.specs.Notes.{repsIn}
 use Rattle.bank.proofs.Laws.Words.{used-of, answer-in}
+use Rattle.bank.proofs.Laws.Notes.{column-long}
+use Rattle.run_lists.specs.Members.{countsIn}
 use Rattle.bank_undo.proofs.Laws.Left.{answered-store, answered-answers, ready-answered}
 use Rattle.table.specs.Answers.{KnownRows}
 use Rattle.table.proofs.Laws.Known.{known-answered}
 use Rattle.table.proofs.Laws.Tied.{missing-tied}
 use Rattle.table_verdict.proofs.Laws.Tied.{RepsOf, reps-tied}
 use Rattle.step_search.specs.Spots.{Handling}
-use Rattle.sound.specs.Working.{Working}
-use Rattle.step_end.specs.Stepping.{Orderly, countsIn, Stepping, KnownTable, InHand, closed}
+use Rattle.sound.specs.Working.{WorkingOn}
+use Rattle.step_end.specs.Stepping.{Orderly, Stepping, KnownTable, InHand, closed}
 use Rattle.step_end.proofs.Laws.Lists.{core-orderly}
 use Rattle.call_take.proofs.Laws.Accepted.{InArrays, sound-within}
 
@@ -102,8 +105,16 @@ handling-answered x f h fit o v some small few reps p long =
     state : (u : ℕ) → In u (x .t) → stateFrom new (new u) 0 (x .s) ≡ stateFrom old (old u) 0 (x .s)
     state u a = state-same old new (new u) 0 (x .s) (λ k b. rows k (f .shaped .among k b)) ∙ ap (λ (w : List ℕ). stateFrom old w 0 (x .s)) (rows u a)
 
+-- WHAT IS GIVEN: sound tables in lists that fit, with a question open, and a mark
+pub record Given (ws : List ℕ) (l : Lists) (m : ℕ) : Type 0 where
+  pub size : sizeFits ws ≡ true
+  pub fit : listsFit l ≡ true
+  pub sound : isSound (tablesOf ws l) ≡ true
+  pub asking : l .asked ≡ 0 → ⊥
+  pub mark : m ≤ 1
+
 -- WHAT THE STEP NEEDS
-module _ (ws : List ℕ) (l : Lists) (m : ℕ) (fit : listsFit l ≡ true) (sound : isSound (tablesOf ws l) ≡ true) (asking : l .asked ≡ 0 → ⊥) (mark : m ≤ 1) where
+module _ {ws : List ℕ} {l : Lists} {m : ℕ} (t : Given ws l m) where
   abbrev X : Tables
   X = tablesOf ws l
 
@@ -111,10 +122,10 @@ module _ (ws : List ℕ) (l : Lists) (m : ℕ) (fit : listsFit l ≡ true) (soun
   Y = tables (X .store) (set (X .answers) (l .asked) (m + 1)) (X .s) (X .t) (X .c) (l .hand) 0 false
 
   pub its-question : Open (tablesOf ws l)
-  its-question = go (sound-facts X sound .nearly .phase)
+  its-question = go (sound-facts X (t .sound) .nearly .phase)
     where
       go : Phase X → Open X
-      go (idle a h w) = absurd (asking a)
+      go (idle a h w) = absurd (t .asking a)
       go (holding o r w f) = o
       go (filling o r h q) = o
 
@@ -122,33 +133,33 @@ module _ (ws : List ℕ) (l : Lists) (m : ℕ) (fit : listsFit l ≡ true) (soun
   asked-used = let r = its-question .0 .within in omega (arith, used-of ws (countsIn l) (l .used))
 
   pub asked-within : Within ws (l .asked)
-  asked-within = omega (arith, asked-used, sound-within ws l sound)
+  asked-within = omega (arith, asked-used, sound-within ws l (t .sound))
 
   pub asked-unknown : answerIn ws (l .asked) ≡ 0
   asked-unknown = sym (answer-in (l .used) (l .asked) ws asked-used) ∙ its-question .1
 
   pub tables-answered : tablesOf (withAnswer ws (l .asked) (m + 1)) (closed l) ≡ tables (tablesOf ws l .store) (set (tablesOf ws l .answers) (l .asked) (m + 1)) (tablesOf ws l .s) (tablesOf ws l .t) (tablesOf ws l .c) (l .hand) 0 false
   tables-answered =
-      let a = answered-store ws (countsIn l) (l .used) (l .asked) (m + 1) asked-used (sound-within ws l sound) in
-      let b = answered-answers ws (countsIn l) (l .used) (l .asked) (m + 1) asked-used (sound-within ws l sound) in
+      let a = answered-store ws (countsIn l) (l .used) (l .asked) (m + 1) asked-used (sound-within ws l (t .sound)) in
+      let b = answered-answers ws (countsIn l) (l .used) (l .asked) (m + 1) asked-used (sound-within ws l (t .sound)) in
       λ i. tables (a i) (b i) (X .s) (X .t) (X .c) (l .hand) 0 false
 
   closed-fit : listsFit (closed l) ≡ true
   closed-fit =
-      let f = listsFit-facts l fit in
+      let f = listsFit-facts l (t .fit) in
       listsFit-true (closed l) (record { letters = f .letters; states = f .states; rules = f .rules; contexts = f .contexts; accepted = omega arith })
 
   -- with a record in hand
   held : (l .hand ≡ 0 → ⊥) → Whole X × HandFits (X .store) (X .answers) (X .s) (X .t) (X .c) (l .hand)
-  held d = go (sound-facts X sound .nearly .phase)
+  held d = go (sound-facts X (t .sound) .nearly .phase)
     where
       go : Phase X → Whole X × HandFits (X .store) (X .answers) (X .s) (X .t) (X .c) (l .hand)
-      go (idle a h w) = absurd (asking a)
+      go (idle a h w) = absurd (t .asking a)
       go (holding o r w f) = (w, f)
       go (filling o r h q) = absurd (d h)
 
   few : Whole X → Few X
-  few w = go (sound-facts X sound .few)
+  few w = go (sound-facts X (t .sound) .few)
     where
       go : Missing X ⊎ Few X → Few X
       go (inl q) = absurd (w .known (q .0) (q .1) (q .2) (q .3) (q .4))
@@ -162,13 +173,12 @@ module _ (ws : List ℕ) (l : Lists) (m : ℕ) (fit : listsFit l ≡ true) (soun
 
       go : Few X → l .contexts < mostContexts
       go (inl h) = omega (arith, h, c-long)
-      go (inr h) = let d = sound-facts X sound .nearly .tidy in omega (arith, h, c-long, d .few-s, d .few-t)
+      go (inr h) = let d = sound-facts X (t .sound) .nearly .tidy in omega (arith, h, c-long, d .few-s, d .few-t)
 
-  module _ {index table places reps : List ℕ} (arrays : InArrays l)
-      (w : Working ws (countsIn l) (l .used) (l .s) (l .states) (l .t) (l .rules) (l .c) (l .contexts) index table places reps) where
-    its-reps : Whole X → RepsOf (answersOf (X .store) (X .answers) (X .c)) (X .s) (X .t) reps
+  module _ {index table notes : List ℕ} (arrays : InArrays l) (w : WorkingOn ws l index table notes) where
+    its-reps : Whole X → RepsOf (answersOf (X .store) (X .answers) (X .c)) (X .s) (X .t) (repsIn notes)
     its-reps k =
-        reps-tied (w .observed) (l .s) (l .states) places (w .placed) (arrays .states) (omega (arith, w .placing .long, w .placing .few)) (arrays .rules)
+        reps-tied (w .observed) (l .s) (l .states) (w .s-in-t) (w .placed) (arrays .states) (omega (arith, w .placing .long, w .placing .few)) (arrays .rules)
         (w .reps-by (missing-tied (w .observed) (arrays .rules) ∙ known-back X (k .known)))
 
     pub stepping-answered : (vs : List ℕ) (g : Lists) → vs ≡ withAnswer ws (l .asked) (m + 1) → g ≡ closed l → Stepping vs g index
@@ -177,8 +187,8 @@ module _ (ws : List ℕ) (l : Lists) (m : ℕ) (fit : listsFit l ≡ true) (soun
         at : Stepping (withAnswer ws (l .asked) (m + 1)) (closed l) index
         at =
             record {
-              ready = ready-answered ws (countsIn l) (l .used) (l .asked) (m + 1) asked-used (sound-within ws l sound) (w .ready);
-              orderly = subst Orderly (sym tables-answered) (core-orderly Y (answered-core X (sound-facts X sound .nearly .core) (l .asked) (its-question .0) (its-question .1) (m + 1) (mark-small m mark)));
+              ready = ready-answered ws (countsIn l) (l .used) (l .asked) (m + 1) asked-used (sound-within ws l (t .sound)) (w .ready);
+              orderly = subst Orderly (sym tables-answered) (core-orderly Y (answered-core X (sound-facts X (t .sound) .nearly .core) (l .asked) (its-question .0) (its-question .1) (m + 1) (mark-small m (t .mark))));
               fit = closed-fit;
             }
 
@@ -190,33 +200,36 @@ module _ (ws : List ℕ) (l : Lists) (m : ℕ) (fit : listsFit l ≡ true) (soun
             subst (λ (y : Tables). KnownRows (y .store) (y .answers) (l .t) (l .rules) (l .c) (l .contexts) table) (sym tables-answered)
             (known-answered (w .observed) (l .asked) (m + 1) (its-question .1))
 
-    pub hand-answered : (vs : List ℕ) (g : Lists) → vs ≡ withAnswer ws (l .asked) (m + 1) → g ≡ closed l → (g .hand ≡ 0 → ⊥) → InHand vs g reps
+    pub hand-answered : (vs : List ℕ) (g : Lists) → vs ≡ withAnswer ws (l .asked) (m + 1) → g ≡ closed l → (g .hand ≡ 0 → ⊥) → InHand vs g (repsIn notes)
     hand-answered vs g e f d =
-        subst (λ (us : List ℕ). InHand us g reps) (sym e)
-        (subst (λ (k : Lists). InHand (withAnswer ws (l .asked) (m + 1)) k reps) (sym f) (at (held (λ z. d (ap (λ (k : Lists). k .hand) f ∙ z)))))
+        subst (λ (us : List ℕ). InHand us g (repsIn notes)) (sym e)
+        (subst (λ (k : Lists). InHand (withAnswer ws (l .asked) (m + 1)) k (repsIn notes)) (sym f) (at (held (λ z. d (ap (λ (k : Lists). k .hand) f ∙ z)))))
       where
         few-rows : used (X .store) ≤ mostRows
         few-rows = omega (arith, used-of ws (countsIn l) (l .used), w .ready .finding .few)
 
-        at : Whole X × HandFits (X .store) (X .answers) (X .s) (X .t) (X .c) (l .hand) → InHand (withAnswer ws (l .asked) (m + 1)) (closed l) reps
+        long : X .store .room ≤ length (repsIn notes)
+        long = omega (arith, w .notes-long, column-long notes 0 (omega arith))
+
+        at : Whole X × HandFits (X .store) (X .answers) (X .s) (X .t) (X .c) (l .hand) → InHand (withAnswer ws (l .asked) (m + 1)) (closed l) (repsIn notes)
         at p =
             let o = its-question in
             record {
-              whole = subst Whole (sym tables-answered) (answered-whole X (p .0) (l .hand) (p .1) (l .asked) (o .0) (o .1) (m + 1) (mark-some m) (mark-small m mark));
+              whole = subst Whole (sym tables-answered) (answered-whole X (p .0) (l .hand) (p .1) (l .asked) (o .0) (o .1) (m + 1) (mark-some m) (mark-small m (t .mark)));
               fits =
                   subst (λ (y : Tables). HandFits (y .store) (y .answers) (y .s) (y .t) (y .c) (l .hand)) (sym tables-answered)
-                  (answered-fits X (p .0) (l .hand) (p .1) (l .asked) (o .0) (o .1) (m + 1) (mark-some m) (mark-small m mark));
+                  (answered-fits X (p .0) (l .hand) (p .1) (l .asked) (o .0) (o .1) (m + 1) (mark-some m) (mark-small m (t .mark)));
               room = room arrays (p .0);
               handling =
-                  subst (λ (y : Tables). Handling (y .store) (y .answers) (y .s) (y .t) (y .c) reps) (sym tables-answered)
-                  (handling-answered X (p .0) (l .hand) (p .1) o (m + 1) (mark-some m) (mark-small m mark) few-rows reps (its-reps (p .0)) (omega (arith, w .reps-long)));
+                  subst (λ (y : Tables). Handling (y .store) (y .answers) (y .s) (y .t) (y .c) (repsIn notes)) (sym tables-answered)
+                  (handling-answered X (p .0) (l .hand) (p .1) o (m + 1) (mark-some m) (mark-small m (t .mark)) few-rows (repsIn notes) (its-reps (p .0)) long);
             }
 
   -- the step goes as model's laws say
   pub answer-ok : AnswerOk (tablesOf ws l) m (answered (tablesOf ws l) m)
-  answer-ok = go (sound-facts X sound .nearly .phase)
+  answer-ok = go (sound-facts X (t .sound) .nearly .phase)
     where
       go : Phase X → AnswerOk X m (answered X m)
-      go (idle a h w) = absurd (asking a)
-      go (holding o r w f) = answer-held X (sound-facts X sound .nearly .core) (sound-facts X sound .nearly .tidy) o m mark w (few w) f
-      go (filling o r h q) = answer-filling X (sound-facts X sound .nearly .core) (sound-facts X sound .nearly .tidy) o m mark h
+      go (idle a h w) = absurd (t .asking a)
+      go (holding o r w f) = answer-held X (sound-facts X (t .sound) .nearly .core) (sound-facts X (t .sound) .nearly .tidy) o m (t .mark) w (few w) f
+      go (filling o r h q) = answer-filling X (sound-facts X (t .sound) .nearly .core) (sound-facts X (t .sound) .nearly .tidy) o m (t .mark) h

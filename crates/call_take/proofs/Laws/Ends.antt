@@ -1,6 +1,6 @@
 -- How a step ended, by its number: a shortage, with the first rows as they were; or 0, with the tables left.
 -- No shortage has the number 0.
-use mathlib.Core.Path.{_≡_, refl, sym, ap, _∙_}
+use mathlib.Core.Path.{_≡_, refl, sym, ap, subst, _∙_}
 use mathlib.Core.Logic.{_⊎_, inl, inr}
 use mathlib.Core.List.{List}
 use Prim.Native.Nat.{ℕ, _+_, _*_, _≤_, _<_}
@@ -10,16 +10,19 @@ use lib.Seq.{getD-take, getD-set-same, getD-set-other, ext-getD, length-take-le}
 use Rattle.model.specs.Limits.{rowWidth}
 use Rattle.model.specs.Table.{Tables}
 use Rattle.model.specs.Steps.{Shortage, ofRows, ofStates, ofTransitions, ofTurns, shortageNumber, Ended, short, asks, proposes}
-use Rattle.model.specs.Calls.{refuses, endOf}
+use Rattle.model.specs.Calls.{refuses, leaves, endOf}
 use Rattle.model.specs.Entry.{listsOf}
 use Rattle.model.specs.declared.Lists.{Lists}
+use Rattle.model.proofs.Laws.Step as step
+use Rattle.model.proofs.Laws.Step.{StepOk, step-left}
 use Rattle.bank.specs.Rows.{answerIn, withAnswer}
 use Rattle.bank.specs.Ready.{Kept}
 use Rattle.bank.proofs.Laws.Trees.{by-equal}
 use Rattle.bank.proofs.Laws.Words.{word-kept}
+use Rattle.run_lists.specs.Members.{countsIn}
 use Rattle.bank_undo.specs.Left.{Left}
 use Rattle.step_end.specs.declared.finish.Stepped.{Stepped}
-use Rattle.step_end.specs.Stepping.{countsIn, EndedAs}
+use Rattle.step_end.specs.Stepping.{EndedAs}
 
 -- how a step ended, as a record: its parts are known from it
 pub record Ends (ws : List ℕ) (l : Lists) (e : Ended) (r : Stepped) (ws' : List ℕ) : Type 0 where
@@ -49,6 +52,22 @@ module _ {ws : List ℕ} {l : Lists} {r : Stepped} {ws' : List ℕ} where
   ends-left (short k) t n = absurd (number-some k (sym (t .ended .0) ∙ n))
   ends-left (asks y) t n = record { left-tables = y; end = inl refl; lists = t .ended .1; left = t .ended .2 }
   ends-left (proposes y) t n = record { left-tables = y; end = inr refl; lists = t .ended .1; left = t .ended .2 }
+
+  -- what the definitions say of them
+  module _ {e : Ended} (q : EndsLeft ws l e r ws') where
+    pub ends-leaves : endOf e ≡ leaves (q .left-tables)
+    ends-leaves = go (q .end)
+      where
+        go : (e ≡ asks (q .left-tables)) ⊎ (e ≡ proposes (q .left-tables)) → endOf e ≡ leaves (q .left-tables)
+        go (inl p) = ap endOf p
+        go (inr p) = ap endOf p
+
+    pub ends-ok : {x : Tables} → StepOk x e → step.Left x (q .left-tables)
+    ends-ok {x} k = step-left x (q .left-tables) (go (q .end))
+      where
+        go : (e ≡ asks (q .left-tables)) ⊎ (e ≡ proposes (q .left-tables)) → StepOk x (asks (q .left-tables)) ⊎ StepOk x (proposes (q .left-tables))
+        go (inl p) = inl (subst (StepOk x) p k)
+        go (inr p) = inr (subst (StepOk x) p k)
 
 -- AN ANSWER SET BACK: the first n rows are as they were before it was set
 pub kept-back : (ws us vs : List ℕ) (n v j a old : ℕ) → Kept ws n us → n ≤ v → j < v → rowWidth * v ≤ length us → Kept (withAnswer us j a) v vs → old ≡ answerIn us j → Kept ws n (withAnswer vs j old)

@@ -8,12 +8,12 @@ use Prim.Native.Nat.{ℕ, _+_, _*_, _≤_, _<_}
 use native.Mathlib.Omega.{arith}
 use lib.ListN.{length, take, set, length-set}
 use lib.Seq.{length-take-le}
-use Rattle.model.specs.Limits.{rowWidth, mostContexts, mostSymbols}
+use Rattle.model.specs.Limits.{rowWidth, mostContexts}
 use Rattle.model.specs.Base.{over, each-nil}
 use Rattle.model.specs.Store.{Store, used, Extends, Built, full, built}
 use Rattle.model.specs.Terms.{storeFrom}
 use Rattle.model.specs.Table.{Tables, tables, size, answersOf}
-use Rattle.model.specs.Steps.{blanked, advance, takenBy, offered, asks, proposes}
+use Rattle.model.specs.Steps.{blanked, advance, takenBy, offered}
 use Rattle.model.specs.Sound.{isSound}
 use Rattle.model.specs.Calls.{offers, offerFault, refuses, leaves, endOf, look}
 use Rattle.model.specs.Facts.{Good, IsRecord}
@@ -26,14 +26,17 @@ use Rattle.model.proofs.Laws.Listed.{stored}
 use Rattle.model.proofs.Laws.Sounds.{sound-facts}
 use Rattle.model.proofs.Laws.ReflectTable.{known-back}
 use Rattle.model.proofs.Laws.Step as Step
-use Rattle.model.proofs.Laws.Step.{Offering, offering, StepOk, step-left}
+use Rattle.model.proofs.Laws.Step.{Offering, offering, StepOk}
 use Rattle.model.proofs.Laws.Took.{idle-facts}
 use Rattle.bank.specs.Rows.{answerIn, withAnswer, Within}
 use Rattle.bank.specs.Ready.{Ready, Kept}
+use Rattle.bank.specs.Notes.{repsIn}
 use Rattle.bank.proofs.Laws.Words.{used-of, length-withRows, front-withRows}
+use Rattle.bank.proofs.Laws.Notes.{column-long}
 use Rattle.bank_fill.specs.Adding.{grownRow}
 use Rattle.bank_fill.specs.declared.add.Grown.{Grown}
 use Rattle.bank_fill.proofs.Laws.Coming.{Comes, Stage, stage, not-full, store-room}
+use Rattle.run_lists.specs.Members.{countsIn}
 use Rattle.table.proofs.Laws.Tied.{missing-tied}
 use Rattle.table_verdict.proofs.Laws.Tied.{RepsOf, reps-tied}
 use Rattle.step_search.specs.Spots.{Handling}
@@ -41,25 +44,25 @@ use Rattle.bank_undo.specs.Left.{Left}
 use Rattle.bank_undo.specs.Saved.{Saved, PutBack}
 use Rattle.bank_undo.proofs.Laws.Words.{undone}
 use Rattle.bank_undo.proofs.Laws.Left.{left-words, left-then, left-rows, left-answer, ready-answered}
-use Rattle.sound.specs.Working.{Arrays, Working}
+use Rattle.sound.specs.Working.{WorkingOn}
 use Rattle.step_end.specs.declared.finish.Stepped.{Stepped}
 use Rattle.call.specs.declared.Done.{Done}
-use Rattle.step_end.specs.Stepping.{Stepping, InHand, Orderly, countsIn, takenUp}
+use Rattle.step_end.specs.Stepping.{Stepping, InHand, Orderly, takenUp}
 use Rattle.call.specs.Calls.{CallAs}
 use Rattle.call.proofs.Laws.Called.{called-short, called-left}
 use Rattle.step_end.proofs.Laws.Lists.{core-orderly, tables-left}
+use Rattle.call_take.proofs.Laws.Accepted.{InArrays}
 use Rattle.call_take.proofs.Laws.OfferTaken.{taken-whole, taken-fits, taken-step, handling-offered}
-use Rattle.call_take.proofs.Laws.Ends.{Ends, ends-short, EndsLeft, ends-left, kept-back}
+use Rattle.call_take.proofs.Laws.Ends.{Ends, ends-short, EndsLeft, ends-left, ends-leaves, ends-ok, kept-back}
 
 -- WHAT IS GIVEN: sound tables in lists that fit, what the soundness test worked out, an offer that no line refuses
-pub record Given (ws : List ℕ) (l : Lists) (xs : List ℕ) (m : ℕ) (index table places reps : List ℕ) : Type 0 where
+pub record Given (ws : List ℕ) (l : Lists) (xs : List ℕ) (m : ℕ) (index table notes : List ℕ) : Type 0 where
   pub size : sizeFits ws ≡ true
   pub fit : listsFit l ≡ true
   pub sound : isSound (tablesOf ws l) ≡ true
   pub free : offerFault (tablesOf ws l) xs m ≡ 0
-  pub working : Working ws (countsIn l) (l .used) (l .s) (l .states) (l .t) (l .rules) (l .c) (l .contexts) index table places reps
-  pub counts-long : length (l .counts) ≡ mostSymbols
-  pub arrays : Arrays (l .s) (l .states) (l .t) (l .rules) (l .c) (l .contexts)
+  pub working : WorkingOn ws l index table notes
+  pub arrays : InArrays l
 
 -- THE RECORD STORED as row j of the v rows then used
 pub record StoredAt (ws ns : List ℕ) (u : ℕ) (xs : List ℕ) (j v : ℕ) (us ix : List ℕ) : Type 0 where
@@ -70,7 +73,7 @@ pub record StoredAt (ws ns : List ℕ) (u : ℕ) (xs : List ℕ) (j v : ℕ) (us
   pub row : IsRecord y j
   pub stands : Stage ws ns u j y v us ix
 
-module _ {ws : List ℕ} {l : Lists} {xs : List ℕ} {m : ℕ} {index table places reps : List ℕ} (t : Given ws l xs m index table places reps) where
+module _ {ws : List ℕ} {l : Lists} {xs : List ℕ} {m : ℕ} {index table notes : List ℕ} (t : Given ws l xs m index table notes) where
   abbrev X : Tables
   X = tablesOf ws l
 
@@ -169,34 +172,28 @@ module _ {ws : List ℕ} {l : Lists} {xs : List ℕ} {m : ℕ} {index table plac
         left-then ws (countsIn l) us (withAnswer us j (m + 1)) y y blank (set blank j (m + 1)) stored-left c (omega arith)
 
     -- the lists with the record in hand are those of the tables with it
-    f-letters : length (take (l .letters) (l .counts)) ≡ l .letters
-    f-letters = length-take-le (l .letters) (l .counts) (omega (arith, t .counts-long, listsFit-facts l (t .fit) .letters))
-
     taken-lists : takenUp l j v ≡ listsOf l Z
     taken-lists =
-        let w = listsFit-facts l (t .fit) in
-        let a : l .letters ≡ length (y .counts) = sym f-letters ∙ ap length (sym (q .ext .counts)) in
-        let b : l .counts ≡ over (y .counts) (l .counts) = sym (over-take (l .letters) (l .counts) (omega (arith, t .counts-long, w .letters))) ∙ ap (λ (ns : List ℕ). over ns (l .counts)) (sym (q .ext .counts)) in
-        let ix : l .states ≤ length (l .s) = omega (arith, t .arrays .s-long, w .states) in
-        let ht : l .rules ≤ length (l .t) = omega (arith, t .arrays .t-long, w .rules) in
-        let hc : l .contexts ≤ length (l .c) = omega (arith, t .arrays .c-long, w .contexts) in
-        let c = sym (length-take-le (l .states) (l .s) ix) in
-        let d = sym (over-take (l .states) (l .s) ix) in
-        let e = sym (length-take-le (l .rules) (l .t) ht) in
-        let f = sym (over-take (l .rules) (l .t) ht) in
-        let g = sym (length-take-le (l .contexts) (l .c) hc) in
-        let h = sym (over-take (l .contexts) (l .c) hc) in
+        let w = t .arrays in
+        let a : l .letters ≡ length (y .counts) = sym (length-take-le (l .letters) (l .counts) (w .letters)) ∙ ap length (sym (q .ext .counts)) in
+        let b : l .counts ≡ over (y .counts) (l .counts) = sym (over-take (l .letters) (l .counts) (w .letters)) ∙ ap (λ (ns : List ℕ). over ns (l .counts)) (sym (q .ext .counts)) in
+        let c = sym (length-take-le (l .states) (l .s) (w .states)) in
+        let d = sym (over-take (l .states) (l .s) (w .states)) in
+        let e = sym (length-take-le (l .rules) (l .t) (w .rules)) in
+        let f = sym (over-take (l .rules) (l .t) (w .rules)) in
+        let g = sym (length-take-le (l .contexts) (l .c) (w .contexts)) in
+        let h = sym (over-take (l .contexts) (l .c) (w .contexts)) in
         λ i. record { letters = a i; counts = b i; accepted = 0; used = q .stands .count i; states = c i; s = d i; rules = e i; t = f i; contexts = g i; c = h i; hand = j; asked = 0 }
 
-    reps-are : RepsOf (answersOf (X .store) (X .answers) (X .c)) (X .s) (X .t) reps
+    reps-are : RepsOf (answersOf (X .store) (X .answers) (X .c)) (X .s) (X .t) (repsIn notes)
     reps-are =
         let w = t .working in
         let a = t .arrays in
-        reps-tied (w .observed) (l .s) (l .states) places (w .placed) (omega (arith, a .s-long, a .few-s)) (omega (arith, w .placing .long, w .placing .few)) rows-t
-        (w .reps-by (missing-tied (w .observed) rows-t ∙ known-back X (whole .known)))
-      where
-        rows-t : l .rules ≤ length (l .t)
-        rows-t = let a = t .arrays in omega (arith, a .t-long, a .few-t)
+        reps-tied (w .observed) (l .s) (l .states) (w .s-in-t) (w .placed) (a .states) (omega (arith, w .placing .long, w .placing .few)) (a .rules)
+        (w .reps-by (missing-tied (w .observed) (a .rules) ∙ known-back X (whole .known)))
+
+    reps-long : y .room ≤ length (repsIn notes)
+    reps-long = omega (arith, q .ext .room, t .working .notes-long, column-long notes 0 (omega arith))
 
     module _ {us' : List ℕ} (set-to : us' ≡ withAnswer us j (m + 1)) {l' : Lists} (up : l' ≡ takenUp l j v) where
       left-now : Left ws (countsIn l) us' y (set blank j (m + 1))
@@ -223,24 +220,21 @@ module _ {ws : List ℕ} {l : Lists} {xs : List ℕ} {m : ℕ} {index table plac
       offer-stepping = record { ready = ready-now; orderly = subst Orderly (sym back) (core-orderly Z (whole-now .core)); fit = fit-now }
 
       few-contexts : (length (X .c) ≤ 1) ⊎ (length (X .c) ≤ size X) → l .contexts < mostContexts
-      few-contexts c =
-          let w = listsFit-facts l (t .fit) in
-          let a = length-take-le (l .contexts) (l .c) (omega (arith, t .arrays .c-long, w .contexts)) in
-          go a c
+      few-contexts c = go (length-take-le (l .contexts) (l .c) (t .arrays .contexts)) c
         where
           go : length (X .c) ≡ l .contexts → (length (X .c) ≤ 1) ⊎ (length (X .c) ≤ size X) → l .contexts < mostContexts
           go a (inl h) = omega arith
           go a (inr h) = omega (arith, tidy .few-s, tidy .few-t)
 
-      pub offer-in-hand : InHand us' l' reps
+      pub offer-in-hand : InHand us' l' (repsIn notes)
       offer-in-hand =
           record {
             whole = subst Whole (sym back) whole-now;
             fits = subst (λ (z : Tables). HandFits (z .store) (z .answers) (z .s) (z .t) (z .c) (z .hand)) (sym back) (taken-fits X whole xs m brought j y (q .is));
             room = subst (λ (k : Lists). k .contexts < mostContexts) (sym up) (few-contexts few);
             handling =
-                subst (λ (z : Tables). Handling (z .store) (z .answers) (z .s) (z .t) (z .c) reps) (sym back)
-                (handling-offered X whole xs m brought j y (q .is) reps-are (omega (arith, used-of ws (countsIn l) (l .used), t .working .ready .finding .few)) (omega (arith, q .ext .room, t .working .reps-long)));
+                subst (λ (z : Tables). Handling (z .store) (z .answers) (z .s) (z .t) (z .c) (repsIn notes)) (sym back)
+                (handling-offered X whole xs m brought j y (q .is) reps-are (omega (arith, used-of ws (countsIn l) (l .used), t .working .ready .finding .few)) reps-long);
           }
 
       -- THE STEP taken from these tables
@@ -289,21 +283,10 @@ module _ {ws : List ℕ} {l : Lists} {xs : List ℕ} {m : ℕ} {index table plac
           Y = ended .left-tables
 
           ok : Step.Left Z Y
-          ok = step-left Z Y (go (ended .end))
-            where
-              step : StepOk Z (advance Z)
-              step = taken-step X whole xs m brought j y (q .is) tidy few
-
-              go : (advance (tablesOf us' l') ≡ asks Y) ⊎ (advance (tablesOf us' l') ≡ proposes Y) → StepOk Z (asks Y) ⊎ StepOk Z (proposes Y)
-              go (inl e) = inl (subst (StepOk Z) (ap advance (sym back) ∙ e) step)
-              go (inr e) = inr (subst (StepOk Z) (ap advance (sym back) ∙ e) step)
+          ok = ends-ok ended (subst (λ (z : Tables). StepOk Z (advance z)) (sym back) (taken-step X whole xs m brought j y (q .is) tidy few))
 
           done : endOf (offered X xs m) ≡ leaves Y
-          done = done-by ∙ go (ended .end)
-            where
-              go : (advance (tablesOf us' l') ≡ asks Y) ⊎ (advance (tablesOf us' l') ≡ proposes Y) → endOf (advance (tablesOf us' l')) ≡ leaves Y
-              go (inl e) = ap endOf e
-              go (inr e) = ap endOf e
+          done = done-by ∙ ends-leaves ended
 
           lists : r .lists ≡ listsOf l Y
           lists = ended .lists ∙ ap (λ (k : Lists). listsOf k Y) up
@@ -312,9 +295,6 @@ module _ {ws : List ℕ} {l : Lists} {xs : List ℕ} {m : ℕ} {index table plac
           left-all =
               left-then ws (countsIn l) us' vs y (Y .store) (set blank j (m + 1)) (Y .answers) left-now
               (subst (λ (k : Lists). Left us' (countsIn k) vs (Y .store) (Y .answers)) up (ended .left)) (ok .keeps .ext .more)
-
-          pub left-size : length vs ≡ length ws
-          left-size = left-all .same-size
 
           pub left-fit : listsFit (r .lists) ≡ true
           left-fit =

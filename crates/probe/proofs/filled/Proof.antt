@@ -60,12 +60,15 @@ returns-3 c =
     let s = start (tested (d .before)) in
     past-row (s .args .words .now) (s .args .counts .now) (s .args .used) (s .args .context) (s .args .with) (tested (d .before) .if1 .left) (holed d) (c .before .if3 .taken) (c .refused3 .ensures)
 
+slice-aggregate-fill-context : tie.Need-slice-aggregate-fill-context
+slice-aggregate-fill-context c = search needs
+
 fill-context-requires : tie.Need-fill-context-requires
 fill-context-requires c κs =
-    let e = c .before .before in
+    let e : tie.Else3 = c .before .before .before in
     let d = e .before in
     let s = start (tested (d .before)) in
-    (s .pre, tested (d .before) .if1 .left, holed d, e .if3 .left)
+    (s .pre, tested (d .before) .if1 .left, holed d, e .if3 .left, s .pre .finding .few)
 
 reply-of-requires : tie.Need-reply-of-requires
 reply-of-requires c κs = search needs
@@ -78,8 +81,8 @@ same-length-4 c = search needs
 
 returns-4 : tie.Need-returns-4
 returns-4 c =
-    let f = c .before .before .before .before .before in
-    let e = c .before .before .before .before .before .before .before .before in
+    let f = c .before .before .before .before .before .before in
+    let e : tie.Else3 = f .before .before .before .before in
     let d = e .before in
     let s = start (tested (d .before)) in
     filled-law (s .args .words .now) (s .args .counts .now) (s .args .used) (s .args .context) (s .args .with) (tested (d .before) .if1 .left) (holed d) (e .if3 .left) (c .reply-of .ensures) (record { came = f .fill-context .ensures })
@@ -97,6 +100,7 @@ filled-spec =
     refused-requires-3
     same-length-2
     returns-3
+    slice-aggregate-fill-context
     fill-context-requires
     reply-of-requires
     same-length-3

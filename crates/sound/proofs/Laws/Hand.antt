@@ -12,7 +12,7 @@ use Rattle.sound_roles.specs.Marked.{recordBy}
 use Rattle.table_verdict.specs.Rules.{acceptsBy}
 use Rattle.sound.specs.Working.{handFits}
 
-and-false : (a : Bool) → a && false ≡ false
+pub and-false : (a : Bool) → a && false ≡ false
 and-false true = refl
 and-false false = refl
 

@@ -18,8 +18,10 @@ use Rattle.model.specs.Entry.{storeOf, answersIn}
 use Rattle.model.proofs.Laws.Tests.{and-left, and-right}
 use Rattle.model.proofs.Laws.ReflectTable.{held-of, known-of, shaped-of}
 use Rattle.bank.specs.Rows.{answerIn}
+use Rattle.bank.specs.Notes.{repsIn}
 use Rattle.bank.proofs.Laws.Words.{used-of, answer-in}
-use Rattle.table.specs.Answers.{gapFrom, isOpen}
+use Rattle.bank.proofs.Laws.Notes.{column-long}
+use Rattle.table.specs.Answers.{Placing, Placed, gapFrom, isOpen}
 use Rattle.table.proofs.Laws.Tied.{missing-tied}
 use Rattle.table.proofs.Laws.Judged.{yes-tied, differ-tied, once-tied}
 use Rattle.sound_roles.specs.Marked.{recordBy}
@@ -33,49 +35,30 @@ use Rattle.sound_parts.proofs.Laws.Parts.{and-assoc}
 use Rattle.sound_parts.specs.Given.{given, rolesFit, fewFit, tableFits, questionFits}
 use Rattle.sound.specs.Working.{Arrays, Working, preparedFit, judgedFit, handFits}
 use Rattle.sound.proofs.Laws.Prepared.{two, three, four}
+use Rattle.sound.proofs.Laws.Hand.{and-false}
 
-and-false : (a : Bool) → a && false ≡ false
-and-false true = refl
-and-false false = refl
-
-module _ {ws ns : List ℕ} {u : ℕ} {s : List ℕ} {q : ℕ} {t : List ℕ} {n : ℕ} {c : List ℕ} {m : ℕ} {index table places reps : List ℕ} (a : Arrays s q t n c m)
-    (w : Working ws ns u s q t n c m index table places reps) where
-  long-s : length (take q s) ≡ q
-  long-s = length-take-le q s (omega (arith, a .s-long, a .few-s))
-
-  long-t : length (take n t) ≡ n
-  long-t = length-take-le n t (omega (arith, a .t-long, a .few-t))
-
-  long-c : length (take m c) ≡ m
-  long-c = length-take-le m c (omega (arith, a .c-long, a .few-c))
-
-  q-s : q ≤ length s
-  q-s = omega (arith, a .s-long, a .few-s)
-
-  q-places : q ≤ length places
-  q-places = omega (arith, w .placing .long, w .placing .few)
-
-  n-t : n ≤ length t
-  n-t = omega (arith, a .t-long, a .few-t)
-
+module _ {ws ns : List ℕ} {u : ℕ} {s : List ℕ} {q : ℕ} {t : List ℕ} {n : ℕ} {c : List ℕ} {m : ℕ} {index table notes : List ℕ} (a : Arrays s q t n c m)
+    (w : Working ws ns u s q t n c m index table notes) where
   small : used (storeOf ws ns u) ≤ mostRows
   small = omega (arith, used-of ws ns u, w .ready .finding .few)
 
   pub missing-is : (h o : ℕ) (z : Bool) → isOpen (gapFrom table m 0 n) ≡ isMissing (given ws ns u s q t n c m h o z)
-  missing-is h o z = missing-tied (w .observed) n-t
+  missing-is h o z = missing-tied (w .observed) (a .few-t)
 
   -- T4's last clause, T5 and T6
   few-is : (h o : ℕ) (z : Bool) (b : Bool) → b ≡ isMissing (given ws ns u s q t n c m h o z) → fewFit q n m b ≡ contextsFew (given ws ns u s q t n c m h o z)
   few-is h o z b e =
-      let k : q + n ≡ length (take q s) + length (take n t) = omega (arith, long-s, long-t) in
-      λ i. e i || leb (sym long-c i) (cond (eqb (k i) 0) 1 (k i))
+      let k : q + n ≡ length (take q s) + length (take n t) = omega (arith, length-take-le q s (a .few-s), length-take-le n t (a .few-t)) in
+      let l = sym (length-take-le m c (a .few-c)) in
+      λ i. e i || leb (l i) (cond (eqb (k i) 0) 1 (k i))
 
-  pub table-is : (h o : ℕ) (z : Bool) (b : Bool) → b ≡ isMissing (given ws ns u s q t n c m h o z) →
+  pub table-is : {places : List ℕ} → Placing places q n → Placed t n s q places → (h o : ℕ) (z : Bool) (b : Bool) → b ≡ isMissing (given ws ns u s q t n c m h o z) →
       tableFits table places q n m b ≡ contextsFew (given ws ns u s q t n c m h o z) && (isT5 (given ws ns u s q t n c m h o z) && isT6 (given ws ns u s q t n c m h o z))
-  table-is h o z b e =
-      let d = differ-tied (w .observed) n-t s q places (w .placed) q-s q-places in
-      let y = yes-tied (w .observed) n-t in
-      let f = once-tied (w .observed) n-t s q places (w .placed) q-s q-places in
+  table-is {places} p r h o z b e =
+      let l : q ≤ length places = omega (arith, p .long, p .few) in
+      let d = differ-tied (w .observed) (a .few-t) s q places r (a .few-s) l in
+      let y = yes-tied (w .observed) (a .few-t) in
+      let f = once-tied (w .observed) (a .few-t) s q places r (a .few-s) l in
       λ i. few-is h o z b e i && ((d i && y i) && (e i || f i))
 
   -- T8
@@ -105,35 +88,41 @@ module _ {ws ns : List ℕ} {u : ℕ} {s : List ℕ} {q : ℕ} {t : List ℕ} {n
     module _ (e : isMissing (given ws ns u s q t n c m h o z) ≡ false) where
       covers : Covers (storeOf ws ns u) (answersOf (storeOf ws ns u) (answersIn u ws) (take m c)) (take q s) (take n t)
       covers =
-          let held = held-of X (two ws ns u s q t n c m a roles) (three ws ns u s q t n c m a roles) (four ws ns u s q t n c m a roles) (and-left (isT5 X) (isT6 X) (and-right (contextsFew X) (isT5 X && isT6 X) f)) in
-          covers-shaped (w .ready .good) (shaped-of X (held .0) (known-of X e) (and-right (isT5 X) (isT6 X) (and-right (contextsFew X) (isT5 X && isT6 X) f))) (held .0 .one) (held .1 .few-s)
+          let five-six = and-right (contextsFew X) (isT5 X && isT6 X) f in
+          let ss = take q s in
+          let ts = take n t in
+          let cs = take m c in
+          let held = held-of X (two ws ns u ss ts cs roles) (three ws ns u ss ts cs roles) (four ws ns u ss ts cs roles) (and-left (isT5 X) (isT6 X) five-six) in
+          covers-shaped (w .ready .good) (shaped-of X (held .0) (known-of X e) (and-right (isT5 X) (isT6 X) five-six)) (held .0 .one) (held .1 .few-s)
 
-      reps-are : RepsOf (answersOf (storeOf ws ns u) (answersIn u ws) (take m c)) (take q s) (take n t) reps
-      reps-are = reps-tied (w .observed) s q places (w .placed) q-s q-places n-t (w .reps-by (missing-is h o z ∙ e))
+      reps-are : RepsOf (answersOf (storeOf ws ns u) (answersIn u ws) (take m c)) (take q s) (take n t) (repsIn notes)
+      reps-are =
+          let l : q ≤ length (w .s-in-t) = omega (arith, w .placing .long, w .placing .few) in
+          reps-tied (w .observed) s q (w .s-in-t) (w .placed) (a .few-s) l (a .few-t) (w .reps-by (missing-is h o z ∙ e))
 
-      pub ruled : Ruled (storeOf ws ns u) (take q s) (take n t) reps
-      ruled = ruled-tied covers reps-are small (omega (arith, w .reps-long))
+      pub ruled : Ruled (storeOf ws ns u) (take q s) (take n t) (repsIn notes)
+      ruled = ruled-tied covers reps-are small (omega (arith, w .notes-long, column-long notes 0 (omega arith)))
 
-      pub reps-read : RepsIn u reps
+      pub reps-read : RepsIn u (repsIn notes)
       reps-read = reps-ruled (w .ready) ruled
 
-      pub hypothesis-is : hypothesis ws ns u s q t n reps ≡ automatonOf (given ws ns u s q t n c m h o z)
+      pub hypothesis-is : hypothesis ws ns u s q t n (repsIn notes) ≡ automatonOf (given ws ns u s q t n c m h o z)
       hypothesis-is = hypothesis-tied ws ns u s q t n (take m c) covers reps-are small h o z
 
-      verdict-is : h < used (storeOf ws ns u) → acceptsBy (storeOf ws ns u) (answersIn u ws) reps h ≡ acceptsRow (automatonOf (given ws ns u s q t n c m h o z)) (storeOf ws ns u) h
+      verdict-is : h < used (storeOf ws ns u) → acceptsBy (storeOf ws ns u) (answersIn u ws) (repsIn notes) h ≡ acceptsRow (automatonOf (given ws ns u s q t n c m h o z)) (storeOf ws ns u) h
       verdict-is l = accepts-row-is (w .ready .good) ruled small (answersIn u ws) h l ∙ ap (λ (d : Automaton). acceptsRow d (storeOf ws ns u) h) hypothesis-is
 
     abbrev verdict : Bool → Bool
     verdict y = eqb h 0 || y
 
-    pub hand-is : (b : Bool) → b ≡ isMissing (given ws ns u s q t n c m h o z) → handFits ws ns u reps index h b ≡ isT7 (given ws ns u s q t n c m h o z)
+    pub hand-is : (b : Bool) → b ≡ isMissing (given ws ns u s q t n c m h o z) → handFits ws ns u (repsIn notes) index h b ≡ isT7 (given ws ns u s q t n c m h o z)
     hand-is true e =
-        ap (λ (y : Bool). verdict (recordBy index u h && y)) (and-false (eqb (answerIn ws h) (cond (acceptsBy (storeOf ws ns u) (answersIn u ws) reps h) 1 2))) ∙
+        ap (λ (y : Bool). verdict (recordBy index u h && y)) (and-false (eqb (answerIn ws h) (cond (acceptsBy (storeOf ws ns u) (answersIn u ws) (repsIn notes) h) 1 2))) ∙
         ap verdict (and-false (recordBy index u h)) ∙
         sym (ap (λ (y : Bool). verdict ((isRecord (storeOf ws ns u) h && verdictDiffers X h) && not y)) (sym e) ∙ ap verdict (and-false (isRecord (storeOf ws ns u) h && verdictDiffers X h)))
     hand-is false e = go (recordBy index u h) refl
       where
-        go : (k : Bool) → recordBy index u h ≡ k → handFits ws ns u reps index h false ≡ isT7 (given ws ns u s q t n c m h o z)
+        go : (k : Bool) → recordBy index u h ≡ k → handFits ws ns u (repsIn notes) index h false ≡ isT7 (given ws ns u s q t n c m h o z)
         go true r =
             let l = ltb-true h u (and-left (ltb h u) (not (holeBy index h)) r) in
             let v = answer-in u h ws l in
@@ -142,7 +131,7 @@ module _ {ws ns : List ℕ} {u : ℕ} {s : List ℕ} {q : ℕ} {t : List ℕ} {n
             ap verdict (and-assoc (isRecord (storeOf ws ns u) h) (verdictDiffers X h) (not (isMissing X)))
         go false r =
             let g : isRecord (storeOf ws ns u) h ≡ false = sym (record-ready (w .ready) h) ∙ r in
-            ap (λ (y : Bool). verdict (y && (eqb (answerIn ws h) (cond (acceptsBy (storeOf ws ns u) (answersIn u ws) reps h) 1 2) && not false))) r ∙
+            ap (λ (y : Bool). verdict (y && (eqb (answerIn ws h) (cond (acceptsBy (storeOf ws ns u) (answersIn u ws) (repsIn notes) h) 1 2) && not false))) r ∙
             sym (ap (λ (y : Bool). verdict ((y && verdictDiffers X h) && not (isMissing X))) g)
 
 -- THE TWO PARTS make the soundness test

@@ -1,64 +1,68 @@
 -- `step::find` meets its contract: the representatives are of the tables' S, T and C, so the descent and the end of the search are theirs.
-use mathlib.Core.Path.{_≡_, sym}
-use Prim.Native.Nat.{_≤_}
-use native.Mathlib.Omega.{arith}
-use borrow.Author.Needs.{needs}
-use lib.ListN.{length, take}
-use lib.Seq.{length-take-le}
-use Rattle.model.specs.Limits.{mostSymbols}
+use Prim.Native.Nat.{ℕ}
+use borrow.Author.Needs.{needs, length-unmapped}
+use Rattle.model.specs.Limits.{mostContexts}
 use Rattle.model.specs.Entry.{tablesOf}
-use Rattle.model.proofs.Laws.Lent.{listsFit-facts}
+use Rattle.run_lists.specs.Members.{countsIn}
 use Rattle.step_search.proofs.Laws.Among.{descended-rows}
-use Rattle.step_end.specs.Stepping.{countsIn}
+use Rattle.step_end.proofs.Laws.Lists.{Arrays, few-letters, letters-told, noted}
 use Rattle.step.proofs.find.Statement.{statement}
 use Rattle.step.proofs.find.Tie as tie
 use Rattle.step.proofs.find.Reads as reads
 use Rattle.step.proofs.find.Lts as lts
 use Rattle.step_search.proofs.find.Reads as find-reads
 
+-- the function's start, and the search ended
 abbrev Start : Type 0
 Start = lts.Start (find-reads.Asked, find-reads.Learnt) reads.Pre reads.Post
 
-letters : (s : Start) → s .args .lists .letters ≤ length (s .args .lists .counts)
-letters s =
-    let e : length (s .args .lists .counts) ≡ mostSymbols = search needs in
-    omega (arith, listsFit-facts (s .args .lists) (s .pre .0 .fit) .letters)
+abbrev Searched : Type 0
+Searched = lts.After-find (find-reads.Asked, find-reads.Learnt) reads.Pre reads.Post
 
-letters-long : (s : Start) → s .args .lists .letters ≡ length (take (s .args .lists .letters) (s .args .lists .counts))
-letters-long s = sym (length-take-le (s .args .lists .letters) (s .args .lists .counts) (letters s))
+abbrev start : Searched → Start
+start c = c .before .before .before .before .before .before .before .before
+
+arrays : (s : Start) → Arrays (s .args .lists)
+arrays s =
+    record {
+      counts = search needs;
+      s = search needs;
+      t = search needs;
+      c = length-unmapped ℕ (s .args .lists .c) mostContexts (s .good .1 .0 .1 .1 .1 .1 .1 .1 .1 .1 .1 .1 .1 .0 .1 .0 .1);
+    }
 
 cast-letters : tie.Need-cast-letters
 cast-letters c = search needs
 
 array-share-prefix-counts : tie.Need-array-share-prefix-counts
-array-share-prefix-counts c = letters (c .before .before .before .before .before .before .before .before)
+array-share-prefix-counts c =
+    let s : Start = c .before .before .before .before .before in
+    few-letters (s .pre .0 .fit) (arrays s)
 
 slice-aggregate-find : tie.Need-slice-aggregate-find
-slice-aggregate-find c = letters-long (c .before .before .before .before .before .before .before .before .before)
+slice-aggregate-find c =
+    let s : Start = c .before .before .before .before .before .before in
+    letters-told (s .pre .0 .fit) (arrays s)
 
 find-requires : tie.Need-find-requires
 find-requires c κs =
-    let s : Start = c .before .before .before .before .before .before .before .before .before .before .before .before in
+    let s : Start = c .before .before .before .before .before .before .before in
     let x = tablesOf (s .args .words .now) (s .args .lists) in
-    (s .pre .0 .ready, record { s = x .s; t = x .t; cs = x .c; handling = s .pre .1 .handling; fits = s .pre .1 .fits }, s .pre .2, s .pre .3, s .pre .4)
+    let h = s .pre .2 in
+    (s .pre .0 .ready, record { s = x .s; t = x .t; cs = x .c; handling = h .handling; fits = h .fits }, noted (s .pre .0 .ready) (s .args .notes .now) (s .pre .1))
 
 same-length : tie.Need-same-length
 same-length c = search needs
 
-same-length-2 : tie.Need-same-length-2
-same-length-2 c = search needs
-
-same-length-3 : tie.Need-same-length-3
-same-length-3 c = search needs
-
 returns : tie.Need-returns
 returns c =
-    let f = c .before .before .before .before .before .before .find in
-    let s : Start = c .before .before .before .before .before .before .before .before .before .before .before .before .before .before .before .before .before .before .before in
+    let e : Searched = c .before .before in
+    let s : Start = start e in
+    let f = e .find .ensures in
     let x = tablesOf (s .args .words .now) (s .args .lists) in
-    let h = s .pre .1 .handling in
-    let d = descended-rows (s .args .words .now) (countsIn (s .args .lists)) (s .args .lists .used) (s .pre .0 .ready .finding .few) h (f .ensures .0) in
-    (d, f .ensures .1 (x .s) (x .t) (x .c) h (s .pre .1 .fits))
+    let h = s .pre .2 .handling in
+    let d = descended-rows (s .args .words .now) (countsIn (s .args .lists)) (s .args .lists .used) (s .pre .0 .ready .finding .few) h (f .0 .1) in
+    ((f .0 .0, d), f .1 (x .s) (x .t) (x .c) h (s .pre .2 .fits))
 
 pub find-spec : {M : Type 1} → statement M
 find-spec =
@@ -69,6 +73,4 @@ find-spec =
     slice-aggregate-find
     find-requires
     same-length
-    same-length-2
-    same-length-3
     returns)

@@ -1,19 +1,19 @@
 -- A step's end as lists: settling keeps the alphabet, T and C, and adds to rows and to S, so the lists that the code leaves are those of the tables.
--- By the cases of settling; with nothing in hand the lists mean what settling is given.
+-- By how asking ends: the first unknown answer is the one that settling opens; where the table has none, S grows by it as by the store.
 use mathlib.Core.Path.{_≡_, refl, sym, ap, subst, _∙_}
-use mathlib.Core.Bool.{Bool, false, cond}
+use mathlib.Core.Bool.{Bool, true, false, cond}
 use mathlib.Core.List.{List}
 use mathlib.Core.Option.{Option, none, some}
-use Prim.Native.Nat.{ℕ, _≤_, _<_}
+use Prim.Native.Nat.{ℕ, _*_, _≤_, _<_}
 use native.Mathlib.Omega.{arith}
 use lib.Dec.{eqb}
 use lib.ListN.{length, getD, take}
-use lib.Seq.{length-take-le, getD-take}
-use Rattle.model.specs.Limits.{mostContexts, mostRules, mostStates, mostSymbols}
-use Rattle.model.specs.Base.{In, over}
+use lib.Seq.{length-take-le, take-length}
+use Rattle.model.specs.Limits.{rowWidth}
+use Rattle.model.specs.Base.{In, allAmong, over}
 use Rattle.model.specs.Store.{Built, full, built, used, framesOf, fill}
 use Rattle.model.specs.Table.{Tables, tables, rowOf}
-use Rattle.model.specs.Steps.{Shortage, ofRows, ofStates, ofTransitions, ofTurns, Ended, short, asks, proposes, Sought, noneUnknown, unknown, seek, grow, opened, proposed, settledBy, settled}
+use Rattle.model.specs.Steps.{Shortage, Ended, short, asks, proposes, Sought, noneUnknown, unknown, seek, grow, opened, proposed, settledBy, settled}
 use Rattle.model.specs.Entry.{storeOf, answersIn, tablesOf, listsOf}
 use Rattle.model.specs.declared.Lists.{Lists}
 use Rattle.model.proofs.Laws.Lists.{at-place, members-in, each-from}
@@ -23,13 +23,21 @@ use Rattle.model.proofs.Laws.Grow.{grown}
 use Rattle.model.proofs.Laws.Settle.{Finds, all-known, first-unknown, seek-is}
 use Rattle.model.proofs.Laws.ReflectLists.{context-back}
 use Rattle.model.proofs.Laws.Lent.{over-take, listsFit-facts}
+use Rattle.bank.specs.Ready.{Kept}
 use Rattle.bank.proofs.Laws.Words.{used-of, answer-in}
-use Rattle.sound_parts.specs.Given.{given}
-use Rattle.step_settle.specs.declared.Step.{Step}
-use Rattle.step_settle.specs.Settled.{Settling, StepAs}
+use Rattle.bank_undo.specs.Left.{Left}
+use Rattle.bank_undo.proofs.Laws.Left.{left-same}
+use Rattle.run_lists.specs.Members.{countsIn, statesIn, rulesIn, contextsIn}
+use Rattle.table.specs.Answers.{Observed, KnownRows, soughtBy}
+use Rattle.table.proofs.Laws.Tied.{sought-tied}
+use Rattle.table_answers.proofs.Laws.Cut.{known-cut, observed-whole}
+use Rattle.step_settle.specs.declared.Asked.{Asked}
+use Rattle.step_settle.specs.declared.Asked.the-variants.{Nothing, NoRows, At}
+use Rattle.step_settle.specs.Settled.{Settling, Opens, Opened, Closed, AskedAs}
 use Rattle.step_end.specs.declared.finish.Stepped.{Stepped}
-use Rattle.step_end.specs.Stepping.{Orderly, countsIn, Stepping, EndedAs, asking, proposing}
-use Rattle.step_end.specs.Finished.{FinishedAs}
+use Rattle.step_end.specs.Stepping.{Orderly, Stepping, KnownTable, EndedAs, asking, proposing}
+use Rattle.step_end.specs.Finished.{GrownAs, ProposedAs, FinishedAs}
+use Rattle.step_end.proofs.Laws.Lists.{Arrays, few-letters, few-states, few-rules, few-contexts, rules-told, contexts-told}
 
 -- how a step ended, as a record: its parts are known from it
 pub record Finished (ws : List ℕ) (l : Lists) (e : Ended) (r : Stepped) (us : List ℕ) : Type 0 where
@@ -37,13 +45,6 @@ pub record Finished (ws : List ℕ) (l : Lists) (e : Ended) (r : Stepped) (us : 
 
 pub finished-by : {ws : List ℕ} {l : Lists} {e f : Ended} {r : Stepped} {us : List ℕ} → e ≡ f → Finished ws l f r us → Finished ws l e r us
 finished-by {ws} {l} {e} {f} {r} {us} p t = subst (λ (d : Ended). Finished ws l d r us) (sym p) t
-
--- the sizes of the arrays
-pub record Arrays (l : Lists) : Type 0 where
-  pub counts : length (l .counts) ≡ mostSymbols
-  pub s : length (l .s) ≡ mostStates
-  pub t : length (l .t) ≡ mostRules
-  pub c : length (l .c) ≡ mostContexts
 
 -- WHAT SETTLING LEAVES of tables: the alphabet, T and C; rows and S may be more
 pub record Grows (x y : Tables) : Type 0 where
@@ -90,58 +91,61 @@ pub kept-over : (n : ℕ) (xs : List ℕ) {ys : List ℕ} → ys ≡ take n xs �
 kept-over n xs {ys} e h = sym (ap (λ (zs : List ℕ). over zs xs) e ∙ over-take n xs h)
 
 module _ {ws : List ℕ} {l : Lists} {ix : List ℕ} (p : Stepping ws l ix) (a : Arrays l) where
-  pub few-letters : l .letters ≤ length (l .counts)
-  few-letters = omega (arith, a .counts, listsFit-facts l (p .fit) .letters)
+  -- the alphabet, S, T and C are within their arrays
+  letters-in : l .letters ≤ length (l .counts)
+  letters-in = few-letters (p .fit) a
 
-  pub few-states : l .states ≤ length (l .s)
-  few-states = omega (arith, a .s, listsFit-facts l (p .fit) .states)
+  states-in : l .states ≤ length (l .s)
+  states-in = few-states (p .fit) a
 
-  pub few-rules : l .rules ≤ length (l .t)
-  few-rules = omega (arith, a .t, listsFit-facts l (p .fit) .rules)
+  rules-in : l .rules ≤ length (l .t)
+  rules-in = few-rules (p .fit) a
 
-  pub few-contexts : l .contexts ≤ length (l .c)
-  few-contexts = omega (arith, a .c, listsFit-facts l (p .fit) .contexts)
+  contexts-in : l .contexts ≤ length (l .c)
+  contexts-in = few-contexts (p .fit) a
 
-  member-of : (xs : List ℕ) (n j : ℕ) → n ≤ length xs → j < n → In (getD xs j 0) (take n xs)
-  member-of xs n j h b = subst (λ (i : ℕ). In i (take n xs)) (getD-take n xs j 0 b) (at-place (take n xs) j (omega (arith, length-take-le n xs h)))
-
-  pub settling : Settling ws (countsIn l) (l .used) (l .s) (l .states) (l .t) (l .rules) (l .c) (l .contexts)
+  -- WHAT ASKING NEEDS
+  pub settling : Settling ws (countsIn l) (l .used) (rulesIn l) (contextsIn l)
   settling =
       let f = listsFit-facts l (p .fit) in
+      let x = storeOf ws (countsIn l) (l .used) in
       record {
         answered = λ i b. subst (λ (v : ℕ). v ≤ 2) (answer-in (l .used) i ws b) (p .orderly .bound i);
-        s-long = a .s;
-        few-s = f .states;
-        t-long = a .t;
-        few-t = f .rules;
-        c-long = a .c;
-        few-c = f .contexts;
-        used-t = λ k b. subst (λ (n : ℕ). getD (l .t) k 0 < n) (used-of ws (countsIn l) (l .used)) (p .orderly .row (getD (l .t) k 0) (member-of (l .t) (l .rules) k few-rules b) .within);
-        contexts = λ j b. context-back (storeOf ws (countsIn l) (l .used)) (getD (l .c) j 0) (p .orderly .context (getD (l .c) j 0) (member-of (l .c) (l .contexts) j few-contexts b));
-        s-in-t = members-in (take (l .rules) (l .t)) (each-from (take (l .states) (l .s)) (p .orderly .among));
+        few-t = omega (arith, f .rules, rules-told (p .fit) a);
+        few-c = omega (arith, f .contexts, contexts-told (p .fit) a);
+        used-t = λ k b. subst (λ (n : ℕ). getD (rulesIn l) k 0 < n) (used-of ws (countsIn l) (l .used)) (p .orderly .row (getD (rulesIn l) k 0) (at-place (rulesIn l) k b) .within);
+        contexts = λ j b. context-back x (getD (contextsIn l) j 0) (p .orderly .context (getD (contextsIn l) j 0) (at-place (contextsIn l) j b));
       }
+
+  pub known : {tb : List ℕ} → KnownTable ws l tb →
+      KnownRows (storeOf ws (countsIn l) (l .used)) (answersIn (l .used) ws) (rulesIn l) (length (rulesIn l)) (contextsIn l) (length (contextsIn l)) tb
+  known {tb} k = known-cut (storeOf ws (countsIn l) (l .used)) (answersIn (l .used) ws) (l .t) (l .rules) (l .c) (l .contexts) rules-in contexts-in tb k
+
+  -- S is in T
+  pub states-among : allAmong (statesIn l) (rulesIn l) ≡ true
+  states-among = members-in (rulesIn l) (each-from (statesIn l) (p .orderly .among))
 
   module _ (h : l .hand ≡ 0) (o : l .asked ≡ 0) (z : l .accepted ≡ 0) where
     abbrev G : Tables
-    G = given ws (countsIn l) (l .used) (l .s) (l .states) (l .t) (l .rules) (l .c) (l .contexts) 0 0 false
+    G = tables (storeOf ws (countsIn l) (l .used)) (answersIn (l .used) ws) (statesIn l) (rulesIn l) (contextsIn l) 0 0 false
 
     given-is : tablesOf ws l ≡ G
     given-is =
-        λ i. tables (storeOf ws (countsIn l) (l .used)) (answersIn (l .used) ws) (take (l .states) (l .s)) (take (l .rules) (l .t)) (take (l .contexts) (l .c)) (h i) (o i) (eqb (z i) 1)
+        λ i. tables (storeOf ws (countsIn l) (l .used)) (answersIn (l .used) ws) (statesIn l) (rulesIn l) (contextsIn l) (h i) (o i) (eqb (z i) 1)
 
     asking-is : (y : Tables) → Grows G y → y .s ≡ G .s → y .hand ≡ 0 → asking l 0 (y .asked) (used (y .store)) ≡ listsOf l y
     asking-is y g e f =
         λ i. record {
-          letters = kept-length (l .letters) (l .counts) (g .counts) few-letters i;
-          counts = kept-over (l .letters) (l .counts) (g .counts) few-letters i;
+          letters = kept-length (l .letters) (l .counts) (g .counts) letters-in i;
+          counts = kept-over (l .letters) (l .counts) (g .counts) letters-in i;
           accepted = sym (ap (λ (b : Bool). cond b 1 0) (g .running)) i;
           used = used (y .store);
-          states = kept-length (l .states) (l .s) e few-states i;
-          s = kept-over (l .states) (l .s) e few-states i;
-          rules = kept-length (l .rules) (l .t) (g .same-t) few-rules i;
-          t = kept-over (l .rules) (l .t) (g .same-t) few-rules i;
-          contexts = kept-length (l .contexts) (l .c) (g .same-c) few-contexts i;
-          c = kept-over (l .contexts) (l .c) (g .same-c) few-contexts i;
+          states = kept-length (l .states) (l .s) e states-in i;
+          s = kept-over (l .states) (l .s) e states-in i;
+          rules = kept-length (l .rules) (l .t) (g .same-t) rules-in i;
+          t = kept-over (l .rules) (l .t) (g .same-t) rules-in i;
+          contexts = kept-length (l .contexts) (l .c) (g .same-c) contexts-in i;
+          c = kept-over (l .contexts) (l .c) (g .same-c) contexts-in i;
           hand = sym f i;
           asked = y .asked;
         }
@@ -150,31 +154,65 @@ module _ {ws : List ℕ} {l : Lists} {ix : List ℕ} (p : Stepping ws l ix) (a :
     proposing-is y g e f k =
         let u : l .used ≡ used (y .store) = sym (used-of ws (countsIn l) (l .used)) ∙ ap used (sym e) in
         λ i. record {
-          letters = kept-length (l .letters) (l .counts) (g .counts) few-letters i;
-          counts = kept-over (l .letters) (l .counts) (g .counts) few-letters i;
+          letters = kept-length (l .letters) (l .counts) (g .counts) letters-in i;
+          counts = kept-over (l .letters) (l .counts) (g .counts) letters-in i;
           accepted = sym (ap (λ (b : Bool). cond b 1 0) (g .running)) i;
           used = u i;
           states = length (y .s);
           s = over (y .s) (l .s);
-          rules = kept-length (l .rules) (l .t) (g .same-t) few-rules i;
-          t = kept-over (l .rules) (l .t) (g .same-t) few-rules i;
-          contexts = kept-length (l .contexts) (l .c) (g .same-c) few-contexts i;
-          c = kept-over (l .contexts) (l .c) (g .same-c) few-contexts i;
+          rules = kept-length (l .rules) (l .t) (g .same-t) rules-in i;
+          t = kept-over (l .rules) (l .t) (g .same-t) rules-in i;
+          contexts = kept-length (l .contexts) (l .c) (g .same-c) contexts-in i;
+          c = kept-over (l .contexts) (l .c) (g .same-c) contexts-in i;
           hand = sym f i;
           asked = sym k i;
         }
 
-    pub finished : (q : Step) (ss us : List ℕ) {r : Stepped} → StepAs ws (countsIn l) (l .used) (l .s) (settled G) q us ss → FinishedAs l q ss r → Finished ws l (settled (tablesOf ws l)) r us
-    finished q ss us {r} d f = finished-by (ap settled given-is) (go (settled G) (settles G (subst Orderly given-is (p .orderly))) d)
+    settles-given : Settles G (settled G)
+    settles-given = settles G (subst Orderly given-is (p .orderly))
+
+    -- ONE UNKNOWN: what its record is built as
+    opens-as : {b : Built} → Opens (G .store) (G .answers) (G .t) (G .c) b → settled G ≡ opened G b
+    opens-as q = ap (settledBy G) (q .first) ∙ ap (opened G) (q .is)
+
+    finished-full : {us : List ℕ} {r : Stepped} → Opens (G .store) (G .answers) (G .t) (G .c) full → Kept ws (l .used) us → r .number ≡ 34 → Finished ws l (settled G) r us
+    finished-full q k f = finished-by (opens-as q) (record { ended = (f, k) })
+
+    finished-asking : (i n : ℕ) {us : List ℕ} {r : Stepped} → Opened ws (countsIn l) (l .used) (G .t) (G .c) i n us → r .number ≡ 0 → r .lists ≡ asking l 0 i n → Finished ws l (settled G) r us
+    finished-asking i n {us} {r} q f e = finished-by (opens-as (q .opens)) (go (subst (Settles G) (opens-as (q .opens)) settles-given))
       where
-        go : (e : Ended) → Settles G e → StepAs ws (countsIn l) (l .used) (l .s) e q us ss → Finished ws l e r us
-        go (short ofRows) s b = record { ended = (subst (λ (k : Step). FinishedAs l k ss r) (b .0) f, b .1) }
-        go (short ofStates) s b = record { ended = (subst (λ (k : Step). FinishedAs l k ss r) (b .0) f, b .1) }
-        go (short ofTransitions) s b = absurd b
-        go (short ofTurns) s b = absurd b
-        go (asks y) (settles-asking g e m) b =
-            let t = subst (λ (k : Step). FinishedAs l k ss r) (b .0) f in
-            record { ended = (t .0, t .1 ∙ asking-is y g e m, b .1) }
-        go (proposes y) (settles-proposing g e m n) b =
-            let t = subst (λ (k : Step). FinishedAs l k ss r) (b .0) f in
-            record { ended = (t .0, t .1 ∙ ap (λ (s : List ℕ). proposing l s (length (y .s))) (b .2) ∙ proposing-is y g e m n, b .1) }
+        go : Settles G (opened G (built i (q .y))) → Finished ws l (opened G (built i (q .y))) r us
+        go (settles-asking {y = y} g s m) = record { ended = (f, e ∙ ap (asking l 0 i) (q .count) ∙ asking-is y g s m, q .left) }
+
+    -- NONE UNKNOWN: the table has all answers, so S grows by it
+    module _ {us tb : List ℕ} (q : Closed ws (countsIn l) (l .used) (G .t) (G .c) us tb) where
+      none-unknown : seek (G .store) (G .answers) (G .c) (G .t) ≡ noneUnknown
+      none-unknown =
+          let e = sought-tied (q .observed) (omega arith) (omega arith) in
+          (λ i. seek (G .store) (G .answers) (sym (take-length (G .c)) i) (sym (take-length (G .t)) i)) ∙ sym e ∙ ap (soughtBy (G .t) (G .c)) (q .none)
+
+      observed : Observed (G .store) (G .answers) (l .t) (l .rules) (l .c) (l .contexts) tb
+      observed =
+          let e = rules-told (p .fit) a in
+          subst (λ (k : ℕ). Observed (G .store) (G .answers) (l .t) k (l .c) (l .contexts) tb) (sym e)
+          (observed-whole (G .store) (G .answers) (l .t) (l .rules) (l .c) (l .contexts) rules-in contexts-in tb (length (G .t)) (omega arith) (q .observed))
+
+      finished-proposing : {r : Stepped} → ProposedAs l tb r → Finished ws l (settled G) r us
+      finished-proposing {r} f =
+          let e = ap (settledBy G) none-unknown in
+          finished-by e (go (grow (rowOf G) (G .s) (G .t)) (subst (Settles G) e settles-given) (f (G .store) (G .answers) observed))
+        where
+          go : (g : Option (List ℕ)) → Settles G (proposed G g) → GrownAs l g r → Finished ws l (proposed G g) r us
+          go none s b = record { ended = (b, record { same-size = ap length (q .same); same-rows = ap (take (rowWidth * l .used)) (q .same) }) }
+          go (some s) (settles-proposing {y = y} g e m n) b =
+              let left = subst (λ (vs : List ℕ). Left ws (countsIn l) vs (G .store) (G .answers)) (sym (q .same)) (left-same ws (countsIn l) (l .used)) in
+              record { ended = (b .0, b .1 ∙ proposing-is y g e m n, left) }
+
+    -- FROM HOW ASKING ENDS, and from what the lists are left as
+    pub finished : (q : Asked) (us tb : List ℕ) {r : Stepped} → AskedAs ws (countsIn l) (l .used) (rulesIn l) (contextsIn l) q us tb → FinishedAs l q tb r → Finished ws l (settled (tablesOf ws l)) r us
+    finished q us tb {r} d f = finished-by (ap settled given-is) (go q d f)
+      where
+        go : (k : Asked) → AskedAs ws (countsIn l) (l .used) (rulesIn l) (contextsIn l) k us tb → FinishedAs l k tb r → Finished ws l (settled G) r us
+        go Nothing b t = finished-proposing b t
+        go NoRows b t = finished-full (b .0) (b .1) t
+        go (At i n) b t = finished-asking (i .0) n b (t .0) (t .1)

@@ -23,6 +23,7 @@ use Rattle.model.proofs.Laws.Settle.{past}
 use Rattle.model.proofs.Laws.Lent.{take-over, over-take, good-four, listsFit-facts, listsFit-true, listsOf-within}
 use Rattle.bank.specs.Ready.{Ready, Kept}
 use Rattle.bank.proofs.Laws.Words.{used-of, front-withRows}
+use Rattle.run_lists.specs.Members.{countsIn, contextsIn}
 use Rattle.bank_fill.specs.declared.add.Grown.{Grown}
 use Rattle.bank_fill.proofs.Laws.Coming.{Comes, store-room}
 use Rattle.bank_fill.proofs.Laws.Filling.{Reached}
@@ -31,9 +32,9 @@ use Rattle.table.proofs.Laws.Known.{forgotten-known}
 use Rattle.bank_undo.specs.Left.{Left}
 use Rattle.bank_undo.proofs.Laws.Left.{left-rows, left-then}
 use Rattle.step_end.specs.declared.finish.Stepped.{Stepped}
-use Rattle.step_end.specs.Stepping.{Orderly, countsIn, Stepping, KnownTable, withContext}
-use Rattle.step_end.proofs.Laws.Lists.{kept-then, lists-twice, tables-left}
-use Rattle.step_end.proofs.Laws.Finished.{Finished, finished-by, Arrays, Grows, Settles, settles-asking, settles-proposing, settles, kept-length, kept-over, few-letters, few-states, few-rules}
+use Rattle.step_end.specs.Stepping.{Orderly, Stepping, KnownTable, withContext}
+use Rattle.step_end.proofs.Laws.Lists.{Arrays, few-letters, few-states, few-rules, kept-then, lists-twice, tables-left}
+use Rattle.step_end.proofs.Laws.Finished.{Finished, finished-by, Grows, Settles, settles-asking, settles-proposing, settles, kept-length, kept-over}
 
 -- ROWS RAN OUT
 pub put-none : (ws : List ℕ) (l : Lists) (fs : List Frame) (r : Stepped) {us ix : List ℕ} → Comes ws (countsIn l) (l .used) (fill (tablesOf ws l .store) fs 0) Grown.Full us ix →
@@ -83,16 +84,16 @@ module _ {ws : List ℕ} {l : Lists} {ix : List ℕ} (p : Stepping ws l ix) (a :
 
   lists-after : withContext l j n ≡ listsOf l Y
   lists-after =
-      let b : Bool = among j (take (l .contexts) (l .c)) in
+      let b : Bool = among j (contextsIn l) in
       λ i. record {
-        letters = kept-length (l .letters) (l .counts) (d .filled .ext .counts) (few-letters p a) i;
-        counts = kept-over (l .letters) (l .counts) (d .filled .ext .counts) (few-letters p a) i;
+        letters = kept-length (l .letters) (l .counts) (d .filled .ext .counts) (few-letters (p .fit) a) i;
+        counts = kept-over (l .letters) (l .counts) (d .filled .ext .counts) (few-letters (p .fit) a) i;
         accepted = 0;
         used = d .stands .count i;
-        states = sym (length-take-le (l .states) (l .s) (few-states p a)) i;
-        s = sym (over-take (l .states) (l .s) (few-states p a)) i;
-        rules = sym (length-take-le (l .rules) (l .t) (few-rules p a)) i;
-        t = sym (over-take (l .rules) (l .t) (few-rules p a)) i;
+        states = sym (length-take-le (l .states) (l .s) (few-states (p .fit) a)) i;
+        s = sym (over-take (l .states) (l .s) (few-states (p .fit) a)) i;
+        rules = sym (length-take-le (l .rules) (l .t) (few-rules (p .fit) a)) i;
+        t = sym (over-take (l .rules) (l .t) (few-rules (p .fit) a)) i;
         contexts = more-count b (l .contexts) j (l .c) within i;
         c = more-array b (l .contexts) j (l .c) within i;
         hand = 0;
@@ -145,9 +146,9 @@ module _ {ws : List ℕ} {l : Lists} {ix : List ℕ} (p : Stepping ws l ix) (a :
       let f = listsFit-facts l (p .fit) in
       let k = more-few (among j (X .c)) (l .contexts) j (l .c) within in
       let c : length (Y .c) ≤ mostContexts = omega (arith, k, room) in
-      let b = ap length (d .filled .ext .counts) ∙ length-take-le (l .letters) (l .counts) (few-letters p a) in
-      let s = length-take-le (l .states) (l .s) (few-states p a) in
-      let t = length-take-le (l .rules) (l .t) (few-rules p a) in
+      let b = ap length (d .filled .ext .counts) ∙ length-take-le (l .letters) (l .counts) (few-letters (p .fit) a) in
+      let s = length-take-le (l .states) (l .s) (few-states (p .fit) a) in
+      let t = length-take-le (l .rules) (l .t) (few-rules (p .fit) a) in
       listsFit-true (listsOf l Y) (listsOf-within l Y (omega (arith, f .letters)) (omega (arith, f .states)) (omega (arith, f .rules)) c)
 
   pub stepping-after : (left : Lists) → left ≡ withContext l j n → Stepping us left ix'

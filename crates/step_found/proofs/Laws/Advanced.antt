@@ -10,7 +10,7 @@ use native.Mathlib.Omega.{arith}
 use borrow.Author.Tests.{le-leb, lt-leb}
 use lib.ListN.{length, take, set, length-set}
 use lib.Seq.{length-take-le, take-suc-set, drop-set-lt}
-use Rattle.model.specs.Limits.{mostSymbols, mostStates, mostRules, mostContexts}
+use Rattle.model.specs.Limits.{mostRules, mostContexts}
 use Rattle.model.specs.Base.{In, over}
 use Rattle.model.specs.Store.{Store, Frame, Spot, Built, full, built, used, framesOf, fill}
 use Rattle.model.specs.Table.{Tables, tables, rowOf}
@@ -28,7 +28,9 @@ use Rattle.bank_fill.proofs.Laws.Filling.{reached}
 use Rattle.bank_undo.specs.Left.{Left}
 use Rattle.bank_undo.proofs.Laws.Left.{left-rows}
 use Rattle.step_end.specs.declared.finish.Stepped.{Stepped}
-use Rattle.step_end.specs.Stepping.{Stepping, EndedAs, countsIn, asking, withRule}
+use Rattle.run_lists.specs.Members.{countsIn, statesIn, rulesIn, contextsIn}
+use Rattle.step_end.specs.Stepping.{Stepping, EndedAs, asking, withRule}
+use Rattle.step_end.proofs.Laws.Lists.{Arrays, few-letters, few-states, few-rules, few-contexts, letters-told, states-told, rules-told, contexts-told}
 
 -- how a step ended, as a record: its parts are known from it
 pub record Ends (ws : List ℕ) (l : Lists) (e : Ended) (r : Stepped) (us : List ℕ) : Type 0 where
@@ -37,35 +39,23 @@ pub record Ends (ws : List ℕ) (l : Lists) (e : Ended) (r : Stepped) (us : List
 pub ends-by : {ws : List ℕ} {l : Lists} {e f : Ended} {r : Stepped} {us : List ℕ} → e ≡ f → Ends ws l f r us → Ends ws l e r us
 ends-by {ws} {l} {e} {f} {r} {us} p t = subst (λ (d : Ended). Ends ws l d r us) (sym p) t
 
--- lists as long as they are declared
-pub record Long (l : Lists) : Type 0 where
-  pub counts : length (l .counts) ≡ mostSymbols
-  pub s : length (l .s) ≡ mostStates
-  pub t : length (l .t) ≡ mostRules
-  pub c : length (l .c) ≡ mostContexts
-
 -- A QUESTION OPENED: the lists as they were but for the rows used, the record in hand and the row asked for
-pub asking-is : (l : Lists) → Long l → listsFit l ≡ true → (y : Store) → y .counts ≡ countsIn l → (w : List ℕ) (h j n : ℕ) → n ≡ used y →
-    asking l h j n ≡ listsOf l (tables y w (take (l .states) (l .s)) (take (l .rules) (l .t)) (take (l .contexts) (l .c)) h j false)
+asking-is : (l : Lists) → Arrays l → listsFit l ≡ true → (y : Store) → y .counts ≡ countsIn l → (w : List ℕ) (h j n : ℕ) → n ≡ used y →
+    asking l h j n ≡ listsOf l (tables y w (statesIn l) (rulesIn l) (contextsIn l) h j false)
 asking-is l g fit y e w h j n p =
-    let f = listsFit-facts l fit in
-    let a : l .letters ≤ length (l .counts) = omega (arith, g .counts, f .letters) in
-    let b : l .states ≤ length (l .s) = omega (arith, g .s, f .states) in
-    let c : l .rules ≤ length (l .t) = omega (arith, g .t, f .rules) in
-    let d : l .contexts ≤ length (l .c) = omega (arith, g .c, f .contexts) in
-    let letters : l .letters ≡ length (y .counts) = sym (length-take-le (l .letters) (l .counts) a) ∙ ap length (sym e) in
-    let counts : l .counts ≡ over (y .counts) (l .counts) = sym (over-take (l .letters) (l .counts) a) ∙ ap (λ (ns : List ℕ). over ns (l .counts)) (sym e) in
+    let letters : l .letters ≡ length (y .counts) = letters-told fit g ∙ ap length (sym e) in
+    let counts : l .counts ≡ over (y .counts) (l .counts) = sym (over-take (l .letters) (l .counts) (few-letters fit g)) ∙ ap (λ (ns : List ℕ). over ns (l .counts)) (sym e) in
     λ i. record {
       letters = letters i;
       counts = counts i;
       accepted = 0;
       used = p i;
-      states = sym (length-take-le (l .states) (l .s) b) i;
-      s = sym (over-take (l .states) (l .s) b) i;
-      rules = sym (length-take-le (l .rules) (l .t) c) i;
-      t = sym (over-take (l .rules) (l .t) c) i;
-      contexts = sym (length-take-le (l .contexts) (l .c) d) i;
-      c = sym (over-take (l .contexts) (l .c) d) i;
+      states = states-told fit g i;
+      s = sym (over-take (l .states) (l .s) (few-states fit g)) i;
+      rules = rules-told fit g i;
+      t = sym (over-take (l .rules) (l .t) (few-rules fit g)) i;
+      contexts = contexts-told fit g i;
+      c = sym (over-take (l .contexts) (l .c) (few-contexts fit g)) i;
       hand = h;
       asked = j;
     }
@@ -74,7 +64,7 @@ asking-is l g fit y e w h j n p =
 abbrev pub handed : (words : List ℕ) → Lists → (hand : ℕ) → Tables
 handed ws l h = tables (tablesOf ws l .store) (tablesOf ws l .answers) (tablesOf ws l .s) (tablesOf ws l .t) (tablesOf ws l .c) h 0 false
 
-module _ {ws : List ℕ} {l : Lists} {ix : List ℕ} (st : Stepping ws l ix) (long : Long l) (fs : List Frame)
+module _ {ws : List ℕ} {l : Lists} {ix : List ℕ} (st : Stepping ws l ix) (long : Arrays l) (fs : List Frame)
     (fits : Fits (tablesOf ws l .store) fs) (h rep : ℕ) (low : rep < l .used) {us ix' : List ℕ} (r : Stepped) where
   pub no-rows : Comes ws (countsIn l) (l .used) (fill (tablesOf ws l .store) fs rep) Grown.Full us ix' → r .number ≡ 34 → Ends ws l (opened (handed ws l h) (fill (tablesOf ws l .store) fs rep)) r us
   no-rows d z = go (fill (tablesOf ws l .store) fs rep) d

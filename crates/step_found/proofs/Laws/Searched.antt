@@ -1,11 +1,10 @@
 -- Where the search with a record in hand ended: the record then in hand, the row at its spot and the way down to it, as the next step needs them.
--- The search ends at a record that the proposal gets wrong; the arrays made on the way hold the spot and the way down of every row.
-use mathlib.Core.Path.{_≡_, sym, ap, subst, _∙_}
+-- The search ends at a record that the proposal gets wrong; the notes made on the way hold the spot and the way down of every row.
+use mathlib.Core.Path.{_≡_, refl, sym, ap, subst, _∙_}
 use mathlib.Core.List.{List}
 use Prim.Native.Nat.{ℕ, _≤_, _<_}
 use native.Mathlib.Omega.{arith}
 use lib.ListN.{length, getD}
-use Rattle.model.specs.Limits.{mostRows}
 use Rattle.model.specs.Base.{In}
 use Rattle.model.specs.Store.{Store, Spot, spotOf, fill}
 use Rattle.model.specs.Table.{Tables}
@@ -23,10 +22,10 @@ use Rattle.bank.proofs.Laws.Words.{used-of}
 use Rattle.step_search.specs.declared.Found.{Found}
 use Rattle.step_search.specs.Spots.{Descended, searchBy}
 use Rattle.step_search.proofs.Laws.Steps.{path-around, path-fits}
-use Rattle.step_search.proofs.Laws.Reps.{reps-rows}
-use Rattle.step_search.proofs.Laws.Descent.{down-rows, at-rows}
+use Rattle.step_search.proofs.Laws.Descent.{down-rows}
 use Rattle.step_end.specs.declared.finish.Stepped.{Stepped}
-use Rattle.step_end.specs.Stepping.{Stepping, InHand, countsIn}
+use Rattle.run_lists.specs.Members.{countsIn}
+use Rattle.step_end.specs.Stepping.{Stepping, InHand}
 use Rattle.step_found.proofs.Laws.Advanced.{Ends, ends-by, handed}
 
 -- the record in hand and the row at its spot are records, and a representative is one of S
@@ -52,14 +51,13 @@ pub record Ending (ws : List ℕ) (l : Lists) (ix reps ds at ex : List ℕ) (f :
   pub end : searchBy (tablesOf ws l .s) reps (tablesOf ws l .store) f ≡
       search (tablesOf ws l .store) (tablesOf ws l .answers) (tablesOf ws l .s) (tablesOf ws l .t) (tablesOf ws l .c) (l .hand)
 
--- the record in hand then, and the row at its spot
-pub record Held (ws : List ℕ) (l : Lists) (ds at : List ℕ) (h : ℕ) : Type 0 where
+-- the record in hand then, and the row read at its spot
+pub record Held (ws : List ℕ) (l : Lists) (ds : List ℕ) (h i : ℕ) : Type 0 where
   pub record-row : IsRecord (tablesOf ws l .store) h
-  pub spot-row : IsRecord (tablesOf ws l .store) (getD at h 0)
+  pub spot-row : IsRecord (tablesOf ws l .store) i
   pub low : h < l .used
-  pub spot-low : getD at h 0 < l .used
-  pub spot-small : getD at h 0 < mostRows
-  pub spot-is : getD at h 0 ≡ spotOf (tablesOf ws l .s) (tablesOf ws l .store) h .row
+  pub spot-low : i < l .used
+  pub spot-is : i ≡ spotOf (tablesOf ws l .s) (tablesOf ws l .store) h .row
   pub around : pathOf ds (tablesOf ws l .store) h ≡ spotOf (tablesOf ws l .s) (tablesOf ws l .store) h .around
   pub fits : Fits (tablesOf ws l .store) (pathOf ds (tablesOf ws l .store) h)
 
@@ -73,77 +71,70 @@ module _ {ws : List ℕ} {l : Lists} {ix reps ds at ex : List ℕ} {f : Found} (
   row-low : {i : ℕ} → IsRecord (tablesOf ws l .store) i → i < l .used
   row-low {i} z = omega (arith, z .within, used-of ws (countsIn l) (l .used))
 
-  row-small : {i : ℕ} → IsRecord (tablesOf ws l .store) i → i < mostRows
-  row-small {i} z = omega (arith, row-low z, q .stepping .ready .finding .few)
-
-  held : (h : ℕ) → EndRows (tablesOf ws l .store) h (spotOf (tablesOf ws l .s) (tablesOf ws l .store) h) → Held ws l ds at h
-  held h z =
+  held : (h i : ℕ) → i ≡ getD at h 0 → EndRows (tablesOf ws l .store) h (spotOf (tablesOf ws l .s) (tablesOf ws l .store) h) → Held ws l ds h i
+  held h i r z =
       let n = used-of ws (countsIn l) (l .used) in
       let g = q .stepping .ready .good in
       let b = row-low (z .record-row) in
-      let e = q .descended .turns .at-is h b in
+      let e = r ∙ q .descended .turns .at-is h b in
       let spot = subst (IsRecord (tablesOf ws l .store)) (sym e) (z .spot-row) in
       record {
         record-row = z .record-row;
         spot-row = spot;
         low = b;
         spot-low = row-low spot;
-        spot-small = row-small spot;
         spot-is = e;
         around = path-around g (q .descended) (omega (arith, n)) h b;
         fits = path-fits g (q .descended) (omega (arith, n)) h b (z .record-row);
       }
-
-  -- entries that the arrays have
-  pub in-at : {h : ℕ} → Held ws l ds at h → h < length at
-  in-at z = omega (arith, z .low, at-rows ws (countsIn l) (l .used) (q .descended .turns))
-
-  pub in-reps : {h : ℕ} → Held ws l ds at h → getD at h 0 < length reps
-  in-reps z = omega (arith, z .spot-low, reps-rows ws (countsIn l) (l .used) (q .hand .handling))
 
   pub down-used : l .used ≤ length ds
   down-used = down-rows ws (countsIn l) (l .used) (q .descended)
 
   -- at a row that is no transition
   module _ {h : Row} (e : f ≡ Found.NewTransition h) where
-    pub held-new : Held ws l ds at (h .0)
-    held-new = held (h .0) (end-new (ends-as e))
+    pub held-new : (i : ℕ) → i ≡ getD at (h .0) 0 → Held ws l ds (h .0) i
+    held-new i r = held (h .0) i r (end-new (ends-as e))
 
-    pub ended-new : (r : Stepped) (us : List ℕ) →
-        Ends ws l (searched (tablesOf ws l) (atNewTransition (h .0) (record { row = getD at (h .0) 0; around = pathOf ds (tablesOf ws l .store) (h .0) }))) r us →
+    pub ended-new : (i : ℕ) → i ≡ getD at (h .0) 0 → (r : Stepped) (us : List ℕ) →
+        Ends ws l (searched (tablesOf ws l) (atNewTransition (h .0) (record { row = i; around = pathOf ds (tablesOf ws l .store) (h .0) }))) r us →
         Ends ws l (searched (tablesOf ws l) (searchBy (tablesOf ws l .s) reps (tablesOf ws l .store) f)) r us
-    ended-new r us d =
+    ended-new i a r us d =
         let x : Tables = tablesOf ws l in
-        let p : atNewTransition (h .0) (spotOf (x .s) (x .store) (h .0)) ≡ atNewTransition (h .0) (record { row = getD at (h .0) 0; around = pathOf ds (x .store) (h .0) }) =
-        λ i. atNewTransition (h .0) (record { row = sym (held-new .spot-is) i; around = sym (held-new .around) i }) in
+        let z = held-new i a in
+        let p : atNewTransition (h .0) (spotOf (x .s) (x .store) (h .0)) ≡ atNewTransition (h .0) (record { row = i; around = pathOf ds (x .store) (h .0) }) =
+        λ k. atNewTransition (h .0) (record { row = sym (z .spot-is) k; around = sym (z .around) k }) in
         ends-by (ap (λ (k : Found). searched x (searchBy (x .s) reps (x .store) k)) e ∙ ap (searched x) p) d
 
   -- at an unknown answer
   module _ {h : Row} (e : f ≡ Found.Unknown h) where
-    pub held-unknown : Held ws l ds at (h .0)
-    held-unknown = held (h .0) (end-unknown (ends-as e) .0)
+    pub held-unknown : (i : ℕ) → i ≡ getD at (h .0) 0 → Held ws l ds (h .0) i
+    held-unknown i r = held (h .0) i r (end-unknown (ends-as e) .0)
 
-    pub rep-low : getD reps (getD at (h .0) 0) 0 < l .used
-    rep-low =
-        let o = q .stepping .orderly in
-        let i : ℕ = getD reps (spotOf (tablesOf ws l .s) (tablesOf ws l .store) (h .0) .row) 0 in
-        let z = row-low (o .row i (o .among i (end-unknown (ends-as e) .1))) in
-        subst (λ (j : ℕ). getD reps j 0 < l .used) (sym (held-unknown .spot-is)) z
+    -- with the representative read there
+    module _ (i : ℕ) (a : i ≡ getD at (h .0) 0) (j : ℕ) (b : j ≡ getD reps i 0) where
+      rep-is : j ≡ getD reps (spotOf (tablesOf ws l .s) (tablesOf ws l .store) (h .0) .row) 0
+      rep-is = b ∙ ap (λ (k : ℕ). getD reps k 0) (held-unknown i a .spot-is)
 
-    pub ended-unknown : (r : Stepped) (us : List ℕ) →
-        Ends ws l (opened (handed ws l (h .0)) (fill (tablesOf ws l .store) (pathOf ds (tablesOf ws l .store) (h .0)) (getD reps (getD at (h .0) 0) 0))) r us →
-        Ends ws l (searched (tablesOf ws l) (searchBy (tablesOf ws l .s) reps (tablesOf ws l .store) f)) r us
-    ended-unknown r us d =
-        let x : Tables = tablesOf ws l in
-        ends-by
-        (ap (λ (k : Found). searched x (searchBy (x .s) reps (x .store) k)) e ∙
-        (λ i. opened (handed ws l (h .0)) (fill (x .store) (sym (held-unknown .around) i) (getD reps (sym (held-unknown .spot-is) i) 0))))
-        d
+      pub rep-low : j < l .used
+      rep-low =
+          let o = q .stepping .orderly in
+          let k : ℕ = getD reps (spotOf (tablesOf ws l .s) (tablesOf ws l .store) (h .0) .row) 0 in
+          omega (arith, rep-is, row-low (o .row k (o .among k (end-unknown (ends-as e) .1))))
+
+      pub ended-unknown : (r : Stepped) (us : List ℕ) → Ends ws l (opened (handed ws l (h .0)) (fill (tablesOf ws l .store) (pathOf ds (tablesOf ws l .store) (h .0)) j)) r us →
+          Ends ws l (searched (tablesOf ws l) (searchBy (tablesOf ws l .s) reps (tablesOf ws l .store) f)) r us
+      ended-unknown r us d =
+          let x : Tables = tablesOf ws l in
+          ends-by
+          (ap (λ (k : Found). searched x (searchBy (x .s) reps (x .store) k)) e ∙
+          (λ k. opened (handed ws l (h .0)) (fill (x .store) (sym (held-unknown i a .around) k) (sym rep-is k))))
+          d
 
   -- at an answer that differs
   module _ {h : Row} (e : f ≡ Found.Difference h) where
-    pub held-different : Held ws l ds at (h .0)
-    held-different = held (h .0) (end-different (ends-as e))
+    pub held-different : Held ws l ds (h .0) (getD at (h .0) 0)
+    held-different = held (h .0) (getD at (h .0) 0) refl (end-different (ends-as e))
 
     pub ended-different : (r : Stepped) (us : List ℕ) → Ends ws l (putDown (tablesOf ws l) (pathOf ds (tablesOf ws l .store) (h .0))) r us →
         Ends ws l (searched (tablesOf ws l) (searchBy (tablesOf ws l .s) reps (tablesOf ws l .store) f)) r us

@@ -1,18 +1,17 @@
 -- `step_found::ask_exchanged` meets its contract: the frames along the way down are filled with the representative, and the row that comes of it is asked for.
-use mathlib.Core.Path.{refl, sym}
+use mathlib.Core.Path.{refl}
 use native.Mathlib.Omega.{arith}
 use borrow.Author.Needs.{needs, length-unmapped}
 use Prim.Native.Nat.{ℕ}
-use lib.Seq.{length-take-le}
 use Rattle.model.specs.Limits.{mostContexts}
 use Rattle.model.specs.Store.{fill}
 use Rattle.model.specs.Entry.{tablesOf}
-use Rattle.model.proofs.Laws.Lent.{listsFit-facts}
 use Rattle.bank.specs.Ready.{pathOf}
 use Rattle.bank.proofs.Laws.Words.{used-of}
 use Rattle.bank_fill.proofs.Laws.Coming.{Comes, comes-as}
-use Rattle.step_end.specs.Stepping.{countsIn}
-use Rattle.step_found.proofs.Laws.Advanced.{Long, no-rows, asks-filled}
+use Rattle.run_lists.specs.Members.{countsIn}
+use Rattle.step_end.proofs.Laws.Lists.{Arrays, few-letters, letters-told}
+use Rattle.step_found.proofs.Laws.Advanced.{no-rows, asks-filled}
 use Rattle.step_found.proofs.ask_exchanged.Statement.{statement}
 use Rattle.step_found.proofs.ask_exchanged.Tie as tie
 use Rattle.step_found.proofs.ask_exchanged.Reads as reads
@@ -31,8 +30,8 @@ Filled = lts.After-fill (fill-reads.Asked, fill-reads.Learnt, short-reads.Asked,
 abbrev begun : Filled → Start
 begun c = c .before .before .before .before .before .before .before .before .before
 
-long : (s : Start) → Long (s .args .lists)
-long s =
+arrays : (s : Start) → Arrays (s .args .lists)
+arrays s =
     record {
       counts = search needs;
       s = search needs;
@@ -52,12 +51,12 @@ cast-letters c = search needs
 array-share-prefix-counts : tie.Need-array-share-prefix-counts
 array-share-prefix-counts c =
     let s : Start = c .before .before .before .before .before .before in
-    omega (arith, long s .counts, listsFit-facts (s .args .lists) (s .pre .0 .fit) .letters)
+    few-letters (s .pre .0 .fit) (arrays s)
 
 slice-aggregate-fill : tie.Need-slice-aggregate-fill
 slice-aggregate-fill c =
     let s : Start = c .before .before .before .before .before .before .before in
-    sym (length-take-le (s .args .lists .letters) (s .args .lists .counts) (omega (arith, long s .counts, listsFit-facts (s .args .lists) (s .pre .0 .fit) .letters)))
+    letters-told (s .pre .0 .fit) (arrays s)
 
 fill-requires : tie.Need-fill-requires
 fill-requires c κs =
@@ -87,7 +86,7 @@ returns : tie.Need-returns
 returns c =
     let f : Filled = c .before .before .before .before .before .before .before in
     let s : Start = begun f in
-    no-rows (s .pre .0) (long s) _ (s .pre .4) (s .args .hand .0) (s .args .rep .0) (s .pre .3) (c .short .result) (comes-as (c .before .enum-told .given .1) (came f)) (c .short .ensures .0) .ended
+    no-rows (s .pre .0) (arrays s) _ (s .pre .4) (s .args .hand .0) (s .args .rep .0) (s .pre .3) (c .short .result) (comes-as (c .before .enum-told .given .1) (came f)) (c .short .ensures .0) .ended
 
 same-length-3 : tie.Need-same-length-3
 same-length-3 c = search needs
@@ -99,7 +98,7 @@ returns-2 : tie.Need-returns-2
 returns-2 c =
     let f : Filled = c .before .before .before .before .before .before .before .before in
     let s : Start = begun f in
-    asks-filled (s .pre .0) (long s) _ (s .pre .4) (s .args .hand .0) (s .args .rep .0) (s .pre .3) (record { number = 0; lists = c .asking .result }) (comes-as (c .before .before .row .given .1) (came f)) refl (c .asking .ensures) .ended
+    asks-filled (s .pre .0) (arrays s) _ (s .pre .4) (s .args .hand .0) (s .args .rep .0) (s .pre .3) (record { number = 0; lists = c .asking .result }) (comes-as (c .before .before .row .given .1) (came f)) refl (c .asking .ensures) .ended
 
 pub ask-exchanged-spec : {M : Type 1} → statement M
 ask-exchanged-spec =

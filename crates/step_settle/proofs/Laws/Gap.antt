@@ -17,19 +17,19 @@ ruleIn (At k j) = k
 
 abbrev contextIn : Gap → ℕ
 contextIn Closed = 0
-contextIn (At k j) = j
+contextIn (At k j) = j .0
 
 pub record Within (n m k j : ℕ) : Type 0 where
   pub rule : k < n
   pub context : j < m
 
 module _ (tb : List ℕ) (n m : ℕ) (z : Sized tb n m) (k j : ℕ) where
-  within-from : (i count : ℕ) → i + count ≤ n → gapFrom tb m i count ≡ Gap.At k j → Within n m k j
+  within-from : (i count : ℕ) → i + count ≤ n → gapFrom tb m i count ≡ Gap.At k (record { 0 = j }) → Within n m k j
   unfolding gapFrom
   within-from i zero l e = absurd (let d : _≡_ {A = ℕ} 0 1 = cc in omega arith)
   within-from i (suc count) l e = go (within-from (suc i) count (omega arith)) (unknownIn (rowAt tb m i) 0) refl e
     where
-      go : (gapFrom tb m (suc i) count ≡ Gap.At k j → Within n m k j) → (o : Option ℕ) → unknownIn (rowAt tb m i) 0 ≡ o → gapBy i o (gapFrom tb m (suc i) count) ≡ Gap.At k j →
+      go : (gapFrom tb m (suc i) count ≡ Gap.At k (record { 0 = j }) → Within n m k j) → (o : Option ℕ) → unknownIn (rowAt tb m i) 0 ≡ o → gapBy i o (gapFrom tb m (suc i) count) ≡ Gap.At k (record { 0 = j }) →
           Within n m k j
       go ih none u p = ih p
       go ih (some v) u p =
@@ -38,5 +38,5 @@ module _ (tb : List ℕ) (n m : ℕ) (z : Sized tb n m) (k j : ℕ) where
           let h = unknown-within tb n m i z (omega arith) v u in
           record { rule = omega arith; context = omega arith }
 
-  pub gap-within : gapFrom tb m 0 n ≡ Gap.At k j → Within n m k j
+  pub gap-within : gapFrom tb m 0 n ≡ Gap.At k (record { 0 = j }) → Within n m k j
   gap-within e = within-from 0 n (omega arith) e

@@ -47,7 +47,7 @@ module _ (tb : List ℕ) (m n k : ℕ) where
       let e : n - k ≡ suc (n - (k + 1)) = omega arith in
       ap (gapFrom tb m k) e ∙ ap (λ (i : ℕ). gapBy k (unknownIn (rowAt tb m k) 0) (gapFrom tb m i (n - (k + 1)))) (sym (add-one k))
 
-  pub gap-hit : (j : ℕ) → k < n → unknownIn (rowAt tb m k) 0 ≡ some j → gapFrom tb m k (n - k) ≡ Gap.At k j
+  pub gap-hit : (j : ℕ) → k < n → unknownIn (rowAt tb m k) 0 ≡ some j → gapFrom tb m k (n - k) ≡ Gap.At k (record { 0 = j })
   gap-hit j l e = gap-step l ∙ ap (λ (o : Option ℕ). gapBy k o (gapFrom tb m (k + 1) (n - (k + 1)))) e
 
   pub gap-pass : k < n → unknownIn (rowAt tb m k) 0 ≡ none → gapFrom tb m k (n - k) ≡ gapFrom tb m (k + 1) (n - (k + 1))

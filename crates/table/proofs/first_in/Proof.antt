@@ -28,6 +28,10 @@ add-if1 c = search needs
 shared-slice-read-if1 : tie.Need-shared-slice-read-if1 Inv-loop μ-loop
 shared-slice-read-if1 c = search needs
 
+-- a context's number is small
+cast-t10 : tie.Need-cast-t10 Inv-loop μ-loop
+cast-t10 c = let few = c .before .before .before .before .pre .few-c in search needs
+
 returns : tie.Need-returns Inv-loop μ-loop
 returns c =
     let s = c .before .before .before .before in
@@ -48,6 +52,9 @@ loop-again c =
     let i : l .j < s .args .contexts = c .before .before .loop-test .taken in
     (search needs, sym (L.unknown-pass (s .args .a) (s .pre) (l .j) i (c .if1 .left)) ∙ l .inv .1)
 
+cast-t11 : tie.Need-cast-t11 Inv-loop μ-loop
+cast-t11 c = let few = c .before .before .pre .few-c in search needs
+
 returns-2 : tie.Need-returns-2 Inv-loop μ-loop
 returns-2 c =
     let s = c .before .before in
@@ -64,8 +71,10 @@ first-in-spec =
     mul-if1
     add-if1
     shared-slice-read-if1
+    cast-t10
     returns
     add-j
     loop-less
     loop-again
+    cast-t11
     returns-2)

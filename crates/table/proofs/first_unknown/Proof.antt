@@ -23,19 +23,19 @@ loop-holds c = (search needs, ap (gapFrom (c .before .args .table .now) (c .befo
 first-in-requires : tie.Need-first-in-requires Inv-loop μ-loop
 first-in-requires c κs = sized-to (c .before .before .before .pre) (c .before .loop .k) (c .loop-test .taken)
 
-cast-t7 : tie.Need-cast-t7 Inv-loop μ-loop
-cast-t7 c = search needs
+cast-if1 : tie.Need-cast-if1 Inv-loop μ-loop
+cast-if1 c = search needs
 
 cast-t8 : tie.Need-cast-t8 Inv-loop μ-loop
 cast-t8 c = search needs
 
 returns : tie.Need-returns Inv-loop μ-loop
 returns c =
-    let s = c .before .before .before .before .before in
-    let l = c .before .before .before .loop in
-    let f = c .before .first-in in
-    let i : l .k < s .args .rules = c .before .before .loop-test .taken in
-    sym (G.gap-hit (s .args .table .now) (s .args .contexts) (s .args .rules) (l .k) (f .result) i (G.place-some (unknownIn (rowAt (s .args .table .now) (s .args .contexts) (l .k)) 0) (s .args .contexts) (f .result) (f .ensures) (c .if1 .taken))) ∙ l .inv .1
+    let s = c .before .before .before .before .before .before in
+    let l = c .before .before .before .before .loop in
+    let f = c .before .before .first-in in
+    let i : l .k < s .args .rules = c .before .before .before .loop-test .taken in
+    sym (G.gap-hit (s .args .table .now) (s .args .contexts) (s .args .rules) (l .k) (f .result .0) i (G.place-some (unknownIn (rowAt (s .args .table .now) (s .args .contexts) (l .k)) 0) (s .args .contexts) (f .result .0) (f .ensures) (c .if1 .taken))) ∙ l .inv .1
 
 add-k : tie.Need-add-k Inv-loop μ-loop
 add-k c = search needs
@@ -45,12 +45,12 @@ loop-less c = search needs
 
 loop-again : tie.Need-loop-again Inv-loop μ-loop
 loop-again c =
-    let s = c .before .before .before .before .before in
-    let l = c .before .before .before .loop in
-    let f = c .before .first-in in
-    let i : l .k < s .args .rules = c .before .before .loop-test .taken in
+    let s = c .before .before .before .before .before .before in
+    let l = c .before .before .before .before .loop in
+    let f = c .before .before .first-in in
+    let i : l .k < s .args .rules = c .before .before .before .loop-test .taken in
     let w = G.unknown-within (s .args .table .now) (s .args .rules) (s .args .contexts) (l .k) (s .pre) i in
-    (search needs, sym (G.gap-pass (s .args .table .now) (s .args .contexts) (s .args .rules) (l .k) i (G.place-none (unknownIn (rowAt (s .args .table .now) (s .args .contexts) (l .k)) 0) (s .args .contexts) (f .result) w (f .ensures) (c .if1 .left))) ∙ l .inv .1)
+    (search needs, sym (G.gap-pass (s .args .table .now) (s .args .contexts) (s .args .rules) (l .k) i (G.place-none (unknownIn (rowAt (s .args .table .now) (s .args .contexts) (l .k)) 0) (s .args .contexts) (f .result .0) w (f .ensures) (c .if1 .left))) ∙ l .inv .1)
 
 returns-2 : tie.Need-returns-2 Inv-loop μ-loop
 returns-2 c =
@@ -66,7 +66,7 @@ first-unknown-spec =
     μ-loop
     loop-holds
     first-in-requires
-    cast-t7
+    cast-if1
     cast-t8
     returns
     add-k

@@ -1,27 +1,15 @@
 -- The first members of T and of C as lists of their own: what holds of their table holds of the table of the first members, and the other way round.
 -- A list cut to its first members has their number as its length.
-use mathlib.Core.Path.{_≡_, sym, ap, subst, _∙_}
+use mathlib.Core.Path.{_≡_, sym, ap, _∙_}
 use mathlib.Core.List.{List}
 use Prim.Native.Nat.{ℕ, _≤_, _<_}
 use native.Mathlib.Omega.{arith}
 use lib.ListN.{length, getD, take}
 use lib.Seq.{take-length, getD-take, length-take-le}
 use Rattle.model.specs.Base.{among}
-use Rattle.model.specs.Store.{Store, isContext}
+use Rattle.model.specs.Store.{Store}
 use Rattle.model.specs.Table.{answersOf}
-use Rattle.table.specs.Answers.{rowAt, Observed, KnownRows, ToGap, gapFrom}
-use Rattle.table_columns.specs.Columns.{Contexts, Used}
-
-module _ (t : List ℕ) (n : ℕ) (enough : n ≤ length t) where
-  pub used-cut : {u : ℕ} → Used u t n → Used u (take n t) (length (take n t))
-  used-cut {u} h k l =
-      let e = length-take-le n t enough in
-      subst (λ (i : ℕ). i < u) (sym (getD-take n t k 0 (omega arith))) (h k (omega arith))
-
-  pub contexts-cut : (x : Store) → Contexts x t n → Contexts x (take n t) (length (take n t))
-  contexts-cut x h k l =
-      let e = length-take-le n t enough in
-      ap (isContext x) (getD-take n t k 0 (omega arith)) ∙ h k (omega arith)
+use Rattle.table.specs.Answers.{rowAt, Observed, KnownRows}
 
 module _ (x : Store) (w t : List ℕ) (n : ℕ) (c : List ℕ) (m : ℕ) (enough-t : n ≤ length t) (enough-c : m ≤ length c) (tb : List ℕ) where
   -- a row's answers, either way
@@ -50,14 +38,4 @@ module _ (x : Store) (w t : List ℕ) (n : ℕ) (c : List ℕ) (m : ℕ) (enough
       record {
         sized = record { long = h .sized .long; few-t = h .sized .few-t; few-c = omega arith };
         rows = λ k a. sym (row-cut k) ∙ h .rows k a ∙ answers-cut k (omega arith);
-      }
-
-  pub gap-whole : {r : ℕ} → ToGap x w (take n t) (length (take n t)) (take m c) (length (take m c)) tb r → ToGap x w t n c m tb r
-  gap-whole {r} h =
-      let e = length-take-le n t enough-t in
-      let l : r ≤ n = omega (arith, h .few) in
-      record {
-        few = l;
-        observed = observed-whole r l (h .observed);
-        whole = λ g. h .whole (ap (λ (j : ℕ). gapFrom tb j 0 r) (length-take-le m c enough-c) ∙ g) ∙ e;
       }

@@ -7,7 +7,8 @@ use native.Mathlib.Omega.{arith}
 use lib.ListN.{length, take}
 use Rattle.model.specs.Table.{answersOf}
 use Rattle.model.specs.Entry.{storeOf, answersIn}
-use Rattle.table_columns.specs.Notes.{roomIn, SameNotes, NeededFor, Column, AllBelow, UsedAt, columnAnswers}
+use Rattle.bank.specs.Notes.{roomIn}
+use Rattle.table_columns.specs.Notes.{SameNotes, NeededFor, Column, AllBelow, UsedAt, columnAnswers}
 use Rattle.table_columns.proofs.Laws.Needed.{needed-for-kept}
 use Rattle.table_columns.proofs.Laws.Columns.{tops-low, tops-used, column-answers}
 

@@ -1,75 +1,322 @@
--- `table_answers::observe_to_gap` meets its contract: small notes for few rows, and else notes for all.
--- By the laws of Cut: T and C are lent as the lists of their first members.
-use mathlib.Core.Path.{sym}
-use Prim.Native.Nat.{_≤_}
+-- `table_answers::observe_to_gap` meets its contract. The invariant: the first k transitions have their rows of answers, and every row without an unknown answer is right.
+-- A row without an unknown answer is passed; an unknown answer in a row written anew is a gap; past the loop all have their rows.
+use mathlib.Core.Path.{_≡_, refl, sym, ap, subst, _∙_}
+use mathlib.Core.Bool.{false}
+use mathlib.Core.List.{List}
+use Prim.Native.Nat.{ℕ, _+_, _*_, _-_, _≤_, _<_}
 use native.Mathlib.Omega.{arith}
-use lib.ListN.{length}
-use lib.Seq.{length-take-le}
-use Rattle.model.specs.Entry.{storeOf, answersIn}
-use Rattle.table_answers.proofs.Laws.Cut.{used-cut, contexts-cut, known-cut, gap-whole}
 use borrow.Author.Needs.{needs}
+use borrow.Author.Tests.{not-true}
+use lib.ListN.{length, getD, take}
+use lib.Seq.{sets, length-take-le}
+use Rattle.model.specs.Limits.{mostContexts}
+use Rattle.model.specs.Store.{Store}
+use Rattle.model.specs.Table.{answersOf}
+use Rattle.model.specs.Entry.{storeOf, answersIn}
+use Rattle.bank.specs.Notes.{roomIn}
+use Rattle.table.specs.Answers.{Observed, KnownRows}
+use Rattle.table.proofs.Laws.Known.{observed-known}
+use Rattle.table.proofs.Laws.Tied.{gap-at-last}
+use Rattle.table_columns.specs.Notes.{NeededFor, AllBelow, UsedAt, columnAnswers}
+use Rattle.table_columns.proofs.Laws.Needed.{needed-for}
+use Rattle.table_columns.proofs.Laws.Rows.{observed-none, observed-more, known-more}
+use Rattle.table_answers.proofs.Laws.Steps.{next, tops-below, tops-fill, row-answers}
 use Rattle.table_answers.proofs.observe_to_gap.Statement.{statement}
 use Rattle.table_answers.proofs.observe_to_gap.Tie as tie
 
-enough-t : (s : tie.Start) → s .args .rules ≤ length (s .args .t .now)
-enough-t s = omega (arith, s .pre .3, s .pre .4)
+abbrev Inv-loop : tie.InvT-loop
+Inv-loop words counts used index t c table₀ notes₀ tops n contexts k₀ table notes k =
+    let x = storeOf words counts used in
+    let w = answersIn used words in
+    (k ≤ length t) ×
+    (length table ≡ length table₀) ×
+    Observed x w t k c (length c) table ×
+    KnownRows x w t (length t) c (length c) table ×
+    NeededFor x index used c notes n tops ×
+    (length notes ≡ length notes₀)
 
-enough-c : (s : tie.Start) → s .args .contexts ≤ length (s .args .c .now)
-enough-c s = omega (arith, s .pre .6, s .pre .7)
+abbrev μ-loop : tie.MeasureT-loop
+μ-loop words counts used index t c table₀ notes₀ tops n contexts k₀ table notes k = length t - k
 
-slice-aggregate-gap-some : tie.Need-slice-aggregate-gap-some
-slice-aggregate-gap-some c = let s = c .before .before .before .before .before .before .before .before in sym (length-take-le (s .args .rules) (s .args .t .now) (enough-t s))
+-- the function's start; the needed rows listed; the loop's head; a transition's column filled; its answers read
+abbrev Start : Type 0
+Start = tie.Start Inv-loop μ-loop
 
-slice-aggregate-gap-some-2 : tie.Need-slice-aggregate-gap-some-2
-slice-aggregate-gap-some-2 c = let s = c .before .before .before .before .before .before .before .before .before in sym (length-take-le (s .args .contexts) (s .args .c .now) (enough-c s))
+abbrev Listed : Type 0
+Listed = tie.After-needed-rows Inv-loop μ-loop
 
-gap-some-requires : tie.Need-gap-some-requires
-gap-some-requires c κs =
-    let s = c .before .before .before .before .before .before .before .before .before .before in
-    let e = length-take-le (s .args .rules) (s .args .t .now) (enough-t s) in
-    let d = length-take-le (s .args .contexts) (s .args .c .now) (enough-c s) in
-    (s .pre .0, s .pre .1, used-cut (s .args .t .now) (s .args .rules) (enough-t s) (s .pre .2), contexts-cut (s .args .c .now) (s .args .contexts) (enough-c s) (storeOf (s .args .words .now) (s .args .counts .now) (s .args .used)) (s .pre .5), omega (arith, d, s .pre .7), known-cut (storeOf (s .args .words .now) (s .args .counts .now) (s .args .used)) (answersIn (s .args .used) (s .args .words .now)) (s .args .t .now) (s .args .rules) (s .args .c .now) (s .args .contexts) (enough-t s) (enough-c s) (s .args .table .now) (s .pre .8), omega (arith, c .before .before .before .if1 .taken))
+abbrev Head : Type 0
+Head = tie.At-loop Inv-loop μ-loop
 
-same-length : tie.Need-same-length
+abbrev Filled : Type 0
+Filled = tie.After-fill-column Inv-loop μ-loop
+
+abbrev Read : Type 0
+Read = tie.After-read-column Inv-loop μ-loop
+
+abbrev start : Listed → Start
+start c = c .before .before .before .before .before .before .before .before .before .before
+
+abbrev listed : Head → Listed
+listed c = c .before .before .before .before
+
+abbrev begun : Head → Start
+begun c = start (listed c)
+
+abbrev head : Filled → Head
+head c = c .before .before .before .before .before .before .before
+
+abbrev filled : Read → Filled
+filled c = c .before .before .before .before .before .before
+
+-- the positions of C's members
+module _ (c : Listed) where
+  abbrev members : List ℕ
+  members = start c .args .c .now
+
+  abbrev tops : List ℕ
+  tops = c .needed-rows .last .1 .1 .1 .1 .1 .1 .0
+
+  -- the array has room for them
+  enough : length members ≤ length tops
+  enough = let e : length tops ≡ mostContexts = c .needed-rows .kept .1 .1 .1 .1 .1 .1 .0 in omega (arith, start c .pre .4)
+
+  -- those lent are as many as C has members
+  lent : length (take (length members) tops) ≡ length members
+  lent = length-take-le (length members) tops enough
+
+-- the column filled: C's positions lie in it and have used rows there, and the answers of those are the transition's
+module _ (c : Filled) where
+  abbrev s : Start
+  s = begun (head c)
+
+  abbrev ws : List ℕ
+  ws = s .args .words .now
+
+  abbrev ns : List ℕ
+  ns = s .args .counts .now
+
+  abbrev u : ℕ
+  u = s .args .used
+
+  abbrev x : Store
+  x = storeOf ws ns u
+
+  abbrev w : List ℕ
+  w = answersIn u ws
+
+  abbrev ts : List ℕ
+  ts = s .args .t .now
+
+  abbrev cs : List ℕ
+  cs = s .args .c .now
+
+  abbrev k : ℕ
+  k = head c .loop .k
+
+  abbrev notes : List ℕ
+  notes = c .fill-column .last .1 .1 .1 .1 .1 .1 .0
+
+  abbrev places : List ℕ
+  places = take (length cs) (tops (listed (head c)))
+
+  -- the turn is of a transition
+  taken : k < length ts
+  taken = c .before .before .before .before .before .before .loop-test .taken
+
+  low : AllBelow (roomIn notes) places
+  low = tops-below ws ns u (head c .loop .inv .4) (c .fill-column .ensures .1) (c .fill-column .ensures .0) (enough (listed (head c)))
+
+  used : UsedAt u (roomIn notes) notes places
+  used = tops-fill ws ns u (head c .loop .inv .4) (c .fill-column .ensures .1) (c .fill-column .ensures .0) (enough (listed (head c)))
+
+  -- the transition's answers
+  abbrev right : List ℕ
+  right = answersOf x w (take (length cs) cs) (getD ts k 0)
+
+  answers : columnAnswers ws (roomIn notes) notes places ≡ right
+  answers = row-answers ws ns u (head c .loop .inv .4) (c .fill-column .ensures .1) (c .fill-column .ensures .0) (enough (listed (head c)))
+
+  -- the needed rows stay listed
+  kept : NeededFor x (s .args .index .now) u cs notes (listed (head c) .needed-rows .result) (tops (listed (head c)))
+  kept = next ws ns u (head c .loop .inv .4) (c .fill-column .ensures .1) (c .fill-column .ensures .0) (enough (listed (head c)))
+
+-- the answers read: the transition has its row of them in the table, and rows without an unknown answer are still right
+module _ (c : Read) where
+  abbrev f : Filled
+  f = filled c
+
+  abbrev old : List ℕ
+  old = head f .loop .table
+
+  abbrev table : List ℕ
+  table = c .read-column .last .1 .1 .1 .1 .1 .0
+
+  row : table ≡ sets old (mostContexts * k f) (right f)
+  row = c .read-column .ensures ∙ ap (sets old (mostContexts * k f)) (answers f)
+
+  -- a row has an answer for every member of C
+  abbrev all : length (cs f) ≤ length (cs f)
+  all = omega arith
+
+  observed : Observed (x f) (w f) (ts f) (k f + 1) (cs f) (length (cs f)) table
+  observed =
+      let v = head f .loop .inv in
+      let z = v .3 .sized in
+      let o = observed-more (v .2) (omega (arith, taken f, z .few-t)) (omega (arith, taken f, z .long)) all in
+      subst (Observed (x f) (w f) (ts f) (k f + 1) (cs f) (length (cs f))) (sym row) o
+
+  known : KnownRows (x f) (w f) (ts f) (length (ts f)) (cs f) (length (cs f)) table
+  known =
+      let o = known-more (head f .loop .inv .3) (k f) (taken f) all in
+      subst (KnownRows (x f) (w f) (ts f) (length (ts f)) (cs f) (length (cs f))) (sym row) o
+
+slice-aggregate-needed-rows : tie.Need-slice-aggregate-needed-rows Inv-loop μ-loop
+slice-aggregate-needed-rows c = search needs
+
+needed-rows-requires : tie.Need-needed-rows-requires Inv-loop μ-loop
+needed-rows-requires c κs = let s = c .before .before .before .before .before .before .before .before .before in (s .pre .0, s .pre .3, s .pre .6, s .pre .4)
+
+loop-holds : tie.Need-loop-holds Inv-loop μ-loop
+loop-holds c =
+    let d : Listed = c .before .before .before in
+    let s = start d in
+    let x = storeOf (s .args .words .now) (s .args .counts .now) (s .args .used) in
+    let w = answersIn (s .args .used) (s .args .words .now) in
+    let e = d .needed-rows .ensures in (
+      omega arith,
+      refl,
+      observed-none x w (s .args .t .now) (s .args .c .now) (length (s .args .c .now)) (s .args .table .now) (s .pre .4),
+      s .pre .5,
+      needed-for (s .args .notes .now) (d .needed-rows .kept .1 .1 .1 .1 .1 .0) (s .pre .6) (e .0) (e .1) (e .2),
+      refl,
+    )
+
+has-answer-requires : tie.Need-has-answer-requires Inv-loop μ-loop
+has-answer-requires c κs =
+    let h : Head = c .before .before in
+    let z = h .loop .inv .3 .sized in
+    let more = c .before .loop-test .taken in
+    record { long = omega (arith, z .long); few-t = omega (arith, z .few-t); few-c = z .few-c }
+
+add-k : tie.Need-add-k Inv-loop μ-loop
+add-k c = search needs
+
+loop-less : tie.Need-loop-less Inv-loop μ-loop
+loop-less c = search needs
+
+loop-again : tie.Need-loop-again Inv-loop μ-loop
+loop-again c =
+    let l = c .before .before .before .before .loop in
+    let more = c .before .before .before .loop-test .taken in
+    let h = c .before .has-answer in
+    let e : h .result ≡ false = not-true _ (c .if1 .taken) in
+    (omega (arith, more), l .inv .1, observed-known (l .inv .3) (l .k) more (sym (h .ensures) ∙ e) (l .inv .2), l .inv .3, l .inv .4, l .inv .5)
+
+mul-t17 : tie.Need-mul-t17 Inv-loop μ-loop
+mul-t17 c = search needs
+
+shared-slice-read-t24 : tie.Need-shared-slice-read-t24 Inv-loop μ-loop
+shared-slice-read-t24 c = search needs
+
+fill-column-requires : tie.Need-fill-column-requires Inv-loop μ-loop
+fill-column-requires c κs =
+    let d : tie.In-loop Inv-loop μ-loop = c .before .before .before .before .before in
+    let s = begun (d .before) in
+    let l = d .before .loop in
+    let h = l .inv .4 in
+    (s .pre .0, h .needed, h .runs, h .fits, s .pre .2 (l .k) (d .loop-test .taken))
+
+array-share-prefix-tops : tie.Need-array-share-prefix-tops Inv-loop μ-loop
+array-share-prefix-tops c = enough (listed (head (c .before .before)))
+
+slice-aggregate-read-column : tie.Need-slice-aggregate-read-column Inv-loop μ-loop
+slice-aggregate-read-column c = sym (lent (listed (head (c .before .before .before))))
+
+read-column-requires : tie.Need-read-column-requires Inv-loop μ-loop
+read-column-requires c κs =
+    let f : Filled = c .before .before .before .before .before in
+    let h = head f in
+    let p = begun h .pre in
+    let v = h .loop .inv in
+    (p .0 .finding .room, p .1, low f, used f, omega (arith, lent (listed h), v .1, p .4, taken f, v .3 .sized .long))
+
+has-answer-requires-2 : tie.Need-has-answer-requires-2 Inv-loop μ-loop
+has-answer-requires-2 c κs =
+    let r : Read = c .before .before .before in
+    let z = head (filled r) .loop .inv .3 .sized in
+    let more = taken (filled r) in
+    let e = r .read-column .kept .1 .1 .1 .1 .1 .0 in
+    record { long = omega (arith, z .long, e); few-t = omega (arith, z .few-t); few-c = z .few-c }
+
+add-result : tie.Need-add-result Inv-loop μ-loop
+add-result c = search needs
+
+same-length : tie.Need-same-length Inv-loop μ-loop
 same-length c = search needs
 
-returns : tie.Need-returns
-returns c = let s = c .before .before .before .before .before .before .before .before .before .before .before .before .before in gap-whole (storeOf (s .args .words .now) (s .args .counts .now) (s .args .used)) (answersIn (s .args .used) (s .args .words .now)) (s .args .t .now) (s .args .rules) (s .args .c .now) (s .args .contexts) (enough-t s) (enough-c s) _ (c .before .before .gap-some .ensures)
-
-slice-aggregate-gap-with : tie.Need-slice-aggregate-gap-with
-slice-aggregate-gap-with c = let s = c .before .before .before .before .before .before .before .before in sym (length-take-le (s .args .rules) (s .args .t .now) (enough-t s))
-
-slice-aggregate-gap-with-2 : tie.Need-slice-aggregate-gap-with-2
-slice-aggregate-gap-with-2 c = let s = c .before .before .before .before .before .before .before .before .before in sym (length-take-le (s .args .contexts) (s .args .c .now) (enough-c s))
-
-slice-aggregate-gap-with-3 : tie.Need-slice-aggregate-gap-with-3
-slice-aggregate-gap-with-3 c = search needs
-
-gap-with-requires : tie.Need-gap-with-requires
-gap-with-requires c κs =
-    let s = c .before .before .before .before .before .before .before .before .before .before .before in
-    let e = length-take-le (s .args .rules) (s .args .t .now) (enough-t s) in
-    let d = length-take-le (s .args .contexts) (s .args .c .now) (enough-c s) in
-    (s .pre .0, s .pre .1, used-cut (s .args .t .now) (s .args .rules) (enough-t s) (s .pre .2), contexts-cut (s .args .c .now) (s .args .contexts) (enough-c s) (storeOf (s .args .words .now) (s .args .counts .now) (s .args .used)) (s .pre .5), omega (arith, d, s .pre .7), known-cut (storeOf (s .args .words .now) (s .args .counts .now) (s .args .used)) (answersIn (s .args .used) (s .args .words .now)) (s .args .t .now) (s .args .rules) (s .args .c .now) (s .args .contexts) (enough-t s) (enough-c s) (s .args .table .now) (s .pre .8), s .pre .0 .finding .few)
-
-same-length-2 : tie.Need-same-length-2
+same-length-2 : tie.Need-same-length-2 Inv-loop μ-loop
 same-length-2 c = search needs
 
-returns-2 : tie.Need-returns-2
-returns-2 c = let s = c .before .before .before .before .before .before .before .before .before .before .before .before .before .before .before in gap-whole (storeOf (s .args .words .now) (s .args .counts .now) (s .args .used)) (answersIn (s .args .used) (s .args .words .now)) (s .args .t .now) (s .args .rules) (s .args .c .now) (s .args .contexts) (enough-t s) (enough-c s) _ (c .before .before .before .gap-with .ensures)
+returns : tie.Need-returns Inv-loop μ-loop
+returns c =
+    let r : Read = c .before .before .before .before .before in
+    let gap = sym (c .before .has-answer2 .ensures) ∙ c .if2 .taken in
+    record { few = omega (arith, taken (filled r)); observed = observed r; whole = λ y. absurd (gap-at-last _ _ _ gap y) }
+
+add-k-2 : tie.Need-add-k-2 Inv-loop μ-loop
+add-k-2 c = search needs
+
+loop-less-2 : tie.Need-loop-less-2 Inv-loop μ-loop
+loop-less-2 c = search needs
+
+loop-again-2 : tie.Need-loop-again-2 Inv-loop μ-loop
+loop-again-2 c =
+    let r : Read = c .before .before .before .before .before in
+    let f = filled r in
+    let v = head f .loop .inv in
+    (omega (arith, taken f), r .read-column .kept .1 .1 .1 .1 .1 .0 ∙ v .1, observed r, known r, kept f, f .fill-column .ensures .1 .size ∙ v .5)
+
+same-length-3 : tie.Need-same-length-3 Inv-loop μ-loop
+same-length-3 c = search needs
+
+same-length-4 : tie.Need-same-length-4 Inv-loop μ-loop
+same-length-4 c = search needs
+
+returns-2 : tie.Need-returns-2 Inv-loop μ-loop
+returns-2 c =
+    let h : Head = c .before in
+    let l = h .loop in
+    let e : l .k ≡ length (begun h .args .t .now) = omega (arith, l .inv .0) in
+    record { few = l .inv .0; observed = l .inv .2; whole = λ g. e }
 
 pub observe-to-gap-spec : {M : Type 1} → statement M
 observe-to-gap-spec =
     tie.close
     (tie.spec
-    slice-aggregate-gap-some
-    slice-aggregate-gap-some-2
-    gap-some-requires
+    Inv-loop
+    μ-loop
+    slice-aggregate-needed-rows
+    needed-rows-requires
+    loop-holds
+    has-answer-requires
+    add-k
+    loop-less
+    loop-again
+    mul-t17
+    shared-slice-read-t24
+    fill-column-requires
+    array-share-prefix-tops
+    slice-aggregate-read-column
+    read-column-requires
+    has-answer-requires-2
+    add-result
     same-length
-    returns
-    slice-aggregate-gap-with
-    slice-aggregate-gap-with-2
-    slice-aggregate-gap-with-3
-    gap-with-requires
     same-length-2
+    returns
+    add-k-2
+    loop-less-2
+    loop-again-2
+    same-length-3
+    same-length-4
     returns-2)

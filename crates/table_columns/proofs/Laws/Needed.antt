@@ -12,7 +12,8 @@ use Rattle.bank.specs.Index.{holeOf}
 use Rattle.bank.specs.Ready.{Ready}
 use Rattle.bank.proofs.Laws.Trees.{by-equal}
 use Rattle.table_columns.specs.Columns.{holeKid}
-use Rattle.table_columns.specs.Notes.{roomIn, rowNote, belowNote, endNote, markNote, SameNotes, HoledMarks, KidsMarked, NeededRows, Seated, AllSeated, neededMore, Runs, Tops, TopsRead, NeededFor}
+use Rattle.bank.specs.Notes.{roomIn}
+use Rattle.table_columns.specs.Notes.{rowNote, belowNote, endNote, markNote, SameNotes, HoledMarks, KidsMarked, NeededRows, Seated, AllSeated, neededMore, Runs, Tops, TopsRead, NeededFor}
 use Rattle.table_columns.proofs.Laws.Frames.{kid-early}
 
 -- the marked rows up to row i at positions up to n; the later marks as they were

@@ -5,7 +5,8 @@ use Prim.Native.Nat.{_-_, _≤_}
 use native.Mathlib.Omega.{arith}
 use borrow.Author.Needs.{needs}
 use lib.ListN.{length, length-set}
-use Rattle.table_columns.specs.Notes.{roomIn, Cleared}
+use Rattle.bank.specs.Notes.{roomIn}
+use Rattle.table_columns.specs.Notes.{Cleared}
 use Rattle.table_columns.proofs.Laws.Marks.{cleared-none, cleared-more, cleared-end}
 use Rattle.table_columns.proofs.clear_run.Statement.{statement}
 use Rattle.table_columns.proofs.clear_run.Tie as tie

@@ -8,7 +8,8 @@ use borrow.Author.Needs.{needs}
 use lib.ListN.{set, length-set}
 use Rattle.model.specs.Store.{Store}
 use Rattle.model.specs.Entry.{storeOf}
-use Rattle.table_columns.specs.Notes.{roomIn, Runs, SameNotes, NeededRows, Column, filledNote}
+use Rattle.bank.specs.Notes.{roomIn}
+use Rattle.table_columns.specs.Notes.{Runs, SameNotes, NeededRows, Column, filledNote}
 use Rattle.table_columns.proofs.Laws.Needed.{needed-kept, runs-kept}
 use Rattle.table_columns.proofs.Laws.Columns.{column-start, same-first, first-filled, same-both}
 use Rattle.table_columns.proofs.fill_column.Statement.{statement}

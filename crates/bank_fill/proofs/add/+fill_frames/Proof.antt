@@ -35,7 +35,7 @@ below t = and 3 fill-frames-kinds.ps (falls 3 fill-frames-kinds.ps _<_ μ t) fil
 abbrev claims : ℕ → lts.Claims
 claims t = (kid-of-reads.Asked, kid-of-reads.Learnt, above-reads.Asked, above-reads.Learnt, below t, fill-frames.Post)
 
--- the function's start; the child read; the frames below filled
+-- the function's start; the child read; the frames below filled, and the row that they gave
 abbrev Start : ℕ → Type 0
 Start t = lts.Start (claims t) (at t) fill-frames.Post
 
@@ -45,28 +45,38 @@ Read t = lts.After-kid-of (claims t) (at t) fill-frames.Post
 abbrev Filled : ℕ → Type 0
 Filled t = lts.After-fill-frames (claims t) (at t) fill-frames.Post
 
+abbrev Grew : ℕ → Type 0
+Grew t = lts.After-grown (claims t) (at t) fill-frames.Post
+
 abbrev start : (t : ℕ) → Read t → Start t
 start t c = c .before .before .before .before .before .before .before
 
+abbrev read : (t : ℕ) → Filled t → Read t
+read t c = c .before .before .before .before .before
+
+abbrev filled : (t : ℕ) → Grew t → Filled t
+filled t c = c .before .before .before .before .before .before
+
 -- the frames as they are asked for, under any counts and under some
 abbrev AskedBy : (t : ℕ) → Read t → List ℕ → Type 0
-AskedBy t c ns = FramesAsked (start t c .args .words .now) ns (start t c .args .used) (start t c .args .index .now) (start t c .args .down .now) (start t c .args .row .0) (start t c .args .with .0)
+AskedBy t c ns = let a = start t c .args in FramesAsked (a .words .now) ns (a .used) (a .index .now) (a .down .now) (a .row .0) (a .with .0)
 
 abbrev asked : (t : ℕ) (c : Read t) → AskedBy t c (start t c .pre .1 .counts)
 asked t c = start t c .pre .1 .holds
 
--- how the frames below ended
-abbrev read : (t : ℕ) → Filled t → Read t
-read t c = c .before .before .before .before .before
-
 abbrev store : (t : ℕ) → Read t → List ℕ → Store
 store t c ns = storeOf (start t c .args .words .now) ns (start t c .args .used)
 
+-- how the frames below ended
 inner : (t : ℕ) (c : Filled t) (ns : List ℕ) → AskedBy t (read t c) ns →
-    Comes (start t (read t c) .args .words .now) ns (start t (read t c) .args .used)
-    (fill (store t (read t c) ns) (pathOf (start t (read t c) .args .down .now) (store t (read t c) ns) (read t c .kid-of .result)) (start t (read t c) .args .with .0))
+    let d = read t c in
+    let a = start t d .args in
+    Comes (a .words .now) ns (a .used)
+    (fill (store t d ns) (pathOf (a .down .now) (store t d ns) (d .kid-of .result)) (a .with .0))
     (c .fill-frames .result) (c .fill-frames .last .0) (c .fill-frames .last .1 .1 .1 .1 .1 .0)
-inner t c ns q = record { came = c .fill-frames .ensures ns (down-asked q (read t c .kid-of .result) (read t c .kid-of .ensures) (c .before .before .before .if1 .left)) }
+inner t c ns q =
+    let k = read t c .kid-of in
+    record { came = c .fill-frames .ensures ns (down-asked q (k .result) (k .ensures) (c .before .before .before .if1 .left)) }
 
 -- the child is one of the table's rows
 early : (t : ℕ) (c : Read t) → c .kid-of .result < mostRows
@@ -97,7 +107,10 @@ need-mul-if1 : (t : ℕ) → lts.Need-mul-if1 (claims t) (at t) fill-frames.Post
 need-mul-if1 t c = omega (arith, early t c)
 
 need-shared-slice-read-if1 : (t : ℕ) → lts.Need-shared-slice-read-if1 (claims t) (at t) fill-frames.Post
-need-shared-slice-read-if1 t c = let d : Read t = c .before in let q = asked t d in omega (arith, down-falls q (d .kid-of .result) (d .kid-of .ensures), q .row-used, q .places-long)
+need-shared-slice-read-if1 t c =
+    let d : Read t = c .before in
+    let q = asked t d in
+    omega (arith, down-falls q (d .kid-of .result) (d .kid-of .ensures), q .row-used, q .places-long)
 
 need-above-requires : (t : ℕ) → lts.Need-above-requires (claims t) (at t) fill-frames.Post
 need-above-requires t c κs = let q = asked t (c .before .before .before .before) in (lent-of (q .ready), q .row-used, down-four q, q .with-used)
@@ -112,7 +125,10 @@ need-returns : (t : ℕ) → lts.Need-returns (claims t) (at t) fill-frames.Post
 need-returns t c =
     let d : Read t = c .before .before .before .before .before .before .before .before .before in
     let s : Start t = start t d in
-    λ ns q. up-comes q (d .kid-of .result) (d .kid-of .ensures) (fill-none (q .ready) (s .args .down .now) (d .kid-of .result) (s .args .with .0) (c .before .before .before .before .before .before .before .if1 .taken)) (c .before .before .before .before .above .ensures) .came
+    let k = d .kid-of .result in
+    let innermost = c .before .before .before .before .before .before .before .if1 .taken in
+    let above = c .before .before .before .before .above .ensures in
+    λ ns q. up-comes q k (d .kid-of .ensures) (fill-none (q .ready) (s .args .down .now) k (s .args .with .0) innermost) above .came
 
 need-cast-t16 : (t : ℕ) → lts.Need-cast-t16 (claims t) (at t) fill-frames.Post
 need-cast-t16 t c = omega (arith, early t (c .before .before))
@@ -130,10 +146,11 @@ need-enum-known-grown t c = search needs
 
 need-above-requires-2 : (t : ℕ) → lts.Need-above-requires-2 (claims t) (at t) fill-frames.Post
 need-above-requires-2 t c κs =
-    let e : Filled t = c .before .before .before .before .before .before .before .before .before in
+    let g : Grew t = c .before .before .before in
+    let e : Filled t = filled t g in
     let d : Read t = read t e in
     let q = asked t d in
-    let i = comes-as (c .before .before .before .grown .given .1) (inner t e (start t d .pre .1 .counts) q) in
+    let i = comes-as (g .grown .given .1) (inner t e (start t d .pre .1 .counts) q) in
     let k = d .kid-of .ensures in
     (up-lent q (d .kid-of .result) k i, up-row q (d .kid-of .result) k i, down-four q, up-kid q (d .kid-of .result) k i)
 
@@ -148,9 +165,11 @@ need-same-length-4 t c = search needs
 
 need-returns-2 : (t : ℕ) → lts.Need-returns-2 (claims t) (at t) fill-frames.Post
 need-returns-2 t c =
-    let e : Filled t = c .before .before .before .before .before .before .before .before .before .before .before .before .before .before in
+    let g : Grew t = c .before .before .before .before .before .before .before .before in
+    let e : Filled t = filled t g in
     let d : Read t = read t e in
-    λ ns q. up-comes q (d .kid-of .result) (d .kid-of .ensures) (comes-as (c .before .before .before .before .before .before .before .before .grown .given .1) (inner t e ns q)) (c .before .before .before .before .above2 .ensures) .came
+    let above = c .before .before .before .before .above2 .ensures in
+    λ ns q. up-comes q (d .kid-of .result) (d .kid-of .ensures) (comes-as (g .grown .given .1) (inner t e ns q)) above .came
 
 need-same-length-5 : (t : ℕ) → lts.Need-same-length-5 (claims t) (at t) fill-frames.Post
 need-same-length-5 t c = search needs

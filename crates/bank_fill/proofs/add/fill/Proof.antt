@@ -5,10 +5,21 @@ use Rattle.bank_fill.proofs.Laws.Filling.{fill-none}
 use Rattle.bank_fill.proofs.add.fill.Statement.{statement}
 use Rattle.bank_fill.proofs.add.fill.Tie as tie
 
-abbrev start : tie.Else1 → tie.Start
+-- the row's entry names a place; its frames filled
+abbrev Named : Type 0
+Named = tie.Else1
+
+abbrev Filled : Type 0
+Filled = tie.After-fill-frames
+
+abbrev start : Named → tie.Start
 start c = c .before .before .before .before .before .before .before
 
-asked : (c : tie.Else1) → FramesAsked (start c .args .words .now) (start c .args .counts .now) (start c .args .used) (start c .args .index .now) (start c .args .down .now) (start c .args .row .0) (start c .args .with .0)
+abbrev named : Filled → Named
+named c = c .before .before .before
+
+-- the frames as they are asked for
+asked : (c : Named) → let a = start c .args in FramesAsked (a .words .now) (a .counts .now) (a .used) (a .index .now) (a .down .now) (a .row .0) (a .with .0)
 asked c = let p = start c .pre in record { ready = p .0; places-long = p .1; row-used = p .2; with-used = p .3; named = c .if1 .left; fits = p .4 }
 
 cast-i : tie.Need-cast-i
@@ -26,7 +37,7 @@ returns c =
     fill-none (s .pre .0) (s .args .down .now) (s .args .row .0) (s .args .with .0) (c .if1 .taken) .came
 
 fill-frames-requires : tie.Need-fill-frames-requires
-fill-frames-requires c κs = record { counts = c .before .before .before .before .before .before .before .before .before .args .counts .now; holds = asked (c .before .before) }
+fill-frames-requires c κs = let d : Named = c .before .before in record { counts = start d .args .counts .now; holds = asked d }
 
 same-length : tie.Need-same-length
 same-length c = search needs
@@ -35,7 +46,7 @@ same-length-2 : tie.Need-same-length-2
 same-length-2 c = search needs
 
 returns-2 : tie.Need-returns-2
-returns-2 c = c .before .before .before .before .fill-frames .ensures (c .before .before .before .before .before .before .before .before .before .before .before .before .before .before .args .counts .now) (asked (c .before .before .before .before .before .before .before))
+returns-2 c = let f : Filled = c .before .before .before .before in f .fill-frames .ensures (start (named f) .args .counts .now) (asked (named f))
 
 pub fill-spec : {M : Type 1} → statement M
 fill-spec =

@@ -19,9 +19,9 @@ slice-aggregate-call-in-3 c = search needs
 
 call-in-requires : tie.Need-call-in-requires
 call-in-requires c κs =
-    let s = c .before .before .before .before .before .before .before .before .before in
+    let s = c .before .before .before .before .before .before .before .before in
     let f = listsFit-facts (s .args .lists) (s .pre .1) in
-    (s .pre .0, s .pre .1, s .pre .2, room-for mostRows (words-few (s .args .words .now) (s .pre .0)) (omega arith) (omega arith) refl (omega (arith, f .rules)) refl refl, omega (arith, f .rules))
+    (s .pre .0, s .pre .1, s .pre .2, room-for mostRows (words-few (s .args .words .now) (s .pre .0)) (omega arith) (omega arith) refl (omega (arith, f .rules)) refl, omega (arith, f .rules))
 
 same-length : tie.Need-same-length
 same-length c = search needs

@@ -5,7 +5,8 @@ use Prim.Native.Nat.{ℕ, _+_, _*_, _-_, _≤_, _<_}
 use native.Mathlib.Omega.{arith}
 use borrow.Author.Needs.{needs}
 use lib.ListN.{length, set, length-set}
-use Rattle.table_columns.specs.Notes.{roomIn, Runs, SameNotes}
+use Rattle.bank.specs.Notes.{roomIn}
+use Rattle.table_columns.specs.Notes.{Runs, SameNotes}
 use Rattle.table_columns.proofs.Laws.Needed.{Spine, runs-none, spine-none, runs-more, spine-more, same-more}
 use Rattle.table_columns.proofs.needed.find_runs.Statement.{statement}
 use Rattle.table_columns.proofs.needed.find_runs.Tie as tie

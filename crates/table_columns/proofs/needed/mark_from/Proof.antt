@@ -9,7 +9,8 @@ use Rattle.model.specs.Entry.{storeOf}
 use Rattle.bank.specs.Index.{holeOf}
 use Rattle.bank.proofs.Laws.Trees.{by-equal}
 use Rattle.table_columns.specs.Columns.{holeKid}
-use Rattle.table_columns.specs.Notes.{roomIn, markNote, HoledMarks, StayMarked}
+use Rattle.bank.specs.Notes.{roomIn}
+use Rattle.table_columns.specs.Notes.{markNote, HoledMarks, StayMarked}
 use Rattle.table_columns.proofs.Laws.Marks.{mark-own, mark-stays, OpenMarks, open-start, open-none, open-marked, open-more, holed-more, kid-holed}
 use Rattle.table_columns.proofs.needed.mark_from.Statement.{statement}
 use Rattle.table_columns.proofs.needed.mark_from.Tie as tie

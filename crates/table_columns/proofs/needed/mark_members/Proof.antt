@@ -7,7 +7,8 @@ use borrow.Author.Needs.{needs}
 use lib.ListN.{length, getD}
 use Rattle.model.specs.Entry.{storeOf}
 use Rattle.bank.proofs.Laws.Trees.{by-equal}
-use Rattle.table_columns.specs.Notes.{roomIn, markNote, MembersMarked, HoledMarks, KidsMarked, StayMarked}
+use Rattle.bank.specs.Notes.{roomIn}
+use Rattle.table_columns.specs.Notes.{markNote, MembersMarked, HoledMarks, KidsMarked, StayMarked}
 use Rattle.table_columns.proofs.Laws.Marks.{members-used, members-holed}
 use Rattle.table_columns.proofs.needed.mark_members.Statement.{statement}
 use Rattle.table_columns.proofs.needed.mark_members.Tie as tie
