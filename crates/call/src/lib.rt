@@ -20,6 +20,8 @@ use model::limits::MOST_RULES;
 use model::limits::MOST_STATES;
 use model::limits::MOST_SYMBOLS;
 
+pub mod ladder; // ladder.rt: how long the arrays are that a call works in
+
 // What a call returns, and the lists that it leaves.
 pub struct Done {
     pub seen: Seen,

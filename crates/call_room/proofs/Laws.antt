@@ -1,3 +1,1 @@
--- The laws, in reading order: a file uses those above it.
 pub mod First
-pub mod Reads

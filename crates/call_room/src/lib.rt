@@ -1,4 +1,4 @@
-// call: the calls on a run, by value, each in as much working memory as its tables need (§3).
+// call: offers, answers and acceptance, by value, each in as much working memory as its tables need (§3).
 // Words by reference, lists in and out. A refusal returns its number and leaves both as they were.
 ghost use mathlib.Core.Path.{_≡_};
 ghost use Rattle.model.specs.Calls.{answers, offers, accept as acceptCall};
@@ -8,8 +8,6 @@ use call::Done;
 use call_lent::Said;
 use model::Lists;
 
-pub mod ladder; // ladder.rt: how long the arrays are that a call works in
-pub mod reads; // reads.rt: looking and emitting, and the room that they work in
 mod tried; // tried.rt: the room that an answer or an offer works in
 
 // An offer: 18, 30, its own lines, then the step.
@@ -40,7 +38,7 @@ fn accepting(lists: Lists) -> Lists
 pub fn accept(words: &mut [u32], lists: Lists) -> Done
     ensures { λ r. ⌜ CallAs (now (words .entry)) lists acceptCall r (now (words .exit)) ⌝ }
 {
-    let seen = reads::look(words, lists);
+    let seen = call_read::look(words, lists);
     if seen.number != 0 {
         return Done {
             seen: seen,

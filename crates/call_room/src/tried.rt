@@ -4,27 +4,20 @@ ghost use mathlib.Core.Path.{_≡_};
 ghost use mathlib.Core.Bool.{true};
 ghost use Prim.Native.Nat.{_<_, _+_, _*_, _≤_};
 ghost use lib.ListN.{length};
-ghost use Rattle.call_room.specs.Ladder.{midRows, midRules, smallRows, smallRules, tinyRows, tinyRules};
+ghost use Rattle.call.specs.Ladder.{smallRows, smallRules};
 ghost use Rattle.model.specs.Limits.{rowWidth};
 ghost use Rattle.model.specs.Entry.{sizeFits, listsFit};
 ghost use Rattle.call.specs.Calls.{CallAs};
 ghost use Rattle.call_lent.specs.Said.{callOf};
 ghost use Rattle.call_room.specs.Tried.{FirstAs, moreSpareRows, spareRows};
-use crate::ladder;
-use crate::ladder::MID_ROWS;
-use crate::ladder::MID_RULES;
-use crate::ladder::SMALL_ROWS;
-use crate::ladder::SMALL_RULES;
-use crate::ladder::TINY_ROWS;
-use crate::ladder::TINY_RULES;
-use bank::index::INDEX_WIDTH;
-use bank::notes::NOTE_WIDTH;
 use call::Done;
+use call::ladder;
+use call::ladder::MID_ROWS;
+use call::ladder::MID_RULES;
+use call::ladder::TINY_ROWS;
+use call::ladder::TINY_RULES;
 use call_lent::Said;
 use model::Lists;
-use model::limits::MOST_CONTEXTS;
-use model::limits::MOST_ROWS;
-use model::limits::MOST_RULES;
 use model::limits::MOST_WORDS;
 use model::limits::ROW_WIDTH;
 
@@ -39,100 +32,6 @@ const DEEP: u16 = 4096;
 // A longer record is not tried with few rows.
 const SHORT: usize = 64;
 
-// The same in the smallest room.
-fn in_tiny(words: &mut [u32], lists: Lists, symbols: &[u8], said: Said, saved: &mut [u32]) -> Done
-    requires { ⌜ (sizeFits (now words) ≡ true)
-        × (listsFit lists ≡ true)
-        × (length (now words) ≤ rowWidth * lists .used + length (now saved))
-        × (length (now words) ≤ rowWidth * tinyRows)
-        × (lists .rules < tinyRules) ⌝ }
-    ensures { λ r. ⌜ CallAs (now (words .entry)) lists (callOf said (now (symbols .entry))) r (now (words .exit)) ⌝ }
-{
-    let mut index = [0u16; INDEX_WIDTH * TINY_ROWS];
-    let mut table = [0u8; MOST_CONTEXTS * TINY_RULES];
-    let mut notes = [0u16; NOTE_WIDTH * TINY_ROWS];
-    call_lent::call_in(
-        words,
-        lists,
-        symbols,
-        said,
-        saved,
-        &mut index,
-        &mut table,
-        &mut notes,
-    )
-}
-
-// The same in small room.
-fn in_small(words: &mut [u32], lists: Lists, symbols: &[u8], said: Said, saved: &mut [u32]) -> Done
-    requires { ⌜ (sizeFits (now words) ≡ true)
-        × (listsFit lists ≡ true)
-        × (length (now words) ≤ rowWidth * lists .used + length (now saved))
-        × (length (now words) ≤ rowWidth * smallRows)
-        × (lists .rules < smallRules) ⌝ }
-    ensures { λ r. ⌜ CallAs (now (words .entry)) lists (callOf said (now (symbols .entry))) r (now (words .exit)) ⌝ }
-{
-    let mut index = [0u16; INDEX_WIDTH * SMALL_ROWS];
-    let mut table = [0u8; MOST_CONTEXTS * SMALL_RULES];
-    let mut notes = [0u16; NOTE_WIDTH * SMALL_ROWS];
-    call_lent::call_in(
-        words,
-        lists,
-        symbols,
-        said,
-        saved,
-        &mut index,
-        &mut table,
-        &mut notes,
-    )
-}
-
-// The same in larger room.
-fn in_mid(words: &mut [u32], lists: Lists, symbols: &[u8], said: Said, saved: &mut [u32]) -> Done
-    requires { ⌜ (sizeFits (now words) ≡ true)
-        × (listsFit lists ≡ true)
-        × (length (now words) ≤ rowWidth * lists .used + length (now saved))
-        × (length (now words) ≤ rowWidth * midRows)
-        × (lists .rules < midRules) ⌝ }
-    ensures { λ r. ⌜ CallAs (now (words .entry)) lists (callOf said (now (symbols .entry))) r (now (words .exit)) ⌝ }
-{
-    let mut index = [0u16; INDEX_WIDTH * MID_ROWS];
-    let mut table = [0u8; MOST_CONTEXTS * MID_RULES];
-    let mut notes = [0u16; NOTE_WIDTH * MID_ROWS];
-    call_lent::call_in(
-        words,
-        lists,
-        symbols,
-        said,
-        saved,
-        &mut index,
-        &mut table,
-        &mut notes,
-    )
-}
-
-// The same in room for all that may be lent.
-fn in_wide(words: &mut [u32], lists: Lists, symbols: &[u8], said: Said, saved: &mut [u32]) -> Done
-    requires { ⌜ (sizeFits (now words) ≡ true)
-        × (listsFit lists ≡ true)
-        × (length (now words) ≤ rowWidth * lists .used + length (now saved)) ⌝ }
-    ensures { λ r. ⌜ CallAs (now (words .entry)) lists (callOf said (now (symbols .entry))) r (now (words .exit)) ⌝ }
-{
-    let mut index = [0u16; INDEX_WIDTH * MOST_ROWS];
-    let mut table = [0u8; MOST_CONTEXTS * (MOST_RULES + 1)];
-    let mut notes = [0u16; NOTE_WIDTH * MOST_ROWS];
-    call_lent::call_in(
-        words,
-        lists,
-        symbols,
-        said,
-        saved,
-        &mut index,
-        &mut table,
-        &mut notes,
-    )
-}
-
 // With few rows past the used ones, on a small table.
 fn with_few(words: &mut [u32], lists: Lists, symbols: &[u8], said: Said) -> Done
     requires { ⌜ (sizeFits (now words) ≡ true)
@@ -145,10 +44,10 @@ fn with_few(words: &mut [u32], lists: Lists, symbols: &[u8], said: Said) -> Done
     let mut saved = [0u32; ROW_WIDTH * SPARE_ROWS];
     if words.len() <= ROW_WIDTH * TINY_ROWS {
         if (lists.rules as usize) < TINY_RULES {
-            return in_tiny(words, lists, symbols, said, &mut saved);
+            return call_sizes::in_tiny(words, lists, symbols, said, &mut saved);
         }
     }
-    in_small(words, lists, symbols, said, &mut saved)
+    call_sizes::in_small(words, lists, symbols, said, &mut saved)
 }
 
 // With more rows past the used ones.
@@ -161,10 +60,10 @@ fn with_more(words: &mut [u32], lists: Lists, symbols: &[u8], said: Said) -> Don
     let mut saved = [0u32; ROW_WIDTH * MORE_SPARE_ROWS];
     if words.len() <= ROW_WIDTH * MID_ROWS {
         if (lists.rules as usize) < MID_RULES {
-            return in_mid(words, lists, symbols, said, &mut saved);
+            return call_sizes::in_mid(words, lists, symbols, said, &mut saved);
         }
     }
-    in_wide(words, lists, symbols, said, &mut saved)
+    call_sizes::in_wide(words, lists, symbols, said, &mut saved)
 }
 
 // With all rows.
@@ -175,10 +74,10 @@ fn with_all(words: &mut [u32], lists: Lists, symbols: &[u8], said: Said) -> Done
     let mut saved = [0u32; MOST_WORDS];
     if words.len() <= ROW_WIDTH * MID_ROWS {
         if (lists.rules as usize) < MID_RULES {
-            return in_mid(words, lists, symbols, said, &mut saved);
+            return call_sizes::in_mid(words, lists, symbols, said, &mut saved);
         }
     }
-    in_wide(words, lists, symbols, said, &mut saved)
+    call_sizes::in_wide(words, lists, symbols, said, &mut saved)
 }
 
 // Whether a call is tried with few rows: a short record, on a small table.

@@ -79,7 +79,7 @@ pub extern "C" fn kuldveth_accept(words: &mut [u32], lists: &mut Lists) -> Seen
 pub extern "C" fn kuldveth_look(words: &[u32], lists: &Lists) -> Seen
     ensures { λ r. ⌜ r ≡ callSeen (now (words .entry)) (now (lists .entry)) looks ⌝ }
 {
-    call_room::reads::look(words, *lists)
+    call_read::look(words, *lists)
 }
 
 // Emitting the list of the proposed automaton (§3.7): the count of bytes written; the bytes past them stay.
@@ -88,7 +88,7 @@ pub extern "C" fn kuldveth_emit(words: &[u32], lists: &Lists, out: &mut [u8]) ->
     ensures { λ r. ⌜ r ≡ emitSeen (now (words .entry)) (now (lists .entry)) (now (out .entry)) ⌝ }
     ensures out { λ r. ⌜ now (out .exit) ≡ emitOut (now (words .entry)) (now (lists .entry)) (now (out .entry)) ⌝ }
 {
-    call_room::reads::emit(words, *lists, out)
+    call_read::emit(words, *lists, out)
 }
 
 // Loading a list (§3.8): 21, or the count of its rules.

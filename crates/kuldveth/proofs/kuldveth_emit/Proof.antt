@@ -1,4 +1,4 @@
--- `kuldveth::kuldveth_emit` meets its contract: a walk of its MIR, by hand. The borrow of the lists is looked into, the struct is copied out, the borrow is shut, and `call_room::reads::emit`, of which the proof knows only that it meets its contract, is called with the words, the copy and the output.
+-- `kuldveth::kuldveth_emit` meets its contract: a walk of its MIR, by hand. The borrow of the lists is looked into, the struct is copied out, the borrow is shut, and `call_read::emit`, of which the proof knows only that it meets its contract, is called with the words, the copy and the output.
 -- The output's borrow goes to the callee at its own lifetime, share and ghost name, for good (`gave-slice`).
 use mathlib.Core.Path.{_≡_, refl}
 use Prim.Native.Nat.{ℕ}
@@ -46,10 +46,10 @@ use Rattle.model.proofs.Lists as T
 use Rattle.model.proofs.Lists.Laws as T′
 use Rattle.model.proofs.Emitted as E
 use Rattle.model.proofs.Emitted.Laws as E′
-use Rattle.call_room.proofs.reads.emit as core
-use Rattle.call_room.proofs.reads.emit.Symbol as core-def
-use Rattle.call_room.proofs.reads.emit.Symbol.{name as #call-room·emit}
-use Rattle.call_room.proofs.reads.emit.Met as core-thm
+use Rattle.call_read.proofs.emit as core
+use Rattle.call_read.proofs.emit.Symbol as core-def
+use Rattle.call_read.proofs.emit.Symbol.{name as #call-read·emit}
+use Rattle.call_read.proofs.emit.Met as core-thm
 use Rattle.kuldveth.proofs.kuldveth_emit.Key.{name as #kuldveth-emit}
 use Rattle.kuldveth.proofs.kuldveth_emit as emit-at
 use Rattle.kuldveth.proofs.kuldveth_emit.Statement as stated
@@ -94,7 +94,7 @@ module _ {M : Type 1} (𝓤 : URA M) (H : Heap 𝓤) (A : Atoms 𝓤) (W : Given
   abbrev Post : Val → SProp 𝓤
   Post = walkOf 𝓤 H A emit-at.ended stayed (emit-at.clauses 𝓤 H A mem run) .post (((κ, (κ′, (κ″, tt))), (q, (q′, (q″, tt))), bounds, a, vals), tt)
 
-  -- what `call_room::reads::emit`'s triple binds outside: the words' and the output's own lifetimes, shares and values, and the lists by value
+  -- what `call_read::emit`'s triple binds outside: the words' and the output's own lifetimes, shares and values, and the lists by value
   abbrev to-core : Core 𝓤 H A mem run .Ghost
   to-core = (((κ, (κ″, tt)), (q, (q″, tt)), tt, (x, (h, (z, tt))), (v ∷ [], (LL.vals T.the-type T′.the-laws h, (s ∷ [], tt)))), tt)
 
@@ -111,7 +111,7 @@ module _ {M : Type 1} (𝓤 : URA M) (H : Heap 𝓤) (A : Atoms 𝓤) (W : Given
       move ! (1 ∷ []) $ split ! $ move ! (4 ∷ 1 ∷ []) $ join ! $ move ! (1 ∷ 0 ∷ []) $ join ! $ frame ! $
       nothing ! $ move ! (2 ∷ 0 ∷ []) $ fjoin ! $ feqI ! (List Val) (vptr b o ∷ []) (vptr b o ∷ []) refl $ move ! (0 ∷ 4 ∷ 3 ∷ []) $ fjoin3 ! $ fjoin ! $ move ! (2 ∷ 0 ∷ []) $ fjoin ! $ done !
 
-  module _ (C : Calls 𝓤 H) (Λ : Loops 𝓤 H) (fm : FmC 𝓤 H (W .laws) C) (known : Triple 𝓤 (C #call-room·emit) (Core 𝓤 H A mem run)) where
+  module _ (C : Calls 𝓤 H) (Λ : Loops 𝓤 H) (fm : FmC 𝓤 H (W .laws) C) (known : Triple 𝓤 (C #call-read·emit) (Core 𝓤 H A mem run)) where
     walk : Is (ShrSlice (named 0) κ u32) x (v ∷ []) → Room u8 (length ys) → ent 𝓤 (onEntry 𝓤 H A emit-at.signature (κ, (κ′, (κ″, tt))) (q, (q′, (q″, tt))) a vals) (WpFn 𝓤 H C Λ code.function (v ∷ vptr b o ∷ s ∷ []) Post)
     walk gx room =
         qed W ((‵ (flft κ q) ⊛ ‵ (flft κ′ q′) ⊛ ‵ (flft κ″ q″) ⊛ ‵ ftrue) ∷ ‵ (owns (ShrSlice (named 0) κ u32 ∷ ShrRef (named 1) κ′ T.the-row ∷ MutSlice (named 2) κ″ u8 ∷ []) a vals) ∷ []) ∵ enter ! C Λ code.function (v ∷ vptr b o ∷ s ∷ []) _ $
@@ -131,10 +131,10 @@ module _ {M : Type 1} (𝓤 : URA M) (H : Heap 𝓤) (A : Atoms 𝓤) (W : Given
         assigns ! (addr ! (from ! (fld ! refl (hop ! (look-in ! 15 (sub ! 0 refl (whole !))) (stop !))))) (from ! (stop !)) (init ! 11 refl (tt, tt)) $
         assigns ! (agg ! (and-then ! (load ! (from ! (stop !)) (look ! 11 refl)) (and-then ! (load ! (from ! (fld ! refl (stop !))) (look-in ! 15 (sub ! 1 refl (whole !)))) (no-more !)))) (from ! (stop !)) (init ! 9 refl (tt, (tt, (record { fits = room .0 }, tt)))) $
         move ! (3 ∷ 2 ∷ []) $ join ! $ owned ! T.the-row (Is T.the-row) (LL.makes T.the-type T′.the-plain 𝓤 H A) h _ g $ move ! (0 ∷ 4 ∷ []) $ fjoin ! $ move ! (1 ∷ 6 ∷ 0 ∷ []) $ use3 W (raw (Core 𝓤 H A mem run .pre to-core)) goes $
-        -- [what call_room::reads::emit asks; the lists' token; the fractured borrow; true; res; the words'; _6 at 6; …; _4 at 10; …; _1 at 16; …]
+        -- [what call_read::emit asks; the lists' token; the fractured borrow; true; res; the words'; _6 at 6; …; _4 at 10; …; _1 at 16; …]
         calls-at ! fm (Core 𝓤 H A mem run) known to-core (and-then ! (load ! (from ! (stop !)) (look ! 16 refl)) (and-then ! (load ! (from ! (stop !)) (look ! 10 refl)) (and-then ! (load ! (from ! (stop !)) (look ! 6 refl)) (no-more !)))) (λ w.
         use1 W (later (some (λ (r : Emitted). ((‵ (flft κ q) ⊛ ‵ (flft κ″ q″) ⊛ ‵ ftrue) ⊛ ‵ (E.the-row .own r (w ∷ []))) ⊛ raw (ensured 𝓤 H A core.ended (core.clauses 𝓤 H A mem run) (κ, (κ″, tt)) (x, (h, (z, tt))) tt r)))) (id⊢ 𝓤 _) $ await ! tt $ pick ! (λ r.
-        -- what `call_room::reads::emit` ensures, at some last bytes
+        -- what `call_read::emit` ensures, at some last bytes
         split ! $ move ! (1 ∷ []) $
         use1 W (some (λ (zs : Unit {0} × (Unit {0} × (List ℕ × Unit {0}))). ‵ (lasts core.ended (κ, (κ″, tt)) (x, (h, (z, tt))) zs) ⊛ raw (fact 𝓤 (r ≡ emitSeen (x .now) h ys)) ⊛ raw (fact 𝓤 (zs .1 .1 .0 ≡ emitOut (x .now) h ys)))) (id⊢ 𝓤 _) $ pick ! (λ zs.
         split ! $ move ! (1 ∷ []) $ split ! $ heard ! (r ≡ emitSeen (x .now) h ys) (λ e₁. heard ! (zs .1 .1 .0 ≡ emitOut (x .now) h ys) (λ e₂.
@@ -148,13 +148,13 @@ module _ {M : Type 1} (𝓤 : URA M) (H : Heap 𝓤) (A : Atoms 𝓤) (W : Given
         keep ! (0 ∷ 1 ∷ 2 ∷ 4 ∷ 5 ∷ 7 ∷ 8 ∷ []) $ by ! (exits r w (zs .1 .1 .0) e₁ e₂ l)))))))))))))))))
 
 module _ {M : Type 1} (𝓤 : URA M) (H : Heap 𝓤) (A : Atoms 𝓤) (W : Given 𝓤 H A) (mem : Memory → SProp 𝓤) (run : Routine → Fun 𝓤) where
-  emit-at-walks : (C : Calls 𝓤 H) (Λ : Loops 𝓤 H) → FmC 𝓤 H (W .laws) C → Triple 𝓤 (C #call-room·emit) (Core 𝓤 H A mem run) → Walks 𝓤 H A emit-at.ended stayed (WpFn 𝓤 H C Λ code.function) (emit-at.clauses 𝓤 H A mem run)
+  emit-at-walks : (C : Calls 𝓤 H) (Λ : Loops 𝓤 H) → FmC 𝓤 H (W .laws) C → Triple 𝓤 (C #call-read·emit) (Core 𝓤 H A mem run) → Walks 𝓤 H A emit-at.ended stayed (WpFn 𝓤 H C Λ code.function) (emit-at.clauses 𝓤 H A mem run)
   emit-at-walks C Λ fm known = walked 𝓤 H A emit-at.ended stayed (emit-at.clauses 𝓤 H A mem run) (WpFn 𝓤 H C Λ code.function)
       (λ κs. (slice-vals, (ptr-vals, (slice-vals, tt)))) (λ κs. (shr-slice-tells (named 0) (κs .0) u32, (shr-tells (named 1) (κs .1 .0) T.the-row, (mut-slice-tells (named 2) (κs .1 .1 .0) u8, tt))))
       (λ κs qs bounds a g are. via 𝓤 _ (fst∗ 𝓤 _ (emp 𝓤))
       (walk 𝓤 H A W mem run (κs .0) (κs .1 .0) (κs .1 .1 .0) bounds (qs .0) (qs .1 .0) (qs .1 .1 .0) (a .0) (a .1 .0 .ptr .0) (a .1 .0 .ptr .1) (a .1 .0 .name) (a .1 .0 .now) (a .1 .1 .0 .ptr .0) (a .1 .1 .0 .ptr .1) (a .1 .1 .0 .name) (a .1 .1 .0 .now) C Λ fm known (are .0) (are .1 .1 .0 .0 .1)))
 
-emit-at-meets : {M : Type 1} (𝓤 : URA M) (H : Heap 𝓤) (A : Atoms 𝓤) → Given 𝓤 H A → (mem : Memory → SProp 𝓤) (run : Routine → Fun 𝓤) (𝓣 : Tables 𝓤 H) → Triple 𝓤 (𝓣 .C #call-room·emit) (Core 𝓤 H A mem run)
+emit-at-meets : {M : Type 1} (𝓤 : URA M) (H : Heap 𝓤) (A : Atoms 𝓤) → Given 𝓤 H A → (mem : Memory → SProp 𝓤) (run : Routine → Fun 𝓤) (𝓣 : Tables 𝓤 H) → Triple 𝓤 (𝓣 .C #call-read·emit) (Core 𝓤 H A mem run)
     → Meets 𝓤 H A emit-at.signature (WpFn 𝓤 H (𝓣 .C) (𝓣 .Λ) code.function) (emit-at.spec 𝓤 H A mem run)
 emit-at-meets 𝓤 H A W mem run 𝓣 known =
     walk-meets 𝓤 H A emit-at.ended stayed W (goes-none-slice 𝓤 H A W 3 (0 ∷ []) tt (plain (λ _. u32)) yes, (goes-none-ref 𝓤 H A W 3 (1 ∷ []) tt (plain (λ _. T.the-row)) yes, (goes-gave-slice 𝓤 H A W 3 2 tt (plain (λ _. u8)), tt))) (emit-at.clauses 𝓤 H A mem run)
@@ -166,4 +166,4 @@ kuldveth-emit-spec 𝓤 H 𝓜 𝓖 𝓡 =
     entered 𝓤 H (tripleOf 𝓤 H (𝓖 .A) emit-at.signature (emit-at.spec 𝓤 H (𝓖 .A) (𝓜 .mem) (𝓡 .run)))
     (tables 𝓤 H 𝓜 𝓡 code.env .C) (tables 𝓤 H 𝓜 𝓡 code.env .Λ) #kuldveth-emit code.function (code.unfolded 𝓤 H 𝓜 𝓡)
     (emit-at-meets 𝓤 H (𝓖 .A) (givenOf 𝓤 H 𝓜 𝓖) (𝓜 .mem) (𝓡 .run) (tablesOf 𝓤 H 𝓜 (tables 𝓤 H 𝓜 𝓡 code.env))
-    (cited 𝓤 H (Core 𝓤 H (𝓖 .A) (𝓜 .mem) (𝓡 .run)) 𝓜 𝓡 code.env #call-room·emit core-def.routine code.calls-call-room·reads·emit (core-thm.met 𝓤 H 𝓜 𝓖 𝓡)))
+    (cited 𝓤 H (Core 𝓤 H (𝓖 .A) (𝓜 .mem) (𝓡 .run)) 𝓜 𝓡 code.env #call-read·emit core-def.routine code.calls-call-read·emit (core-thm.met 𝓤 H 𝓜 𝓖 𝓡)))

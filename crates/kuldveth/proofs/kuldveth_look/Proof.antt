@@ -1,4 +1,4 @@
--- `kuldveth::kuldveth_look` meets its contract: a walk of its MIR, by hand. The borrow of the lists is looked into, the struct is copied out, the borrow is shut, and `call_room::reads::look`, of which the proof knows only that it meets its contract, is called with the words and the copy.
+-- `kuldveth::kuldveth_look` meets its contract: a walk of its MIR, by hand. The borrow of the lists is looked into, the struct is copied out, the borrow is shut, and `call_read::look`, of which the proof knows only that it meets its contract, is called with the words and the copy.
 use mathlib.Core.Path.{_≡_, refl}
 use Prim.Native.Nat.{ℕ}
 use mathlib.Core.List.{[], _∷_, List}
@@ -44,10 +44,10 @@ use Rattle.model.proofs.Lists as T
 use Rattle.model.proofs.Lists.Laws as T′
 use Rattle.model.proofs.Seen as S
 use Rattle.model.proofs.Seen.Laws as S′
-use Rattle.call_room.proofs.reads.look as core
-use Rattle.call_room.proofs.reads.look.Symbol as core-def
-use Rattle.call_room.proofs.reads.look.Symbol.{name as #call-room·look}
-use Rattle.call_room.proofs.reads.look.Met as core-thm
+use Rattle.call_read.proofs.look as core
+use Rattle.call_read.proofs.look.Symbol as core-def
+use Rattle.call_read.proofs.look.Symbol.{name as #call-read·look}
+use Rattle.call_read.proofs.look.Met as core-thm
 use Rattle.kuldveth.proofs.kuldveth_look.Key.{name as #kuldveth-look}
 use Rattle.kuldveth.proofs.kuldveth_look as look-at
 use Rattle.kuldveth.proofs.kuldveth_look.Statement as stated
@@ -101,7 +101,7 @@ module _ {M : Type 1} (𝓤 : URA M) (H : Heap 𝓤) (A : Atoms 𝓤) (W : Given
       move ! (1 ∷ []) $ split ! $ move ! (3 ∷ 1 ∷ []) $ join ! $ move ! (1 ∷ 0 ∷ []) $ join ! $ frame ! $
       feqI ! (List Val) (vptr b o ∷ []) (vptr b o ∷ []) refl $ move ! (0 ∷ 3 ∷ 2 ∷ []) $ fjoin3 ! $ nothing ! $ move ! (1 ∷ 0 ∷ []) $ fjoin ! $ move ! (2 ∷ 0 ∷ []) $ fjoin ! $ done !
 
-  module _ (C : Calls 𝓤 H) (Λ : Loops 𝓤 H) (fm : FmC 𝓤 H (W .laws) C) (known : Triple 𝓤 (C #call-room·look) (Core 𝓤 H A mem run)) where
+  module _ (C : Calls 𝓤 H) (Λ : Loops 𝓤 H) (fm : FmC 𝓤 H (W .laws) C) (known : Triple 𝓤 (C #call-read·look) (Core 𝓤 H A mem run)) where
     walk : Is (ShrSlice (named 0) κ u32) x (v ∷ []) → ent 𝓤 (onEntry 𝓤 H A look-at.signature (κ, (κ′, tt)) (q, (q′, tt)) a vals) (WpFn 𝓤 H C Λ code.function (v ∷ vptr b o ∷ []) Post)
     walk gx =
         qed W ((‵ (flft κ q) ⊛ ‵ (flft κ′ q′) ⊛ ‵ ftrue) ∷ ‵ (owns (ShrSlice (named 0) κ u32 ∷ ShrRef (named 1) κ′ T.the-row ∷ []) a vals) ∷ []) ∵ enter ! C Λ code.function (v ∷ vptr b o ∷ []) _ $
@@ -115,7 +115,7 @@ module _ {M : Type 1} (𝓤 : URA M) (H : Heap 𝓤) (A : Atoms 𝓤) (W : Given
         assigns ! (of-opd ! (load ! (from ! (hop ! (look ! 12 refl) (stop !))) (look-raw ! 0 refl))) (from ! (stop !)) (init ! 10 refl (LL.lawful T.the-type T′.the-laws 𝓤 H A W .typed h _ g .0)) $
         shuts ! tt T.the-row q″ h (LL.vals T.the-type T′.the-laws h) b o $
         move ! (3 ∷ 2 ∷ []) $ join ! $ owned ! T.the-row (Is T.the-row) (LL.makes T.the-type T′.the-plain 𝓤 H A) h _ g $ move ! (1 ∷ 6 ∷ 0 ∷ []) $ use3 W (raw (Core 𝓤 H A mem run .pre to-core)) goes $
-        -- [what call_room::reads::look asks; the lists' token; the fractured borrow; res; true; the words'; _3 at 6; …]
+        -- [what call_read::look asks; the lists' token; the fractured borrow; res; true; the words'; _3 at 6; …]
         calls-at ! fm (Core 𝓤 H A mem run) known to-core (and-then ! (load ! (from ! (stop !)) (look ! 10 refl)) (and-then ! (load ! (from ! (stop !)) (look ! 6 refl)) (no-more !))) (λ w.
         use1 W (later (some (λ (r : Seen). ((‵ (flft κ q) ⊛ ‵ ftrue) ⊛ ‵ (S.the-row .own r (w ∷ []))) ⊛ raw (ensured 𝓤 H A core.ended (core.clauses 𝓤 H A mem run) (κ, tt) (x, (h, tt)) tt r)))) (id⊢ 𝓤 _) $ await ! tt $ pick ! (λ r.
         split ! $ move ! (1 ∷ []) $ use1 W (raw (fact 𝓤 (r ≡ callSeen (x .now) h looking))) (said r) $ heard ! (r ≡ callSeen (x .now) h looking) (λ e. split ! $ move ! (1 ∷ []) $
@@ -126,13 +126,13 @@ module _ {M : Type 1} (𝓤 : URA M) (H : Heap 𝓤) (A : Atoms 𝓤) (W : Given
         keep ! (0 ∷ 1 ∷ 2 ∷ 3 ∷ 4 ∷ 6 ∷ []) $ by ! (exits r w e)))))))))))
 
 module _ {M : Type 1} (𝓤 : URA M) (H : Heap 𝓤) (A : Atoms 𝓤) (W : Given 𝓤 H A) (mem : Memory → SProp 𝓤) (run : Routine → Fun 𝓤) where
-  look-at-walks : (C : Calls 𝓤 H) (Λ : Loops 𝓤 H) → FmC 𝓤 H (W .laws) C → Triple 𝓤 (C #call-room·look) (Core 𝓤 H A mem run) → Walks 𝓤 H A look-at.ended stayed (WpFn 𝓤 H C Λ code.function) (look-at.clauses 𝓤 H A mem run)
+  look-at-walks : (C : Calls 𝓤 H) (Λ : Loops 𝓤 H) → FmC 𝓤 H (W .laws) C → Triple 𝓤 (C #call-read·look) (Core 𝓤 H A mem run) → Walks 𝓤 H A look-at.ended stayed (WpFn 𝓤 H C Λ code.function) (look-at.clauses 𝓤 H A mem run)
   look-at-walks C Λ fm known = walked 𝓤 H A look-at.ended stayed (look-at.clauses 𝓤 H A mem run) (WpFn 𝓤 H C Λ code.function)
       (λ κs. (slice-vals, (ptr-vals, tt))) (λ κs. (shr-slice-tells (named 0) (κs .0) u32, (shr-tells (named 1) (κs .1 .0) T.the-row, tt)))
       (λ κs qs bounds a g are. via 𝓤 _ (fst∗ 𝓤 _ (emp 𝓤))
       (walk 𝓤 H A W mem run (κs .0) (κs .1 .0) bounds (qs .0) (qs .1 .0) (a .0) (a .1 .0 .ptr .0) (a .1 .0 .ptr .1) (a .1 .0 .name) (a .1 .0 .now) C Λ fm known (are .0)))
 
-look-at-meets : {M : Type 1} (𝓤 : URA M) (H : Heap 𝓤) (A : Atoms 𝓤) → Given 𝓤 H A → (mem : Memory → SProp 𝓤) (run : Routine → Fun 𝓤) (𝓣 : Tables 𝓤 H) → Triple 𝓤 (𝓣 .C #call-room·look) (Core 𝓤 H A mem run)
+look-at-meets : {M : Type 1} (𝓤 : URA M) (H : Heap 𝓤) (A : Atoms 𝓤) → Given 𝓤 H A → (mem : Memory → SProp 𝓤) (run : Routine → Fun 𝓤) (𝓣 : Tables 𝓤 H) → Triple 𝓤 (𝓣 .C #call-read·look) (Core 𝓤 H A mem run)
     → Meets 𝓤 H A look-at.signature (WpFn 𝓤 H (𝓣 .C) (𝓣 .Λ) code.function) (look-at.spec 𝓤 H A mem run)
 look-at-meets 𝓤 H A W mem run 𝓣 known =
     walk-meets 𝓤 H A look-at.ended stayed W (goes-none-slice 𝓤 H A W 2 (0 ∷ []) tt (plain (λ _. u32)) yes, (goes-none-ref 𝓤 H A W 2 (1 ∷ []) tt (plain (λ _. T.the-row)) yes, tt)) (look-at.clauses 𝓤 H A mem run)
@@ -144,4 +144,4 @@ kuldveth-look-spec 𝓤 H 𝓜 𝓖 𝓡 =
     entered 𝓤 H (tripleOf 𝓤 H (𝓖 .A) look-at.signature (look-at.spec 𝓤 H (𝓖 .A) (𝓜 .mem) (𝓡 .run)))
     (tables 𝓤 H 𝓜 𝓡 code.env .C) (tables 𝓤 H 𝓜 𝓡 code.env .Λ) #kuldveth-look code.function (code.unfolded 𝓤 H 𝓜 𝓡)
     (look-at-meets 𝓤 H (𝓖 .A) (givenOf 𝓤 H 𝓜 𝓖) (𝓜 .mem) (𝓡 .run) (tablesOf 𝓤 H 𝓜 (tables 𝓤 H 𝓜 𝓡 code.env))
-    (cited 𝓤 H (Core 𝓤 H (𝓖 .A) (𝓜 .mem) (𝓡 .run)) 𝓜 𝓡 code.env #call-room·look core-def.routine code.calls-call-room·reads·look (core-thm.met 𝓤 H 𝓜 𝓖 𝓡)))
+    (cited 𝓤 H (Core 𝓤 H (𝓖 .A) (𝓜 .mem) (𝓡 .run)) 𝓜 𝓡 code.env #call-read·look core-def.routine code.calls-call-read·look (core-thm.met 𝓤 H 𝓜 𝓖 𝓡)))
