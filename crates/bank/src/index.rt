@@ -1,5 +1,5 @@
-// The hash index over the used rows, in one slice that the caller lends: for each row two links and the place of its child with the hole,
-// behind them the heads of two buckets a row. The rows of a bucket are a digital search tree, so no contents make a walk longer than a key has bits.
+// The hash index over the used rows, in one slice that the caller lends: for each row eight links and the place of its child with the hole,
+// behind them the heads of two buckets a row. The rows of a bucket are a digital search tree, so no contents make a walk longer than a key has digits.
 ghost use mathlib.Core.Path.{_≡_};
 ghost use Prim.Native.Nat.{_*_, _/_, _<_, _≤_};
 ghost use lib.ListN.{length, getD};
@@ -10,11 +10,14 @@ use crate::rows;
 use model::Row;
 use model::limits::MOST_ROWS;
 
-// Numbers of a row in the index: two links and the place, plus one, of the child with the hole.
-const LINKS: usize = 3;
+// Numbers of a row in the index: eight links and the place, plus one, of the child with the hole.
+pub const LINKS: usize = 9;
+
+// The base of a key's digits: a row has as many links.
+const KEY_BASE: u64 = 8;
 
 // Numbers of the index for each row that it has room for: those of the row, and the heads of two buckets.
-pub const INDEX_WIDTH: usize = 5;
+pub const INDEX_WIDTH: usize = 11;
 
 // A child place is a digit of a key.
 const BASE: u64 = MOST_ROWS as u64;
@@ -64,20 +67,12 @@ pub fn row_is(words: &[u32], row: Row, symbol: u32, places: [u32; 4]) -> bool
     ensures { λ r. ⌜ r ≡ isNode symbol places (nodeIn (now (words .entry)) (row .0)) ⌝ }
 {
     let a = rows::symbol_of(words, row);
-    if a != symbol {
-        return false;
-    }
     let ps = rows::places_of(words, row);
-    if ps[0] != places[0] {
-        return false;
-    }
-    if ps[1] != places[1] {
-        return false;
-    }
-    if ps[2] != places[2] {
-        return false;
-    }
-    ps[3] == places[3]
+    (a == symbol)
+        & (ps[0] == places[0])
+        & (ps[1] == places[1])
+        & (ps[2] == places[2])
+        & (ps[3] == places[3])
 }
 
 // The slot of a symbol and four places: it holds the row that has them, or 0 where none has and one may be entered.
@@ -119,7 +114,7 @@ fn below(
     let mut at = first.0;
     let mut way = key(symbol, places);
     loop {
-        let slot = LINKS * at as usize + (way % 2) as usize;
+        let slot = LINKS * at as usize + (way % KEY_BASE) as usize;
         let next = index[slot];
         if next == 0 {
             return slot;
@@ -127,7 +122,7 @@ fn below(
         if row_is(words, Row(next), symbol, places) {
             return slot;
         }
-        let further = LINKS * next as usize + (way / 2 % 2) as usize;
+        let further = LINKS * next as usize + (way / KEY_BASE % KEY_BASE) as usize;
         at = index[further];
         if at == 0 {
             return further;
@@ -135,7 +130,7 @@ fn below(
         if row_is(words, Row(at), symbol, places) {
             return further;
         }
-        way = way / 2 / 2;
+        way = way / KEY_BASE / KEY_BASE;
     }
 }
 
@@ -172,7 +167,13 @@ pub fn enter(index: &mut [u16], slot: usize, row: Row, hole: u8)
     let i = LINKS * row.0 as usize;
     index[i] = 0;
     index[i + 1] = 0;
-    index[i + 2] = hole as u16;
+    index[i + 2] = 0;
+    index[i + 3] = 0;
+    index[i + 4] = 0;
+    index[i + 5] = 0;
+    index[i + 6] = 0;
+    index[i + 7] = 0;
+    index[i + 8] = hole as u16;
     index[slot] = row.0;
 }
 
@@ -182,5 +183,5 @@ pub fn hole_of(index: &[u16], row: Row) -> u16
     ensures { λ r. ⌜ r ≡ getD (now (index .entry)) (holeOf (row .0)) 0 ⌝ }
 {
     let i = LINKS * row.0 as usize;
-    index[i + 2]
+    index[i + 8]
 }

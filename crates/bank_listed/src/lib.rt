@@ -83,7 +83,10 @@ pub fn store(
     requires { ⌜ Ready (now words) (now counts) used (now index)
         × Parses (now counts) 0 (now symbols)
         × (length (now symbols) ≤ mostListed) ⌝ }
-    ensures { λ r. ⌜ Came (now (words .entry)) (now (counts .entry)) used (storeFrom (storeOf (now (words .entry)) (now (counts .entry)) used) (now (symbols .entry)) []) r (now (words .exit)) (now (index .exit)) ⌝ }
+    ensures { λ r.
+        let x = storeOf (now (words .entry)) (now (counts .entry)) used in
+        let built = storeFrom x (now (symbols .entry)) [] in
+        ⌜ Came (now (words .entry)) (now (counts .entry)) used built r (now (words .exit)) (now (index .exit)) ⌝ }
 {
     let mut stack = [0u16; MOST_LISTED];
     let mut height = 0;

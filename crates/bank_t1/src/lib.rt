@@ -15,6 +15,7 @@ ghost use Rattle.bank.specs.Ready.{Ready};
 ghost use Rattle.bank_t1.specs.Pass.{Cleared, holeBy, unusedZero, kidsIn, rowSays, Reached, Begun, rowsPass, Marked};
 use bank::index;
 use bank::index::INDEX_WIDTH;
+use bank::index::LINKS;
 use bank::rows;
 use model::Row;
 use model::limits::HOLE_SYMBOL;
@@ -144,8 +145,10 @@ fn row_fits(words: &[u32], counts: &[u8], used: u16, index: &[u16], row: Row) ->
 fn seat_of(words: &[u32], index: &[u16], row: Row) -> usize
     requires { ⌜ Within (now words) (row .0) × Finding (now words) (row .0) (now index) ⌝ }
     ensures { λ r.
-        ⌜ Seat (now (index .entry)) (symbolIn (now (words .entry)) (row .0)) (placesIn (now (words .entry)) (row .0)) r
-        × (getD (now (index .entry)) r 0 ≡ findIn (now (words .entry)) (row .0) (symbolIn (now (words .entry)) (row .0)) (placesIn (now (words .entry)) (row .0))) ⌝ }
+        let symbol = symbolIn (now (words .entry)) (row .0) in
+        let places = placesIn (now (words .entry)) (row .0) in
+        ⌜ Seat (now (index .entry)) symbol places r
+        × (getD (now (index .entry)) r 0 ≡ findIn (now (words .entry)) (row .0) symbol places) ⌝ }
 {
     let symbol = rows::symbol_of(words, row);
     let places = rows::places_of(words, row);
@@ -160,10 +163,10 @@ fn clear(index: &mut [u16])
     let size = index.len() / INDEX_WIDTH;
     let mut h = 0;
     while h < 2 * size {
-        index[3 * size + h] = 0;
+        index[LINKS * size + h] = 0;
         h += 1;
     }
-    index[2] = 0;
+    index[LINKS - 1] = 0;
 }
 
 // The rows 1 to used - 1, each held against T1 and then entered into the index.
@@ -193,7 +196,9 @@ fn rows_pass(words: &[u32], counts: &[u8], used: u16, index: &mut [u16]) -> bool
 // T1 of the lent words, whatever they hold; where it holds, the index and the holes are ready.
 pub fn t1(words: &[u32], counts: &[u8], used: u16, index: &mut [u16]) -> bool
     requires { ⌜ (sizeFits (now words) ≡ true) × Roomy (now words) (now index) ⌝ }
-    ensures { λ r. ⌜ r ≡ isT1 (tables (storeOf (now (words .entry)) (now (counts .entry)) used) (answersIn used (now (words .entry))) [] [] [] 0 0 false) ⌝ }
+    ensures { λ r.
+        let x = storeOf (now (words .entry)) (now (counts .entry)) used in
+        ⌜ r ≡ isT1 (tables x (answersIn used (now (words .entry))) [] [] [] 0 0 false) ⌝ }
     ensures ready { λ r. ⌜ (r ≡ true → Ready (now (words .entry)) (now (counts .entry)) used (now (index .exit))) ⌝ }
 {
     if !alphabet_fits(counts) {

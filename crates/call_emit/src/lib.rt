@@ -151,8 +151,12 @@ pub fn refuse(number: u32) -> Emitted
 // The list of an automaton whose rules are given flat: 20 where it does not fit, or its bytes.
 fn write_listed(counts: &[u8], finals: &[u8], rules: &[u8], out: &mut [u8]) -> Emitted
     requires { ⌜ Short (now counts) (now finals) (now rules) ⌝ }
-    ensures { λ r. ⌜ r ≡ listedSeen (flatAutomaton (now (counts .entry)) (now (finals .entry)) (now (rules .entry))) (now (out .entry)) ⌝ }
-    ensures bytes { λ r. ⌜ now (out .exit) ≡ listedOut (flatAutomaton (now (counts .entry)) (now (finals .entry)) (now (rules .entry))) (now (out .entry)) ⌝ }
+    ensures { λ r.
+        let a = flatAutomaton (now (counts .entry)) (now (finals .entry)) (now (rules .entry)) in
+        ⌜ r ≡ listedSeen a (now (out .entry)) ⌝ }
+    ensures bytes { λ r.
+        let a = flatAutomaton (now (counts .entry)) (now (finals .entry)) (now (rules .entry)) in
+        ⌜ now (out .exit) ≡ listedOut a (now (out .entry)) ⌝ }
 {
     let size = list::list_size(counts, finals, rules);
     if out.len() < size as usize {

@@ -96,7 +96,9 @@ fn first_few(words: &mut [u32], lists: Lists, symbols: &[u8], said: Said) -> Don
         × (listsFit lists ≡ true)
         × (lists .used + spareRows ≤ smallRows)
         × (lists .rules < smallRules) ⌝ }
-    ensures { λ r. ⌜ FirstAs (now (words .entry)) (rowWidth * (lists .used + spareRows)) lists (callOf said (now (symbols .entry))) r (now (words .exit)) ⌝ }
+    ensures { λ r.
+        let made = callOf said (now (symbols .entry)) in
+        ⌜ FirstAs (now (words .entry)) (rowWidth * (lists .used + spareRows)) lists made r (now (words .exit)) ⌝ }
 {
     let most = ROW_WIDTH * (lists.used as usize + SPARE_ROWS);
     if words.len() <= most {
@@ -108,7 +110,9 @@ fn first_few(words: &mut [u32], lists: Lists, symbols: &[u8], said: Said) -> Don
 // Tried with more rows: 34 where they are not enough.
 fn first_more(words: &mut [u32], lists: Lists, symbols: &[u8], said: Said) -> Done
     requires { ⌜ (sizeFits (now words) ≡ true) × (listsFit lists ≡ true) ⌝ }
-    ensures { λ r. ⌜ FirstAs (now (words .entry)) (rowWidth * (lists .used + moreSpareRows)) lists (callOf said (now (symbols .entry))) r (now (words .exit)) ⌝ }
+    ensures { λ r.
+        let made = callOf said (now (symbols .entry)) in
+        ⌜ FirstAs (now (words .entry)) (rowWidth * (lists .used + moreSpareRows)) lists made r (now (words .exit)) ⌝ }
 {
     let most = ROW_WIDTH * (lists.used as usize + MORE_SPARE_ROWS);
     if words.len() <= most {

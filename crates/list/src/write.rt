@@ -59,7 +59,9 @@ fn put_rule(counts: &[u8], rules: &[u8], out: &mut [u8], at: usize) -> usize
     requires { ⌜ (ruleWidth ≤ length (now rules))
         × (at + (8 + length (flatRule (now counts) (now rules) .states)) ≤ length (now out)) ⌝ }
     ensures { λ r. ⌜ r ≡ at + (8 + length (flatRule (now (counts .entry)) (now (rules .entry)) .states)) ⌝ }
-    ensures bytes { λ r. ⌜ now (out .exit) ≡ putAt at (blockOf 3 (ruleBody (flatRule (now (counts .entry)) (now (rules .entry))))) (now (out .entry)) ⌝ }
+    ensures bytes { λ r.
+        let rule = flatRule (now (counts .entry)) (now (rules .entry)) in
+        ⌜ now (out .exit) ≡ putAt at (blockOf 3 (ruleBody rule)) (now (out .entry)) ⌝ }
 {
     let n = width(counts, byte_at(rules, 0));
     let after = put_head(out, at, n + 2, 3);
@@ -72,7 +74,9 @@ fn put_rule(counts: &[u8], rules: &[u8], out: &mut [u8], at: usize) -> usize
 fn put_rules(counts: &[u8], rules: &[u8], out: &mut [u8], start: usize) -> usize
     requires { ⌜ start + length (ruleBlocks (flatRules (now counts) (now rules))) ≤ length (now out) ⌝ }
     ensures { λ r. ⌜ r ≡ start + length (ruleBlocks (flatRules (now (counts .entry)) (now (rules .entry)))) ⌝ }
-    ensures bytes { λ r. ⌜ now (out .exit) ≡ putAt start (ruleBlocks (flatRules (now (counts .entry)) (now (rules .entry)))) (now (out .entry)) ⌝ }
+    ensures bytes { λ r.
+        let all = flatRules (now (counts .entry)) (now (rules .entry)) in
+        ⌜ now (out .exit) ≡ putAt start (ruleBlocks all) (now (out .entry)) ⌝ }
 {
     let mut left = rules;
     let mut at = start;
@@ -102,7 +106,9 @@ pub fn write_list(counts: &[u8], finals: &[u8], rules: &[u8], out: &mut [u8]) ->
     requires { ⌜ Short (now counts) (now finals) (now rules) ⌝ }
     requires room { ⌜ length (emitted (flatAutomaton (now counts) (now finals) (now rules))) ≤ length (now out) ⌝ }
     ensures { λ r. ⌜ r ≡ length (emitted (flatAutomaton (now (counts .entry)) (now (finals .entry)) (now (rules .entry)))) ⌝ }
-    ensures bytes { λ r. ⌜ now (out .exit) ≡ over (emitted (flatAutomaton (now (counts .entry)) (now (finals .entry)) (now (rules .entry)))) (now (out .entry)) ⌝ }
+    ensures bytes { λ r.
+        let a = flatAutomaton (now (counts .entry)) (now (finals .entry)) (now (rules .entry)) in
+        ⌜ now (out .exit) ≡ over (emitted a) (now (out .entry)) ⌝ }
 {
     let after = put_block(out, 0, 1, counts);
     let start = put_block(out, after, 2, finals);

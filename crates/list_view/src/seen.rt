@@ -84,7 +84,9 @@ pub fn children_seen(bytes: &[u8], symbol: u8) -> Found
 
 // Whether a state is final, if it is there.
 fn final_at(finals: &[u8], q: usize) -> Found
-    ensures { λ r. ⌜ r ≡ cond (ltb q (length (now (finals .entry)))) (present (cond (isFinal (now (finals .entry)) (some q)) 1 0)) (absent 0) ⌝ }
+    ensures { λ r.
+        let fs = now (finals .entry) in
+        ⌜ r ≡ cond (ltb q (length fs)) (present (cond (isFinal fs (some q)) 1 0)) (absent 0) ⌝ }
 {
     if finals.len() <= q {
         return absent(0);

@@ -67,4 +67,4 @@ handFits ws ns u reps ix h b =
 
 -- T7 and T8 so
 abbrev pub standingFits : (words counts : List ℕ) → (u : ℕ) → (reps index : List ℕ) → Standing → (missing : Bool) → Bool
-standingFits ws ns u reps ix r b = handFits ws ns u reps ix (r .hand) b && questionFits ws ix u (r .hand) (r .asked) (r .accepted) b
+standingFits ws ns u reps ix r b = handFits ws ns u reps ix (r .hand .0) b && questionFits ws ix u (r .hand .0) (r .asked .0) (r .accepted) b

@@ -41,10 +41,11 @@ fn represent(
         let rules = length (now (t .entry)) in
         let gap = gapFrom (now (table .entry)) contexts 0 rules in
         let places = now (s_in_t .exit) in
+        let reps = repsIn (now (notes .exit)) in
         ⌜ (r ≡ isOpen gap)
         × Placing places states rules
         × Placed (now (t .entry)) rules (now (s .entry)) states places
-        × (isOpen gap ≡ false → RepsBy (now (table .entry)) contexts (take states places) (now (s .entry)) (now (t .entry)) (repsIn (now (notes .exit)))) ⌝ }
+        × (isOpen gap ≡ false → RepsBy (now (table .entry)) contexts (take states places) (now (s .entry)) (now (t .entry)) reps) ⌝ }
 {
     judge::find_s_in_t(s, t, s_in_t);
     if judge::is_missing(table, t.len(), contexts) {
@@ -79,7 +80,9 @@ fn prepare(
         let w = answersIn used (now (words .entry)) in
         let rules = length (now (t .entry)) in
         let contexts = length (now (c .entry)) in
-        ⌜ (r ≡ true → Ready (now (words .entry)) (now (counts .entry)) used (now (index .exit)) × Observed x w (now (t .entry)) rules (now (c .entry)) contexts (now (table .exit))) ⌝ }
+        let ready = Ready (now (words .entry)) (now (counts .entry)) used (now (index .exit)) in
+        let right = Observed x w (now (t .entry)) rules (now (c .entry)) contexts (now (table .exit)) in
+        ⌜ (r ≡ true → ready × right) ⌝ }
 {
     if !bank_t1::t1(words, counts, used, index) {
         return false;
@@ -98,26 +101,28 @@ fn hand_fits(
     used: u16,
     index: &[u16],
     notes: &mut [u16],
-    hand: u16,
+    hand: Row,
     missing: bool,
 ) -> bool
     requires { ⌜ Ready (now words) (now counts) used (now index)
         × (used ≤ roomIn (now notes))
         × (missing ≡ false → RepsIn used (repsIn (now notes))) ⌝ }
-    ensures { λ r. ⌜ r ≡ handFits (now (words .entry)) (now (counts .entry)) used (repsIn (now (notes .entry))) (now (index .entry)) hand missing ⌝ }
+    ensures { λ r.
+        let reps = repsIn (now (notes .entry)) in
+        ⌜ r ≡ handFits (now (words .entry)) (now (counts .entry)) used reps (now (index .entry)) (hand .0) missing ⌝ }
     ensures reps { λ r. ⌜ repsIn (now (notes .exit)) ≡ repsIn (now (notes .entry)) ⌝ }
 {
-    if hand == 0 {
+    if hand.0 == 0 {
         return true;
     }
-    if !sound_roles::is_record(used, index, Row(hand)) {
+    if !sound_roles::is_record(used, index, hand) {
         return false;
     }
     if missing {
         return false;
     }
-    let answer = rows::answer_of(words, Row(hand));
-    if table_verdict::accepts_row(words, counts, used, index, notes, Row(hand)) {
+    let answer = rows::answer_of(words, hand);
+    if table_verdict::accepts_row(words, counts, used, index, notes, hand) {
         return answer == 1;
     }
     answer == 2
@@ -125,8 +130,8 @@ fn hand_fits(
 
 // How a run stands: the record in hand, the open question, whether it is accepted.
 struct Standing {
-    hand: u16,
-    asked: u16,
+    hand: Row,
+    asked: Row,
     accepted: u8,
 }
 
@@ -143,7 +148,9 @@ fn standing_fits(
     requires { ⌜ Ready (now words) (now counts) used (now index)
         × (used ≤ roomIn (now notes))
         × (missing ≡ false → RepsIn used (repsIn (now notes))) ⌝ }
-    ensures { λ r. ⌜ r ≡ standingFits (now (words .entry)) (now (counts .entry)) used (repsIn (now (notes .entry))) (now (index .entry)) standing missing ⌝ }
+    ensures { λ r.
+        let reps = repsIn (now (notes .entry)) in
+        ⌜ r ≡ standingFits (now (words .entry)) (now (counts .entry)) used reps (now (index .entry)) standing missing ⌝ }
     ensures reps { λ r. ⌜ repsIn (now (notes .exit)) ≡ repsIn (now (notes .entry)) ⌝ }
 {
     if !hand_fits(words, counts, used, index, notes, standing.hand, missing) {
@@ -179,12 +186,15 @@ fn is_sound(
     ensures { λ r.
         let x = storeOf (now (words .entry)) (now (counts .entry)) used in
         let w = answersIn used (now (words .entry)) in
-        ⌜ r ≡ isSound (tables x w (now (s .entry)) (now (t .entry)) (now (c .entry)) (standing .hand) (standing .asked) (eqb (standing .accepted) 1)) ⌝ }
+        let accepted = eqb (standing .accepted) 1 in
+        ⌜ r ≡ isSound (tables x w (now (s .entry)) (now (t .entry)) (now (c .entry)) (standing .hand .0) (standing .asked .0) accepted) ⌝ }
     ensures working { λ r.
         let states = now (s .entry) in
         let rules = now (t .entry) in
         let contexts = now (c .entry) in
-        ⌜ (r ≡ true → Working (now (words .entry)) (now (counts .entry)) used states (length states) rules (length rules) contexts (length contexts) (now (index .exit)) (now (table .exit)) (now (notes .exit))) ⌝ }
+        ⌜ (r ≡ true → Working (now (words .entry)) (now (counts .entry)) used
+        states (length states) rules (length rules) contexts (length contexts)
+        (now (index .exit)) (now (table .exit)) (now (notes .exit))) ⌝ }
 {
     if !prepare(words, counts, used, s, t, c, index, table, notes) {
         return false;
@@ -220,8 +230,8 @@ pub fn lists_sound(
     let t = lists.t;
     let c = lists.c;
     let standing = Standing {
-        hand: lists.hand,
-        asked: lists.asked,
+        hand: Row(lists.hand),
+        asked: Row(lists.asked),
         accepted: lists.accepted,
     };
     is_sound(

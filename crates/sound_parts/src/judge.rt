@@ -121,24 +121,24 @@ pub fn question_fits(
     words: &[u32],
     used: u16,
     index: &[u16],
-    hand: u16,
-    asked: u16,
+    hand: Row,
+    asked: Row,
     accepted: u8,
     missing: bool,
 ) -> bool
     requires { ⌜ (used ≤ sizeIn (now index)) × (rowWidth * used ≤ length (now words)) ⌝ }
-    ensures { λ r. ⌜ r ≡ questionFits (now (words .entry)) (now (index .entry)) used hand asked accepted missing ⌝ }
+    ensures { λ r. ⌜ r ≡ questionFits (now (words .entry)) (now (index .entry)) used (hand .0) (asked .0) accepted missing ⌝ }
 {
-    if asked == 0 {
-        if hand != 0 {
+    if asked.0 == 0 {
+        if hand.0 != 0 {
             return false;
         }
         return !missing;
     }
-    if !sound_roles::is_record(used, index, Row(asked)) {
+    if !sound_roles::is_record(used, index, asked) {
         return false;
     }
-    if rows::answer_of(words, Row(asked)) != 0 {
+    if rows::answer_of(words, asked) != 0 {
         return false;
     }
     accepted != 1

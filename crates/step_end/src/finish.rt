@@ -34,12 +34,12 @@ pub fn short(number: u8, lists: Lists) -> Stepped
 }
 
 // A question is open.
-pub fn asking(lists: Lists, hand: u16, row: Row, used: u16) -> Lists
-    ensures { λ r. ⌜ r ≡ askingOf lists hand (row .0) used ⌝ }
+pub fn asking(lists: Lists, hand: Row, row: Row, used: u16) -> Lists
+    ensures { λ r. ⌜ r ≡ askingOf lists (hand .0) (row .0) used ⌝ }
 {
     let mut left = lists;
     left.used = used;
-    left.hand = hand;
+    left.hand = hand.0;
     left.asked = row.0;
     left.accepted = 0;
     left
@@ -114,7 +114,7 @@ fn left_by(asked: Asked, lists: Lists, table: &[u8]) -> Stepped
         Asked::NoRows => short(34, lists),
         Asked::At(row, n) => Stepped {
             number: 0,
-            lists: asking(lists, 0, row, n),
+            lists: asking(lists, Row(0), row, n),
         },
     }
 }

@@ -101,7 +101,7 @@ fn ask_exchanged(
         Grown::Full => finish::short(34, lists),
         Grown::At(row, n) => Stepped {
             number: 0,
-            lists: finish::asking(lists, hand.0, row, n),
+            lists: finish::asking(lists, hand, row, n),
         },
     }
 }

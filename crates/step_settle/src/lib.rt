@@ -35,7 +35,10 @@ pub fn ask(
         × Settling (now words) (now counts) used (now t) (now c)
         × KnownRows x w (now t) (length (now t)) (now c) (length (now c)) (now table)
         × (used ≤ roomIn (now notes)) ⌝ }
-    ensures { λ r. ⌜ AskedAs (now (words .entry)) (now (counts .entry)) used (now (t .entry)) (now (c .entry)) r (now (words .exit)) (now (table .exit)) ⌝ }
+    ensures { λ r.
+        let rules = now (t .entry) in
+        let contexts = now (c .entry) in
+        ⌜ AskedAs (now (words .entry)) (now (counts .entry)) used rules contexts r (now (words .exit)) (now (table .exit)) ⌝ }
 {
     let n = table_answers::observe_to_gap(words, counts, used, index, t, c, table, notes);
     match table::first_unknown(table, n, c.len()) {

@@ -38,7 +38,9 @@ fn differs(
         × (a < rules)
         × (from ≤ states)
         × Placing (now places) states rules ⌝ }
-    ensures { λ r. ⌜ r ≡ all (differKnown (rowAt (now (table .entry)) contexts a)) (map (rowAt (now (table .entry)) contexts) (drop from (take states (now (places .entry))))) ⌝ }
+    ensures { λ r.
+        let row = rowAt (now (table .entry)) contexts in
+        ⌜ r ≡ all (differKnown (row a)) (map row (drop from (take states (now (places .entry))))) ⌝ }
 {
     let mut q = from;
     while q < states {
@@ -89,7 +91,9 @@ fn count_same(
     a: usize,
 ) -> u8
     requires { ⌜ Sized (now table) rules contexts × (a < rules) × Placing (now places) states rules ⌝ }
-    ensures { λ r. ⌜ r ≡ countSame (rowAt (now (table .entry)) contexts a) (map (rowAt (now (table .entry)) contexts) (take states (now (places .entry)))) ⌝ }
+    ensures { λ r.
+        let row = rowAt (now (table .entry)) contexts in
+        ⌜ r ≡ countSame (row a) (map row (take states (now (places .entry)))) ⌝ }
 {
     let mut n: u8 = 0;
     let mut q = 0;
@@ -111,7 +115,10 @@ pub fn all_once(
     states: usize,
 ) -> bool
     requires { ⌜ Sized (now table) rules contexts × Placing (now places) states rules ⌝ }
-    ensures { λ r. ⌜ r ≡ all (λ (k : ℕ). eqb (countSame (rowAt (now (table .entry)) contexts k) (map (rowAt (now (table .entry)) contexts) (take states (now (places .entry))))) 1) (placesFrom 0 rules) ⌝ }
+    ensures { λ r.
+        let row = rowAt (now (table .entry)) contexts in
+        let own = map row (take states (now (places .entry))) in
+        ⌜ r ≡ all (λ (k : ℕ). eqb (countSame (row k) own) 1) (placesFrom 0 rules) ⌝ }
 {
     let mut k = 0;
     while k < rules {

@@ -47,7 +47,9 @@ pub fn print_record(
         × (row .0 < used)
         × (at + length (rowText (now letters) (storeOf (now words) (now counts) used) (row .0)) ≤ length (now out)) ⌝ }
     ensures { λ r. ⌜ r ≡ at + length (rowText (now (letters .entry)) (storeOf (now (words .entry)) (now (counts .entry)) used) (row .0)) ⌝ }
-    ensures out { λ r. ⌜ now (out .exit) ≡ putAt at (rowText (now (letters .entry)) (storeOf (now (words .entry)) (now (counts .entry)) used) (row .0)) (now (out .entry)) ⌝ }
+    ensures out { λ r.
+        let x = storeOf (now (words .entry)) (now (counts .entry)) used in
+        ⌜ now (out .exit) ≡ putAt at (rowText (now (letters .entry)) x (row .0)) (now (out .entry)) ⌝ }
 {
     let symbol = rows::symbol_of(words, row);
     out[at] = letter_of(letters, symbol);

@@ -116,7 +116,9 @@ fn put_question(
     ensures { λ r.
         ⌜ (r ≡ at + length (questionText (now (letters .entry)) (storeOf (now (words .entry)) (now (counts .entry)) used) (row .0)))
         × (r ≤ at + questionRoom) ⌝ }
-    ensures out { λ r. ⌜ now (out .exit) ≡ putAt at (questionText (now (letters .entry)) (storeOf (now (words .entry)) (now (counts .entry)) used) (row .0)) (now (out .entry)) ⌝ }
+    ensures out { λ r.
+        let x = storeOf (now (words .entry)) (now (counts .entry)) used in
+        ⌜ now (out .exit) ≡ putAt at (questionText (now (letters .entry)) x (row .0)) (now (out .entry)) ⌝ }
 {
     if bank_sizes::size_of(words, counts, used, row) as usize <= MOST_LISTED {
         return print::print_record(words, counts, used, letters, row, out, at);
@@ -137,7 +139,9 @@ fn tell_question(
 ) -> usize
     requires { ⌜ Stored (now words) (now counts) used × (row .0 < used) × (replyRoom ≤ length (now out)) ⌝ }
     ensures { λ r. ⌜ r ≡ length (askText (now (letters .entry)) (storeOf (now (words .entry)) (now (counts .entry)) used) (row .0)) ⌝ }
-    ensures out { λ r. ⌜ now (out .exit) ≡ over (askText (now (letters .entry)) (storeOf (now (words .entry)) (now (counts .entry)) used) (row .0)) (now (out .entry)) ⌝ }
+    ensures out { λ r.
+        let x = storeOf (now (words .entry)) (now (counts .entry)) used in
+        ⌜ now (out .exit) ≡ over (askText (now (letters .entry)) x (row .0)) (now (out .entry)) ⌝ }
 {
     let word = [b'a', b's', b'k', b' '];
     let at = list::put_bytes(out, 0, &word);
@@ -157,7 +161,9 @@ pub fn tell(
 ) -> usize
     requires { ⌜ Tellable (now words) (now counts) used seen × (replyRoom ≤ length (now out)) ⌝ }
     ensures { λ r. ⌜ r ≡ length (seenText (now (letters .entry)) (storeOf (now (words .entry)) (now (counts .entry)) used) seen) ⌝ }
-    ensures out { λ r. ⌜ now (out .exit) ≡ over (seenText (now (letters .entry)) (storeOf (now (words .entry)) (now (counts .entry)) used) seen) (now (out .entry)) ⌝ }
+    ensures out { λ r.
+        let x = storeOf (now (words .entry)) (now (counts .entry)) used in
+        ⌜ now (out .exit) ≡ over (seenText (now (letters .entry)) x seen) (now (out .entry)) ⌝ }
 {
     let number = seen.number;
     if number != 0 {

@@ -74,7 +74,9 @@ fn close(
     size: u32,
 ) -> u64
     requires { ⌜ Reads (now text) len (now known) next size × (count ≤ 4) × (size + 1 ≤ next) ⌝ }
-    ensures { λ r. ⌜ ReadAs (closed (now (known .entry)) letter count (take size (now (text .entry))) (leftAt (now (text .entry)) len next)) r len (next - 1) (now (text .exit)) ⌝ }
+    ensures { λ r.
+        let left = leftAt (now (text .entry)) len next in
+        ⌜ ReadAs (closed (now (known .entry)) letter count (take size (now (text .entry))) left) r len (next - 1) (now (text .exit)) ⌝ }
 {
     let place = 5 * letter as usize + count as usize;
     let symbol = known[place];
@@ -94,7 +96,9 @@ fn read_record(
     size: u32,
 ) -> u64
     requires { ⌜ Reads (now text) len (now known) at size ⌝ }
-    ensures { λ r. ⌜ ReadAs (recordAt (now (known .entry)) (take size (now (text .entry))) (leftAt (now (text .entry)) len at)) r len at (now (text .exit)) ⌝ }
+    ensures { λ r.
+        let left = leftAt (now (text .entry)) len at in
+        ⌜ ReadAs (recordAt (now (known .entry)) (take size (now (text .entry))) left) r len at (now (text .exit)) ⌝ }
 {
     if at == len {
         return 0;
@@ -121,7 +125,9 @@ fn read_list(
     size: u32,
 ) -> u64
     requires { ⌜ Reads (now text) len (now known) at size × (child ≤ 4) × (size + 1 ≤ at) ⌝ }
-    ensures { λ r. ⌜ ReadAs (listAt (now (known .entry)) letter child (take size (now (text .entry))) (leftAt (now (text .entry)) len at)) r len at (now (text .exit)) ⌝ }
+    ensures { λ r.
+        let left = leftAt (now (text .entry)) len at in
+        ⌜ ReadAs (listAt (now (known .entry)) letter child (take size (now (text .entry))) left) r len at (now (text .exit)) ⌝ }
 {
     let child_read = read_record(text, len, known, at, size);
     if child_read == 0 {

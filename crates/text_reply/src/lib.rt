@@ -115,7 +115,9 @@ fn told(words: &[u32], script: Script, seen: Seen, out: &mut [u8]) -> Replied
 // The first line: unread or refused, it ends the script.
 fn first(words: &mut [u32], script: Script, line: &[u8], out: &mut [u8]) -> Replied
     requires { ⌜ replyRoom ≤ length (now out) ⌝ }
-    ensures { λ r. ⌜ ReplyAs (openedOf (now (words .entry)) script (alphabetOf (now (line .entry)))) r (now (words .exit)) (now (out .entry)) (now (out .exit)) ⌝ }
+    ensures { λ r.
+        let reply = openedOf (now (words .entry)) script (alphabetOf (now (line .entry))) in
+        ⌜ ReplyAs reply r (now (words .exit)) (now (out .entry)) (now (out .exit)) ⌝ }
 {
     let mut letters = script.letters;
     let mut counts = [0u8; MOST_SYMBOLS];
@@ -145,7 +147,10 @@ fn offer(words: &mut [u32], script: Script, line: &[u8], mark: u8, out: &mut [u8
     requires { ⌜ (replyRoom ≤ length (now out))
         × (2 ≤ length (now line))
         × (length (now line) ≤ mostInput) ⌝ }
-    ensures { λ r. ⌜ ReplyAs (heard (now (words .entry)) script (offering (readText (lettersOf script) (countsOf script) (drop 2 (now (line .entry)))) mark)) r (now (words .exit)) (now (out .entry)) (now (out .exit)) ⌝ }
+    ensures { λ r.
+        let text = readText (lettersOf script) (countsOf script) (drop 2 (now (line .entry))) in
+        let reply = heard (now (words .entry)) script (offering text mark) in
+        ⌜ ReplyAs reply r (now (words .exit)) (now (out .entry)) (now (out .exit)) ⌝ }
 {
     let letters = script.letters;
     let lists = script.lists;
@@ -164,7 +169,9 @@ fn offer(words: &mut [u32], script: Script, line: &[u8], mark: u8, out: &mut [u8
 // A later line.
 fn later(words: &mut [u32], script: Script, line: &[u8], out: &mut [u8]) -> Replied
     requires { ⌜ replyRoom ≤ length (now out) ⌝ }
-    ensures { λ r. ⌜ ReplyAs (heard (now (words .entry)) script (lineOf (lettersOf script) (countsOf script) (now (line .entry)))) r (now (words .exit)) (now (out .entry)) (now (out .exit)) ⌝ }
+    ensures { λ r.
+        let reply = heard (now (words .entry)) script (lineOf (lettersOf script) (countsOf script) (now (line .entry))) in
+        ⌜ ReplyAs reply r (now (words .exit)) (now (out .entry)) (now (out .exit)) ⌝ }
 {
     match lines::asked_of(line) {
         Asked::Nothing => unread(words, script, out),
@@ -192,7 +199,9 @@ fn later(words: &mut [u32], script: Script, line: &[u8], out: &mut [u8]) -> Repl
 
 // The reply to any line: none once the script has ended, or where it might not fit.
 pub fn reply(words: &mut [u32], script: Script, line: &[u8], out: &mut [u8]) -> Replied
-    ensures { λ r. ⌜ ReplyAs (replyTo (now (words .entry)) script (now (line .entry)) (length (now (out .entry)))) r (now (words .exit)) (now (out .entry)) (now (out .exit)) ⌝ }
+    ensures { λ r.
+        let reply = replyTo (now (words .entry)) script (now (line .entry)) (length (now (out .entry))) in
+        ⌜ ReplyAs reply r (now (words .exit)) (now (out .entry)) (now (out .exit)) ⌝ }
 {
     if out.len() < REPLY_ROOM {
         return Replied {

@@ -27,13 +27,13 @@ roles-settle x e = stops (preparedFit x) (judgedFit x) e ∙ sound-parts x
 module _ {ws ns : List ℕ} {u : ℕ} {s t c index table notes : List ℕ} (w : Working ws ns u s (length s) t (length t) c (length c) index table notes) {places : List ℕ}
     (placing : Placing places (length s) (length t)) (placed : Placed t (length t) s (length s) places) (r : Standing) (b : Bool) (missing : b ≡ isOpen (gapFrom table (length c) 0 (length t))) where
   abbrev X : Tables
-  X = tables (storeOf ws ns u) (answersIn u ws) s t c (r .hand) (r .asked) (eqb (r .accepted) 1)
+  X = tables (storeOf ws ns u) (answersIn u ws) s t c (r .hand .0) (r .asked .0) (eqb (r .accepted) 1)
 
   abbrev cut : (hand asked : ℕ) → (accepted : Bool) → Tables
   cut h o z = given ws ns u s (length s) t (length t) c (length c) h o z
 
   abbrev G : Tables
-  G = cut (r .hand) (r .asked) (eqb (r .accepted) 1)
+  G = cut (r .hand .0) (r .asked .0) (eqb (r .accepted) 1)
 
   whole : (h o : ℕ) (z : Bool) → given ws ns u s (length s) t (length t) c (length c) h o z ≡ tables (storeOf ws ns u) (answersIn u ws) s t c h o z
   whole h o z = λ i. tables (storeOf ws ns u) (answersIn u ws) (take-length s i) (take-length t i) (take-length c i) h o z
@@ -42,18 +42,18 @@ module _ {ws ns : List ℕ} {u : ℕ} {s t c index table notes : List ℕ} (w : 
   arrays = record { few-s = omega arith; few-t = omega arith; few-c = omega arith }
 
   given-missing : b ≡ isMissing G
-  given-missing = missing ∙ missing-is arrays w (r .hand) (r .asked) (eqb (r .accepted) 1)
+  given-missing = missing ∙ missing-is arrays w (r .hand .0) (r .asked .0) (eqb (r .accepted) 1)
 
   -- T4'S LAST CLAUSE, T5 AND T6
   table-given : tableFits table places (length s) (length t) (length c) b ≡ contextsFew G && (isT5 G && isT6 G)
-  table-given = table-is arrays w placing placed (r .hand) (r .asked) (eqb (r .accepted) 1) b given-missing
+  table-given = table-is arrays w placing placed (r .hand .0) (r .asked .0) (eqb (r .accepted) 1) b given-missing
 
   module _ (p : preparedFit (tables (storeOf ws ns u) (answersIn u ws) s t c 0 0 false) ≡ true) where
     -- what is left of the test
     rest-is : judgedFit G ≡ isSound X
-    rest-is = ap judgedFit (whole (r .hand) (r .asked) (eqb (r .accepted) 1)) ∙ goes-on (preparedFit X) (judgedFit X) p ∙ sound-parts X
+    rest-is = ap judgedFit (whole (r .hand .0) (r .asked .0) (eqb (r .accepted) 1)) ∙ goes-on (preparedFit X) (judgedFit X) p ∙ sound-parts X
 
-    pub table-settles : tableFits table places (length s) (length t) (length c) b ≡ false → false ≡ isSound (tables (storeOf ws ns u) (answersIn u ws) s t c (r .hand) (r .asked) (eqb (r .accepted) 1))
+    pub table-settles : tableFits table places (length s) (length t) (length c) b ≡ false → false ≡ isSound (tables (storeOf ws ns u) (answersIn u ws) s t c (r .hand .0) (r .asked .0) (eqb (r .accepted) 1))
     table-settles e = stops (contextsFew G && (isT5 G && isT6 G)) (isT7 G && isT8 G) (sym table-given ∙ e) ∙ rest-is
 
     module _ (f : tableFits table places (length s) (length t) (length c) b ≡ true) where
@@ -64,11 +64,11 @@ module _ {ws ns : List ℕ} {u : ℕ} {s t c index table notes : List ℕ} (w : 
       table-fits = sym table-given ∙ f
 
       pub members-read : b ≡ false → RepsIn u (repsIn notes)
-      members-read e = reps-read arrays w prepared (r .hand) (r .asked) (eqb (r .accepted) 1) table-fits (sym given-missing ∙ e)
+      members-read e = reps-read arrays w prepared (r .hand .0) (r .asked .0) (eqb (r .accepted) 1) table-fits (sym given-missing ∙ e)
 
       -- T7 AND T8
-      pub standing-decides : standingFits ws ns u (repsIn notes) index r b ≡ isSound (tables (storeOf ws ns u) (answersIn u ws) s t c (r .hand) (r .asked) (eqb (r .accepted) 1))
+      pub standing-decides : standingFits ws ns u (repsIn notes) index r b ≡ isSound (tables (storeOf ws ns u) (answersIn u ws) s t c (r .hand .0) (r .asked .0) (eqb (r .accepted) 1))
       standing-decides =
-          let h = hand-is arrays w prepared (r .hand) (r .asked) (eqb (r .accepted) 1) table-fits b given-missing in
-          let q = question-is arrays w (r .hand) (r .asked) (r .accepted) b given-missing in
+          let h = hand-is arrays w prepared (r .hand .0) (r .asked .0) (eqb (r .accepted) 1) table-fits b given-missing in
+          let q = question-is arrays w (r .hand .0) (r .asked .0) (r .accepted) b given-missing in
           (λ i. h i && q i) ∙ goes-on (contextsFew G && (isT5 G && isT6 G)) (isT7 G && isT8 G) table-fits ∙ rest-is

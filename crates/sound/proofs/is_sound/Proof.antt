@@ -29,7 +29,7 @@ idle s =
 abbrev tested : tie.Start → Tables
 tested s =
     tables (storeOf (s .args .words .now) (s .args .counts .now) (s .args .used)) (answersIn (s .args .used) (s .args .words .now)) (s .args .s .now) (s .args .t .now) (s .args .c .now)
-    (s .args .standing .hand) (s .args .standing .asked) (eqb (s .args .standing .accepted) 1)
+    (s .args .standing .hand .0) (s .args .standing .asked .0) (eqb (s .args .standing .accepted) 1)
 
 -- prepared, and past it; the representatives found; the table judged
 abbrev start : tie.After-prepare → tie.Start

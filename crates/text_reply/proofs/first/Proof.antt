@@ -66,11 +66,13 @@ same-length-4 c = search needs
 
 returns-2 : tie.Need-returns-2
 returns-2 c =
-    let f = c .before .before .before .before .before .before .before .before .before .before .before .before .before .before in
+    let m : tie.After-start = c .before .before .before .before .before .before .before .before .before .before in
+    let e : tie.Else1 = m .before .before .before in
+    let f : tie.After-alphabet-of = e .before in
     let s = f .before .before .before .before .before .before .before in
-    let d = c .before .before .before .before .before .before .before .before .before .before .start in
+    let d = m .start in
     opened-refused (s .args .words .now) (take (f .alphabet-of .result .size) (f .alphabet-of .last .1 .1 .0)) (s .args .script) (d .result) (d .last .0) (d .ensures)
-    (opened-read (alphabetOf (s .args .line .now)) (f .alphabet-of .result) (s .args .script .letters) (f .alphabet-of .last .1 .0) (f .alphabet-of .last .1 .1 .0) (f .alphabet-of .ensures) (not-false (f .alphabet-of .result .ok) (c .before .before .before .before .before .before .before .before .before .before .before .before .before .if1 .left)))
+    (opened-read (alphabetOf (s .args .line .now)) (f .alphabet-of .result) (s .args .script .letters) (f .alphabet-of .last .1 .0) (f .alphabet-of .last .1 .1 .0) (f .alphabet-of .ensures) (not-false (f .alphabet-of .result .ok) (e .if1 .left)))
     (c .before .before .before .before .before .before .if2 .taken) (c .before .before .before .before .at-stage2 .result) (c .before .before .before .before .at-stage2 .ensures) (c .before .before .told .ensures)
 
 told-requires-2 : tie.Need-told-requires-2
@@ -87,11 +89,13 @@ same-length-6 c = search needs
 
 returns-3 : tie.Need-returns-3
 returns-3 c =
-    let f = c .before .before .before .before .before .before .before .before .before .before .before .before .before .before in
+    let m : tie.After-start = c .before .before .before .before .before .before .before .before .before .before in
+    let e : tie.Else1 = m .before .before .before in
+    let f : tie.After-alphabet-of = e .before in
     let s = f .before .before .before .before .before .before .before in
-    let d = c .before .before .before .before .before .before .before .before .before .before .start in
+    let d = m .start in
     opened-taken (s .args .words .now) (take (f .alphabet-of .result .size) (f .alphabet-of .last .1 .1 .0)) (s .args .script) (d .result) (d .last .0) (d .ensures)
-    (opened-read (alphabetOf (s .args .line .now)) (f .alphabet-of .result) (s .args .script .letters) (f .alphabet-of .last .1 .0) (f .alphabet-of .last .1 .1 .0) (f .alphabet-of .ensures) (not-false (f .alphabet-of .result .ok) (c .before .before .before .before .before .before .before .before .before .before .before .before .before .if1 .left)))
+    (opened-read (alphabetOf (s .args .line .now)) (f .alphabet-of .result) (s .args .script .letters) (f .alphabet-of .last .1 .0) (f .alphabet-of .last .1 .1 .0) (f .alphabet-of .ensures) (not-false (f .alphabet-of .result .ok) (e .if1 .left)))
     (c .before .before .before .before .before .before .if2 .left) (c .before .before .told2 .ensures)
 
 pub first-spec : {M : Type 1} → statement M

@@ -28,8 +28,9 @@ with-lists-requires c κs = search needs
 told-requires : tie.Need-told-requires
 told-requires c κs =
     let d = c .before .before .before .before .before .answer in
-    let s = c .before .before .before .before .before .before .before .before .before .before .before .before .before .before in
-    (made-tellable (s .args .words .now) (s .args .script) (answers (c .before .before .before .before .before .before .before .before .mark .given .0 .0)) (d .result) (d .last .0) (d .ensures) (c .before .with-lists .result) (c .before .with-lists .ensures), s .pre)
+    let m : tie.After-mark = c .before .before .before .before .before .before .before .before in
+    let s = m .before .before .before .before .before .before in
+    (made-tellable (s .args .words .now) (s .args .script) (answers (m .mark .given .0 .0)) (d .result) (d .last .0) (d .ensures) (c .before .with-lists .result) (c .before .with-lists .ensures), s .pre)
 
 enum-told-2 : tie.Need-enum-told-2
 enum-told-2 c = search needs
@@ -43,7 +44,8 @@ with-lists-requires-2 c κs = search needs
 told-requires-2 : tie.Need-told-requires-2
 told-requires-2 c κs =
     let d = c .before .before .before .before .before .accept in
-    let s = c .before .before .before .before .before .before .before .before .before .before .before .before .before in
+    let m : tie.After-enum-told2 = c .before .before .before .before .before .before .before in
+    let s = m .before .before .before .before .before .before in
     (made-tellable (s .args .words .now) (s .args .script) accept (d .result) (d .last .0) (d .ensures) (c .before .with-lists2 .result) (c .before .with-lists2 .ensures), s .pre)
 
 enum-known-mark-2 : tie.Need-enum-known-mark-2
@@ -78,7 +80,7 @@ returns-2 : tie.Need-returns-2
 returns-2 c =
     let a = c .before .before .before .before .before .before .before .before .before .before .before in
     let d = c .before .before .before .before .before .before .before .before .answer in
-    let s = c .before .before .before .before .before .before .before .before .before .before .before .before .before .before .before .before .before in
+    let s = a .before .before .before .before .before .before in
     heard-line (s .args .words .now) (s .args .script) (s .args .line .now) (sym (a .mark .given .1) ∙ a .before .before .asked-of .ensures)
     (made-heard (s .args .words .now) (s .args .script) (answers (c .before .before .before .before .before .before .before .before .before .before .before .mark .given .0 .0)) (d .result) (d .last .0) (d .ensures) (c .before .before .before .before .with-lists .result) (c .before .before .before .before .with-lists .ensures) (c .before .before .told .ensures))
 
@@ -92,7 +94,7 @@ returns-3 : tie.Need-returns-3
 returns-3 c =
     let a = c .before .before .before .before .before .before .before .before .before .before in
     let d = c .before .before .before .before .before .before .before .before .accept in
-    let s = c .before .before .before .before .before .before .before .before .before .before .before .before .before .before .before .before in
+    let s = a .before .before .before .before .before .before in
     heard-line (s .args .words .now) (s .args .script) (s .args .line .now) (sym (a .enum-told2 .given .1) ∙ a .before .before .asked-of .ensures)
     (made-heard (s .args .words .now) (s .args .script) accept (d .result) (d .last .0) (d .ensures) (c .before .before .before .before .with-lists2 .result) (c .before .before .before .before .with-lists2 .ensures) (c .before .before .told2 .ensures))
 
@@ -105,7 +107,7 @@ same-length-8 c = search needs
 returns-4 : tie.Need-returns-4
 returns-4 c =
     let a = c .before .before .before .before .before .before .before .before in
-    let s = c .before .before .before .before .before .before .before .before .before .before .before .before .before .before in
+    let s = a .before .before .before .before .before .before in
     heard-line (s .args .words .now) (s .args .script) (s .args .line .now) (sym (a .mark2 .given .1) ∙ a .before .before .asked-of .ensures) (c .before .before .before .before .offer .ensures)
 
 pub later-spec : {M : Type 1} → statement M

@@ -104,9 +104,10 @@ same-length-6 c = search needs
 
 returns-6 : tie.Need-returns-6
 returns-6 c =
-    let s = c .before .before .before .before .before .before .before .before .before .before .before .before .before .before .before .before .before .before .before .before .before .before in
+    let f : tie.After-first-few = c .before .before .before .before .before .before .before .before .before .before .before in
+    let s = f .before .before .before .before .before .before .before .before .before .before .before in
     let a = c .before .before .tried-more2 in
-    subst (λ (ws : List ℕ). CallAs ws (s .args .lists) (callOf (s .args .said) (s .args .symbols .now)) (a .result) (a .last .0)) (c .before .before .before .before .before .before .before .before .before .before .before .first-few .ensures .short (c .before .before .before .before .before .before .if4 .left)) (a .ensures)
+    subst (λ (ws : List ℕ). CallAs ws (s .args .lists) (callOf (s .args .said) (s .args .symbols .now)) (a .result) (a .last .0)) (f .first-few .ensures .short (c .before .before .before .before .before .before .if4 .left)) (a .ensures)
 
 pub made-spec : {M : Type 1} → statement M
 made-spec =

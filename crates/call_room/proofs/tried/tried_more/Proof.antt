@@ -48,17 +48,19 @@ returns-3 c = let f = c .before .before .before .before .before .before .before 
 
 with-all-requires-2 : tie.Need-with-all-requires-2
 with-all-requires-2 c κs =
-    let s = c .before .before .before .before .before .before .before .before .before .before .before .before .before .before in
-    (subst (λ (ws : List ℕ). sizeFits ws ≡ true) (sym (c .before .before .before .before .before .before .before .before .first-more .ensures .short (c .before .before .before .if2 .left))) (s .pre .0), s .pre .1)
+    let f : tie.After-first-more = c .before .before .before .before .before .before .before .before in
+    let s = f .before .before .before .before .before .before in
+    (subst (λ (ws : List ℕ). sizeFits ws ≡ true) (sym (f .first-more .ensures .short (c .before .before .before .if2 .left))) (s .pre .0), s .pre .1)
 
 same-length-4 : tie.Need-same-length-4
 same-length-4 c = search needs
 
 returns-4 : tie.Need-returns-4
 returns-4 c =
-    let s = c .before .before .before .before .before .before .before .before .before .before .before .before .before .before .before .before .before in
+    let f : tie.After-first-more = c .before .before .before .before .before .before .before .before .before .before .before in
+    let s = f .before .before .before .before .before .before in
     let a = c .before .before .with-all2 in
-    subst (λ (ws : List ℕ). CallAs ws (s .args .lists) (callOf (s .args .said) (s .args .symbols .now)) (a .result) (a .last .0)) (c .before .before .before .before .before .before .before .before .before .before .before .first-more .ensures .short (c .before .before .before .before .before .before .if2 .left)) (a .ensures)
+    subst (λ (ws : List ℕ). CallAs ws (s .args .lists) (callOf (s .args .said) (s .args .symbols .now)) (a .result) (a .last .0)) (f .first-more .ensures .short (c .before .before .before .before .before .before .if2 .left)) (a .ensures)
 
 pub tried-more-spec : {M : Type 1} → statement M
 tried-more-spec =
