@@ -18,7 +18,6 @@ use call::ladder::TINY_ROWS;
 use call::ladder::TINY_RULES;
 use call_lent::Said;
 use model::Lists;
-use model::limits::MOST_WORDS;
 use model::limits::ROW_WIDTH;
 
 // Rows past the used ones that a call is first tried with, and then.
@@ -58,20 +57,6 @@ fn with_more(words: &mut [u32], lists: Lists, symbols: &[u8], said: Said) -> Don
     ensures { λ r. ⌜ CallAs (now (words .entry)) lists (callOf said (now (symbols .entry))) r (now (words .exit)) ⌝ }
 {
     let mut saved = [0u32; ROW_WIDTH * MORE_SPARE_ROWS];
-    if words.len() <= ROW_WIDTH * MID_ROWS {
-        if (lists.rules as usize) < MID_RULES {
-            return call_sizes::in_mid(words, lists, symbols, said, &mut saved);
-        }
-    }
-    call_sizes::in_wide(words, lists, symbols, said, &mut saved)
-}
-
-// With all rows.
-fn with_all(words: &mut [u32], lists: Lists, symbols: &[u8], said: Said) -> Done
-    requires { ⌜ (sizeFits (now words) ≡ true) × (listsFit lists ≡ true) ⌝ }
-    ensures { λ r. ⌜ CallAs (now (words .entry)) lists (callOf said (now (symbols .entry))) r (now (words .exit)) ⌝ }
-{
-    let mut saved = [0u32; MOST_WORDS];
     if words.len() <= ROW_WIDTH * MID_ROWS {
         if (lists.rules as usize) < MID_RULES {
             return call_sizes::in_mid(words, lists, symbols, said, &mut saved);
@@ -127,7 +112,7 @@ fn tried_more(words: &mut [u32], lists: Lists, symbols: &[u8], said: Said) -> Do
     ensures { λ r. ⌜ CallAs (now (words .entry)) lists (callOf said (now (symbols .entry))) r (now (words .exit)) ⌝ }
 {
     if DEEP < lists.used {
-        return with_all(words, lists, symbols, said);
+        return call_sizes::with_all(words, lists, symbols, said);
     }
     let done = first_more(words, lists, symbols, said);
     let seen = done.seen;
@@ -137,7 +122,7 @@ fn tried_more(words: &mut [u32], lists: Lists, symbols: &[u8], said: Said) -> Do
     if words.len() <= ROW_WIDTH * (lists.used as usize + MORE_SPARE_ROWS) {
         return done;
     }
-    with_all(words, lists, symbols, said)
+    call_sizes::with_all(words, lists, symbols, said)
 }
 
 // 18, 30, then the call's own lines and its step: tried with few rows where the call is small, and where they are not enough and

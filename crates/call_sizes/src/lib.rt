@@ -23,6 +23,8 @@ use model::Lists;
 use model::limits::MOST_CONTEXTS;
 use model::limits::MOST_ROWS;
 use model::limits::MOST_RULES;
+use model::limits::MOST_WORDS;
+use model::limits::ROW_WIDTH;
 
 // In the smallest room.
 pub fn in_tiny(
@@ -140,4 +142,18 @@ pub fn in_wide(
         &mut table,
         &mut notes,
     )
+}
+
+// With all rows saved, in the smallest room that is enough.
+pub fn with_all(words: &mut [u32], lists: Lists, symbols: &[u8], said: Said) -> Done
+    requires { ⌜ (sizeFits (now words) ≡ true) × (listsFit lists ≡ true) ⌝ }
+    ensures { λ r. ⌜ CallAs (now (words .entry)) lists (callOf said (now (symbols .entry))) r (now (words .exit)) ⌝ }
+{
+    let mut saved = [0u32; MOST_WORDS];
+    if words.len() <= ROW_WIDTH * MID_ROWS {
+        if (lists.rules as usize) < MID_RULES {
+            return in_mid(words, lists, symbols, said, &mut saved);
+        }
+    }
+    in_wide(words, lists, symbols, said, &mut saved)
 }

@@ -1,9 +1,9 @@
--- `tried::with_all` meets its contract: no lent words are more than 98,304, so all of them can be saved.
+-- `call_sizes::with_all` meets its contract: no lent words are more than 98,304, so all of them can be saved.
 use native.Mathlib.Omega.{arith}
 use Rattle.model.proofs.Laws.Lent.{sizeFits-facts}
 use borrow.Author.Needs.{needs}
-use Rattle.call_room.proofs.tried.with_all.Statement.{statement}
-use Rattle.call_room.proofs.tried.with_all.Tie as tie
+use Rattle.call_sizes.proofs.with_all.Statement.{statement}
+use Rattle.call_sizes.proofs.with_all.Tie as tie
 
 mul-if1 : tie.Need-mul-if1
 mul-if1 c = search needs
