@@ -83,20 +83,6 @@ pub fn row_is(words: &[u32], row: Row, symbol: u32, places: [u32; 4]) -> bool
     ps[3] == places[3]
 }
 
-// The same without a branch: of the rows on a way a processor cannot tell which has the symbol.
-fn row_meets(words: &[u32], row: Row, symbol: u32, places: [u32; 4]) -> bool
-    requires { ⌜ Within (now words) (row .0) ⌝ }
-    ensures { λ r. ⌜ r ≡ isNode symbol places (nodeIn (now (words .entry)) (row .0)) ⌝ }
-{
-    let a = rows::symbol_of(words, row);
-    let ps = rows::places_of(words, row);
-    (a == symbol)
-        & (ps[0] == places[0])
-        & (ps[1] == places[1])
-        & (ps[2] == places[2])
-        & (ps[3] == places[3])
-}
-
 // The slot of a symbol and four places: it holds the row that has them, or 0 where none has and one may be entered.
 // Most rows are alone in their bucket; the others are looked for below.
 pub fn seek(words: &[u32], used: u16, index: &[u16], symbol: u32, places: [u32; 4]) -> usize
@@ -141,7 +127,7 @@ fn below(
         if next == 0 {
             return slot;
         }
-        if row_meets(words, Row(next), symbol, places) {
+        if row_is(words, Row(next), symbol, places) {
             return slot;
         }
         let further = LINKS * next as usize + (way / KEY_BASE % KEY_BASE) as usize;
@@ -149,7 +135,7 @@ fn below(
         if at == 0 {
             return further;
         }
-        if row_meets(words, Row(at), symbol, places) {
+        if row_is(words, Row(at), symbol, places) {
             return further;
         }
         way = way / KEY_BASE / KEY_BASE;
