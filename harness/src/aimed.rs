@@ -2,7 +2,7 @@
 //!
 //! A walk in a tree goes by the digits of the first child, then by those of the second, third and last. Nodes against the trees
 //! have one row as first and as second child, and a third child whose number ends in as many binary zeros as can be. So their keys
-//! share 28 bits and more, nine digits in base 8, and as many rows are above each of them. But for a carry buckets add up: a row that puts a node into
+//! share 28 digits and more, and as many rows are above each of them. But for a carry buckets add up: a row that puts a node into
 //! a wanted bucket is found by the bucket that it has alone.
 
 use crate::index_model::bucket;

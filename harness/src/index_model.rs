@@ -7,11 +7,8 @@ use std::fmt;
 /// The multipliers of the symbol and of the four places.
 pub const MULTIPLIERS: [u64; 5] = [499994353, 314606869, 217645199, 443834137, 125640277];
 
-/// No search compares more rows, whatever the table holds (`crates/bank/proofs/Laws/Depth.antt`, `walks-short`).
-pub const MOST_COMPARED: usize = 22;
-
-/// The base of a key's digits: a row has as many links.
-pub const KEY_BASE: usize = 8;
+/// No search compares more rows, whatever the table holds (`crates/bank/proofs/Laws/Depth.antt`, `walk-short`).
+pub const MOST_COMPARED: usize = 63;
 
 /// The rooms that calls work in, as rows.
 pub const ROOMS: [usize; 4] = [384, 1_024, 2_048, 16_384];
@@ -24,7 +21,7 @@ pub fn bucket(buckets: usize, (symbol, places): Node) -> usize {
     ((sum % (1 << 31) * buckets as u64) >> 31) as usize
 }
 
-/// The key of a node. A walk goes by its digits in base 8, the lowest first.
+/// The key of a node. A walk goes by its binary digits, the lowest first.
 pub fn key((symbol, places): Node) -> u64 {
     let upper = symbol as u64 % 256;
     let digit = |upper: u64, &place: &u32| place as u64 % 16_384 + 16_384 * upper;
@@ -41,7 +38,7 @@ pub fn nodes(words: &[u32], used: u16) -> impl Iterator<Item = Node> + '_ {
 pub struct Index {
     room: usize,
     nodes: Vec<Node>,
-    /// Eight links for each row, and behind them the first row of each bucket; 0 for none.
+    /// Two links for each row, and behind them the first row of each bucket; 0 for none.
     slots: Vec<u16>,
 }
 
@@ -50,7 +47,7 @@ impl Index {
         let mut index = Index {
             room,
             nodes: vec![(255, [0; 4])],
-            slots: vec![0; (KEY_BASE + 2) * room],
+            slots: vec![0; 4 * room],
         };
         for node in nodes(words, used) {
             let (slot, _) = index.seek(node);
@@ -62,7 +59,7 @@ impl Index {
 
     /// Where the walk of a node ends, and how many rows it compares. Links lead to later rows, so that it ends.
     fn seek(&self, node: Node) -> (usize, usize) {
-        let mut slot = KEY_BASE * self.room + bucket(2 * self.room, node);
+        let mut slot = 2 * self.room + bucket(2 * self.room, node);
         let mut way = key(node);
         let mut compared = 0;
         while self.slots[slot] != 0 {
@@ -71,8 +68,8 @@ impl Index {
             if self.nodes[row] == node {
                 break;
             }
-            slot = KEY_BASE * row + (way % KEY_BASE as u64) as usize;
-            way /= KEY_BASE as u64;
+            slot = 2 * row + (way % 2) as usize;
+            way /= 2;
         }
         (slot, compared)
     }

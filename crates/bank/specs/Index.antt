@@ -1,35 +1,30 @@
--- The hash index over the used rows, in one slice: nine numbers a row, eight links and the place of its child with the hole; behind them the
--- heads of twice as many buckets as rows. The rows of a bucket are a digital search tree: a walk starts at the head and goes, at each row, along one
--- of its eight links, by the digits of a key in base 8. Links lead to later rows.
+-- The hash index over the used rows, in one slice: three numbers a row, two links and the place of its child with the hole; behind them the
+-- heads of twice as many buckets. The rows of a bucket are a digital search tree: a walk starts at the head and goes, at each row, along one of its
+-- two links, by the digits of a key in base 2. Links lead to later rows.
 use mathlib.Core.Path.{_≡_}
 use mathlib.Core.List.{List, [], _∷_}
 use Prim.Native.Nat.{ℕ, _+_, _*_, _/_, _%_, _≤_, _<_}
 use lib.ListN.{length, getD, set, drop}
-use lib.Seq.{sets}
 use Rattle.model.specs.Limits.{rowWidth, mostRows}
 use Rattle.model.specs.Store.{findFrom}
 use Rattle.model.specs.Entry.{nodesIn}
 use Rattle.bank.specs.Rows.{symbolIn, placesIn}
 
--- the base of a key's digits: a row has as many links
-abbrev pub keyBase : ℕ
-keyBase = 8
-
--- SLOTS: the rows that an index has room for, each with nine numbers and two buckets
+-- SLOTS: the rows that an index has room for, each with three numbers and two buckets
 abbrev pub indexWidth : ℕ
-indexWidth = 11
+indexWidth = 5
 
 abbrev pub sizeIn : (index : List ℕ) → ℕ
 sizeIn xs = length xs / indexWidth
 
 abbrev pub linkOf : (row bit : ℕ) → ℕ
-linkOf i b = 9 * i + b
+linkOf i b = 3 * i + b
 
 abbrev pub holeOf : (row : ℕ) → ℕ
-holeOf i = 9 * i + 8
+holeOf i = 3 * i + 2
 
 abbrev pub headOf : (size bucket : ℕ) → ℕ
-headOf z h = 9 * z + h
+headOf z h = 3 * z + h
 
 -- the most buckets that there may be
 abbrev pub mostBuckets : ℕ
@@ -51,7 +46,7 @@ headFor z a ps = headOf z (bucketFor (2 * z) a ps)
 -- A WALK from a slot along a key leads to a slot
 pub data Leads (index : List ℕ) (end : ℕ) : (slot key : ℕ) → Type 0 where
   here : {slot key : ℕ} → slot ≡ end → Leads index end slot key
-  on : {slot key : ℕ} → (getD index slot 0 ≡ 0 → ⊥) → Leads index end (linkOf (getD index slot 0) (key % keyBase)) (key / keyBase) → Leads index end slot key
+  on : {slot key : ℕ} → (getD index slot 0 ≡ 0 → ⊥) → Leads index end (linkOf (getD index slot 0) (key % 2)) (key / 2) → Leads index end slot key
 
 -- and meets a row there
 pub record Met (index : List ℕ) (slot key row : ℕ) : Type 0 where
@@ -62,13 +57,13 @@ pub record Met (index : List ℕ) (slot key row : ℕ) : Type 0 where
 -- the slots that walks lead to: heads, and links of the rows below n
 pub data Slot (size n slot : ℕ) : Type 0 where
   head : (h : ℕ) → h < 2 * size → slot ≡ headOf size h → Slot size n slot
-  link : (i b : ℕ) → 0 < i → i < n → b < keyBase → slot ≡ linkOf i b → Slot size n slot
+  link : (i b : ℕ) → 0 < i → i < n → b < 2 → slot ≡ linkOf i b → Slot size n slot
 
 -- rows 1 to n - 1 are in the trees of the buckets, each in one slot, and met by the walk of its own node
 pub record Treed (size : ℕ) (words : List ℕ) (n : ℕ) (index : List ℕ) : Type 0 where
   pub heads : (h : ℕ) → h < 2 * size → getD index (headOf size h) 0 < n
-  pub links : (i b : ℕ) → 0 < i → i < n → b < keyBase → getD index (linkOf i b) 0 < n
-  pub later : (i b : ℕ) → 0 < i → i < n → b < keyBase → (getD index (linkOf i b) 0 ≡ 0 → ⊥) → i < getD index (linkOf i b) 0
+  pub links : (i b : ℕ) → 0 < i → i < n → b < 2 → getD index (linkOf i b) 0 < n
+  pub later : (i b : ℕ) → 0 < i → i < n → b < 2 → (getD index (linkOf i b) 0 ≡ 0 → ⊥) → i < getD index (linkOf i b) 0
   pub single : (s t : ℕ) → Slot size n s → Slot size n t → (getD index s 0 ≡ 0 → ⊥) → getD index s 0 ≡ getD index t 0 → s ≡ t
   pub met : (i : ℕ) → 0 < i → i < n → Met index (headFor size (symbolIn words i) (placesIn words i)) (keyFor (symbolIn words i) (placesIn words i)) i
 
@@ -78,13 +73,13 @@ Indexed ws n xs = Treed (sizeIn xs) ws n xs
 -- A WAY from the head of a bucket to a slot, by the digits taken, the last first
 pub data Way (size : ℕ) (index : List ℕ) (bucket : ℕ) : (digits : List ℕ) → (slot : ℕ) → Type 0 where
   start : {slot : ℕ} → bucket < 2 * size → slot ≡ headOf size bucket → Way size index bucket [] slot
-  step : {digits : List ℕ} {slot : ℕ} (digit from : ℕ) → digit < keyBase → Way size index bucket digits from → (getD index from 0 ≡ 0 → ⊥) →
+  step : {digits : List ℕ} {slot : ℕ} (digit from : ℕ) → digit < 2 → Way size index bucket digits from → (getD index from 0 ≡ 0 → ⊥) →
       slot ≡ linkOf (getD index from 0) digit → Way size index bucket (digit ∷ digits) slot
 
--- NO WALK IS LONG: a row is at most 21 steps below the head of its bucket, so a search compares at most 22 rows
+-- NO WALK IS LONG: a row is at most 62 steps below the head of its bucket, so a search compares at most 63 rows
 abbrev pub ShortWalks : (index : List ℕ) → Type 0
 ShortWalks xs =
-    (bucket : ℕ) (digits : List ℕ) (slot : ℕ) → Way (sizeIn xs) xs bucket digits slot → (getD xs slot 0 ≡ 0 → ⊥) → length digits ≤ 21
+    (bucket : ℕ) (digits : List ℕ) (slot : ℕ) → Way (sizeIn xs) xs bucket digits slot → (getD xs slot 0 ≡ 0 → ⊥) → length digits ≤ 62
 
 -- no two of the rows 1 to n - 1 are equal in symbol and places
 abbrev pub NoTwins : (words : List ℕ) → (n : ℕ) → Type 0
@@ -118,9 +113,9 @@ pub record Seat (index : List ℕ) (symbol : ℕ) (places : List ℕ) (slot : �
 pub record Walk (words : List ℕ) (n : ℕ) (index : List ℕ) (symbol : ℕ) (places : List ℕ) (i key : ℕ) : Type 0 where
   pub some : 0 < i
   pub within : i < n
-  pub back : (e : ℕ) → Leads index e (linkOf i (key % keyBase)) (key / keyBase) → Leads index e (headFor (sizeIn index) symbol places) (keyFor symbol places)
-  pub left : (j : ℕ) → 0 < j → j < n → symbolIn words j ≡ symbol → placesIn words j ≡ places → Met index (linkOf i (key % keyBase)) (key / keyBase) j
+  pub back : (e : ℕ) → Leads index e (linkOf i (key % 2)) (key / 2) → Leads index e (headFor (sizeIn index) symbol places) (keyFor symbol places)
+  pub left : (j : ℕ) → 0 < j → j < n → symbolIn words j ≡ symbol → placesIn words j ≡ places → Met index (linkOf i (key % 2)) (key / 2) j
 
 -- a row entered at a slot: no rows below it yet, and the place of its hole beside its links
 abbrev pub entered : (index : List ℕ) → (slot row hole : ℕ) → List ℕ
-entered xs s i v = set (sets xs (linkOf i 0) (0 ∷ 0 ∷ 0 ∷ 0 ∷ 0 ∷ 0 ∷ 0 ∷ 0 ∷ v ∷ [])) s i
+entered xs s i v = set (set (set (set xs (linkOf i 0) 0) (linkOf i 1) 0) (holeOf i) v) s i

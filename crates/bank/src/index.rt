@@ -1,5 +1,5 @@
-// The hash index over the used rows, in one slice that the caller lends: for each row eight links and the place of its child with the hole,
-// behind them the heads of two buckets a row. The rows of a bucket are a digital search tree, so no contents make a walk longer than a key has digits.
+// The hash index over the used rows, in one slice that the caller lends: for each row two links and the place of its child with the hole,
+// behind them the heads of two buckets a row. The rows of a bucket are a digital search tree, so no contents make a walk longer than a key has bits.
 ghost use mathlib.Core.Path.{_≡_};
 ghost use Prim.Native.Nat.{_*_, _/_, _<_, _≤_};
 ghost use lib.ListN.{length, getD};
@@ -10,14 +10,11 @@ use crate::rows;
 use model::Row;
 use model::limits::MOST_ROWS;
 
-// Numbers of a row in the index: eight links and the place, plus one, of the child with the hole.
-pub const LINKS: usize = 9;
-
-// The base of a key's digits: a row has as many links.
-const KEY_BASE: u64 = 8;
+// Numbers of a row in the index: two links and the place, plus one, of the child with the hole.
+const LINKS: usize = 3;
 
 // Numbers of the index for each row that it has room for: those of the row, and the heads of two buckets.
-pub const INDEX_WIDTH: usize = 11;
+pub const INDEX_WIDTH: usize = 5;
 
 // A child place is a digit of a key.
 const BASE: u64 = MOST_ROWS as u64;
@@ -122,7 +119,7 @@ fn below(
     let mut at = first.0;
     let mut way = key(symbol, places);
     loop {
-        let slot = LINKS * at as usize + (way % KEY_BASE) as usize;
+        let slot = LINKS * at as usize + (way % 2) as usize;
         let next = index[slot];
         if next == 0 {
             return slot;
@@ -130,7 +127,7 @@ fn below(
         if row_is(words, Row(next), symbol, places) {
             return slot;
         }
-        let further = LINKS * next as usize + (way / KEY_BASE % KEY_BASE) as usize;
+        let further = LINKS * next as usize + (way / 2 % 2) as usize;
         at = index[further];
         if at == 0 {
             return further;
@@ -138,7 +135,7 @@ fn below(
         if row_is(words, Row(at), symbol, places) {
             return further;
         }
-        way = way / KEY_BASE / KEY_BASE;
+        way = way / 2 / 2;
     }
 }
 
@@ -175,13 +172,7 @@ pub fn enter(index: &mut [u16], slot: usize, row: Row, hole: u8)
     let i = LINKS * row.0 as usize;
     index[i] = 0;
     index[i + 1] = 0;
-    index[i + 2] = 0;
-    index[i + 3] = 0;
-    index[i + 4] = 0;
-    index[i + 5] = 0;
-    index[i + 6] = 0;
-    index[i + 7] = 0;
-    index[i + 8] = hole as u16;
+    index[i + 2] = hole as u16;
     index[slot] = row.0;
 }
 
@@ -191,5 +182,5 @@ pub fn hole_of(index: &[u16], row: Row) -> u16
     ensures { λ r. ⌜ r ≡ getD (now (index .entry)) (holeOf (row .0)) 0 ⌝ }
 {
     let i = LINKS * row.0 as usize;
-    index[i + 8]
+    index[i + 2]
 }

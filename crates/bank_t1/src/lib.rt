@@ -15,7 +15,6 @@ ghost use Rattle.bank.specs.Ready.{Ready};
 ghost use Rattle.bank_t1.specs.Pass.{Cleared, holeBy, unusedZero, kidsIn, rowSays, Reached, Begun, rowsPass, Marked};
 use bank::index;
 use bank::index::INDEX_WIDTH;
-use bank::index::LINKS;
 use bank::rows;
 use model::Row;
 use model::limits::HOLE_SYMBOL;
@@ -163,10 +162,10 @@ fn clear(index: &mut [u16])
     let size = index.len() / INDEX_WIDTH;
     let mut h = 0;
     while h < 2 * size {
-        index[LINKS * size + h] = 0;
+        index[3 * size + h] = 0;
         h += 1;
     }
-    index[LINKS - 1] = 0;
+    index[2] = 0;
 }
 
 // The rows 1 to used - 1, each held against T1 and then entered into the index.

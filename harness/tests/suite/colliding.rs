@@ -2,7 +2,7 @@
 
 use crate::compare;
 use harness::colliding::{Sort, ALL, FEW};
-use harness::index_model::{KEY_BASE, MULTIPLIERS, ROOMS};
+use harness::index_model::{MULTIPLIERS, ROOMS};
 use harness::lent::{Lent, ROWS_MAX, ROW_WORDS};
 use harness::random::{each_case, Random};
 
@@ -20,7 +20,6 @@ fn multipliers_are_those_of_bank() {
     assert!(index.contains("(x * size as u64 / 2147483648) as usize"));
     assert!(index.contains("bucket(2 * size, symbol, places)"));
     assert!(index.contains("places[0] as u64 % BASE + BASE * lower"));
-    assert!(index.contains(&format!("const KEY_BASE: u64 = {KEY_BASE};")));
 }
 
 /// The table passes, its rows are found, and a twin at its end is seen.

@@ -31,7 +31,7 @@ fn full_tables() {
         let room = ROOMS[case as usize];
         for [scattered, one_bucket, trees] in [FEW, ALL] {
             assert!(full(scattered, room).mean() < 1.4);
-            assert!(full(one_bucket, room).mean() > room.ilog2() as f64 / 3.0 + 1.0);
+            assert!(full(one_bucket, room).mean() > room.ilog2() as f64 - 2.0);
             full(trees, room);
         }
     });
@@ -41,9 +41,9 @@ fn full_tables() {
 #[test]
 fn long_walks() {
     let few = full(FEW[2], ROWS_MAX);
-    assert!(few.mean() > 14.0 && few.most >= 16);
+    assert!(few.mean() > 34.0 && few.most >= 44);
     let all = full(ALL[2], ROWS_MAX);
-    assert!(all.mean() > 16.0 && all.most >= 18);
+    assert!(all.mean() > 44.0 && all.most >= 49);
 }
 
 /// The walks of sound tables that are filled against the trees.
@@ -56,7 +56,7 @@ fn sound(name: &str, crowded: Crowded, aim: Aim) -> Walks {
 #[test]
 fn sound_tables() {
     let nothing = Crowded::over_leaves(1, 63, ROWS_MAX);
-    assert!(sound("nothing learnt", nothing, ALL[2].aim).mean() > 16.0);
+    assert!(sound("nothing learnt", nothing, ALL[2].aim).mean() > 44.0);
     each_case(49, 0..6, |case, _| {
         let (name, tables) = match case % 3 {
             0 => ("32, 256, 289", big::widest(4_000, 8_000)),
@@ -65,7 +65,7 @@ fn sound_tables() {
         };
         let (symbols, aim) = [(4, FEW[2].aim), (50, ALL[2].aim)][case as usize / 3];
         let crowded = Crowded::over(tables, symbols, ROWS_MAX);
-        assert!(sound(name, crowded, aim).mean() > 6.0);
+        assert!(sound(name, crowded, aim).mean() > 10.0);
     });
 }
 
@@ -77,5 +77,5 @@ fn filled_contexts() {
     let index = Index::of(ROWS_MAX, words, lists.used);
     let searches = index.searches(flat::filled(&tables));
     println!("contexts beside C, filled: {searches}");
-    assert!(searches.mean() > 9.0 && searches.most <= MOST_COMPARED);
+    assert!(searches.mean() > 25.0 && searches.most <= MOST_COMPARED);
 }

@@ -1,4 +1,4 @@
--- How long a walk gets: rows that fit T1 have different keys below 8 ^ 21, so a walk meets a row after at most 21 steps, whatever the table holds.
+-- How long a walk gets: rows that fit T1 have different keys below 2 ^ 62, so a walk meets a row after at most 62 steps, whatever the table holds.
 -- A row stands in one slot, to which one way leads; so the digits that a walk took to a row are those of the row's own key.
 use mathlib.Core.Path.{_≡_, refl, sym, ap, subst, _∙_}
 use mathlib.Core.Bool.{Bool, true, false}
@@ -15,19 +15,19 @@ use Rattle.model.specs.Store.{padded, kidsAt}
 use Rattle.model.specs.Facts.{Good}
 use Rattle.model.specs.Entry.{storeOf}
 use Rattle.bank.specs.Rows.{symbolIn, kidIn, placesIn}
-use Rattle.bank.specs.Index.{keyBase, linkOf, headOf, bucketFor, keyFor, Leads, here, on, Slot, head, link, Treed, NoTwins, Way, start, step, ShortWalks}
+use Rattle.bank.specs.Index.{linkOf, headOf, bucketFor, keyFor, Leads, here, on, Slot, head, link, Treed, NoTwins, Way, start, step, ShortWalks}
 use Rattle.bank.specs.Ready.{Ready}
 use Rattle.bank.proofs.Laws.Words.{used-of, symbol-in, places-in}
 use Rattle.bank.proofs.Laws.Trees.{by-equal, bucket-small, slot-below}
 
 -- DIGITS of a key: what is left of it after some steps, and those that were taken, the last first
-unfoldable pub rest : (steps key : ℕ) → ℕ
-rest zero k = k
-rest (suc d) k = rest d k / keyBase
+unfoldable pub halved : (steps key : ℕ) → ℕ
+halved zero k = k
+halved (suc d) k = halved d k / 2
 
 unfoldable pub taken : (steps key : ℕ) → List ℕ
 taken zero k = []
-taken (suc d) k = rest d k % keyBase ∷ taken d k
+taken (suc d) k = halved d k % 2 ∷ taken d k
 
 length-taken : (d k : ℕ) → length (taken d k) ≡ d
 unfolding taken
@@ -38,8 +38,8 @@ length-taken (suc d) k = ap suc (length-taken d k)
 tail-of : {a b : ℕ} {s t : List ℕ} → a ∷ s ≡ b ∷ t → (a ≡ b) × (s ≡ t)
 tail-of e = (cc, cc)
 
-key-back : (d k l : ℕ) → taken d k ≡ taken d l → rest d k ≡ rest d l → k ≡ l
-unfolding taken rest
+key-back : (d k l : ℕ) → taken d k ≡ taken d l → halved d k ≡ halved d l → k ≡ l
+unfolding taken halved
 key-back zero k l e h = h
 key-back (suc d) k l e h = let p = tail-of e in key-back d k l (p .1) (omega (arith, p .0))
 
@@ -65,16 +65,16 @@ module _ {z : ℕ} {ws : List ℕ} {n : ℕ} {xs : List ℕ} (x : Treed z ws n x
     pub steps : ℕ
     pub way : Way z xs h (taken steps k) e
 
-  walked : {h k e s l : ℕ} (d : ℕ) → Leads xs e s l → l ≡ rest d k → Way z xs h (taken d k) s → Ends h k e
-  unfolding taken rest
+  walked : {h k e s l : ℕ} (d : ℕ) → Leads xs e s l → l ≡ halved d k → Way z xs h (taken d k) s → Ends h k e
+  unfolding taken halved
   walked {h} {k} d (here p) q w = record { steps = d; way = subst (λ (t : ℕ). Way z xs h (taken d k) t) p w }
   walked {h} {k} d (on {slot = s} {key = l} nz m) q w =
-      walked (suc d) m (ap (λ (a : ℕ). a / keyBase) q)
-      (step (rest d k % keyBase) s (omega arith) w nz (ap (λ (a : ℕ). linkOf (getD xs s 0) (a % keyBase)) q))
+      walked (suc d) m (ap (λ (a : ℕ). a / 2) q)
+      (step (halved d k % 2) s (omega arith) w nz (ap (λ (a : ℕ). linkOf (getD xs s 0) (a % 2)) q))
 
   -- the digits of a way to a row are those of the row's key
   digits : {h : ℕ} {bs : List ℕ} {s : ℕ} → Way z xs h bs s → (getD xs s 0 ≡ 0 → ⊥) → bs ≡ taken (length bs) (keyFor (symbolIn ws (getD xs s 0)) (placesIn ws (getD xs s 0)))
-  unfolding taken rest
+  unfolding taken halved
   digits {h} {bs} {s} w nz =
       let r : ℕ = getD xs s 0 in
       let a : ℕ = symbolIn ws r in
@@ -92,25 +92,25 @@ pub record Small (ws : List ℕ) (n : ℕ) : Type 0 where
   pub symbols : (i : ℕ) → 0 < i → i < n → symbolIn ws i < 64
   pub kids : (i k : ℕ) → 0 < i → i < n → k < 4 → kidIn ws i k < mostRows
 
-rest-less : (d k m : ℕ) → k < keyBase ^ d * m → rest d k < m
-unfolding rest
-rest-less zero k m h = omega (arith, h, one-mul m)
-rest-less (suc d) k m h =
-    let e : keyBase ^ suc d * m ≡ keyBase ^ d * (keyBase * m) = ap (λ (p : ℕ). p * m) (pow-suc keyBase d) ∙ mul-assoc (keyBase ^ d) keyBase m in
-    let l = rest-less d k (keyBase * m) (subst (λ (p : ℕ). k < p) e h) in
+halved-less : (d k m : ℕ) → k < 2 ^ d * m → halved d k < m
+unfolding halved
+halved-less zero k m h = omega (arith, h, one-mul m)
+halved-less (suc d) k m h =
+    let e : 2 ^ suc d * m ≡ 2 ^ d * (2 * m) = ap (λ (p : ℕ). p * m) (pow-suc 2 d) ∙ mul-assoc (2 ^ d) 2 m in
+    let l = halved-less d k (2 * m) (subst (λ (p : ℕ). k < p) e h) in
     omega arith
 
-rest-on : (c d k : ℕ) → rest c k ≡ 0 → rest (c + d) k ≡ 0
-unfolding rest
-rest-on c zero k h = ap (λ (t : ℕ). rest t k) (add-zero c) ∙ h
-rest-on c (suc d) k h = let i = rest-on c d k h in ap (λ (t : ℕ). rest t k) (add-suc c d) ∙ ap (λ (t : ℕ). t / keyBase) i
+halved-on : (c d k : ℕ) → halved c k ≡ 0 → halved (c + d) k ≡ 0
+unfolding halved
+halved-on c zero k h = ap (λ (t : ℕ). halved t k) (add-zero c) ∙ h
+halved-on c (suc d) k h = let i = halved-on c d k h in ap (λ (t : ℕ). halved t k) (add-suc c d) ∙ ap (λ (t : ℕ). t / 2) i
 
-key-ends : (d a : ℕ) (ps : List ℕ) → a < 64 → 21 ≤ d → rest d (keyFor a ps) ≡ 0
+key-ends : (d a : ℕ) (ps : List ℕ) → a < 64 → 62 ≤ d → halved d (keyFor a ps) ≡ 0
 unfolding keyFor
 key-ends d a ps l m =
-    let b = rest-less 21 (keyFor a ps) 1 (omega arith) in
-    let e : 21 + (d - 21) ≡ d = omega arith in
-    subst (λ (t : ℕ). rest t (keyFor a ps) ≡ 0) e (rest-on 21 (d - 21) (keyFor a ps) (omega arith))
+    let b = halved-less 62 (keyFor a ps) 1 (omega arith) in
+    let e : 62 + (d - 62) ≡ d = omega arith in
+    subst (λ (t : ℕ). halved t (keyFor a ps) ≡ 0) e (halved-on 62 (d - 62) (keyFor a ps) (omega arith))
 
 -- one key, one node: digit by digit
 digit-same : (a b s t : ℕ) → a < mostRows → b < mostRows → a % mostRows + mostRows * s ≡ b % mostRows + mostRows * t → (a ≡ b) × (s ≡ t)
@@ -127,12 +127,12 @@ key-tells ws n i j s y l z m e =
     let f : symbolIn ws i ≡ symbolIn ws j = omega (arith, t .1, s .symbols i y l, s .symbols j z m) in
     (f, λ k. p .0 k ∷ q .0 k ∷ r .0 k ∷ t .0 k ∷ [])
 
--- THE BOUND: a way to a row has at most 21 steps
+-- THE BOUND: a way to a row has at most 62 steps
 pub way-short : {z : ℕ} {ws : List ℕ} {n : ℕ} {xs : List ℕ} → Treed z ws n xs → n ≤ z → NoTwins ws n → Small ws n →
-    {h : ℕ} {bs : List ℕ} {s : ℕ} → Way z xs h bs s → (getD xs s 0 ≡ 0 → ⊥) → length bs ≤ 21
+    {h : ℕ} {bs : List ℕ} {s : ℕ} → Way z xs h bs s → (getD xs s 0 ≡ 0 → ⊥) → length bs ≤ 62
 unfolding taken
 way-short x room t small (start l e) nz = omega arith
-way-short {z} {ws} {n} {xs} x room t small {s = s} (step {digits = bs} b u c w ny e) nz = go (ltb (length bs) 21) refl
+way-short {z} {ws} {n} {xs} x room t small {s = s} (step {digits = bs} b u c w ny e) nz = go (ltb (length bs) 62) refl
   where
     some : 0 < getD xs u 0
     some = by-equal (getD xs u 0) 0 (λ p. absurd (ny p)) (λ p. omega arith)
@@ -148,7 +148,7 @@ way-short {z} {ws} {n} {xs} x room t small {s = s} (step {digits = bs} b u c w n
         let v : getD xs s 0 ≡ getD xs (linkOf (getD xs u 0) b) 0 = ap (λ (k : ℕ). getD xs k 0) e in
         subst (λ (k : ℕ). getD xs u 0 < k) (sym v) (x .later (getD xs u 0) b some low c (λ p. nz (v ∙ p)))
 
-    twins : 21 ≤ length bs → ⊥
+    twins : 62 ≤ length bs → ⊥
     twins m =
         let d : ℕ = length bs in
         let ki : ℕ = keyFor (symbolIn ws (getD xs u 0)) (placesIn ws (getD xs u 0)) in
@@ -161,9 +161,9 @@ way-short {z} {ws} {n} {xs} x room t small {s = s} (step {digits = bs} b u c w n
         let o = key-tells ws n (getD xs u 0) (getD xs s 0) small some low (omega (arith, later)) high (key-back d ki kj r (f ∙ sym g)) in
         t (getD xs u 0) (getD xs s 0) some later high (o .0) (o .1)
 
-    go : (v : Bool) → ltb (length bs) 21 ≡ v → length (b ∷ bs) ≤ 21
-    go true p = let l = ltb-true (length bs) 21 p in omega arith
-    go false p = absurd (twins (ltb-false (length bs) 21 p))
+    go : (v : Bool) → ltb (length bs) 62 ≡ v → length (b ∷ bs) ≤ 62
+    go true p = let l = ltb-true (length bs) 62 p in omega arith
+    go false p = absurd (twins (ltb-false (length bs) 62 p))
 
 -- OVER A TABLE that is ready: children are earlier rows, and unused places 0
 zeros : (c k : ℕ) → _≡_ {A = ℕ} (getD (replicate c 0) k 0) 0

@@ -2,17 +2,17 @@
 -- A walk looks at links alone, so it is kept where no link that it follows changes; and a row that a walk has passed is not what is asked for.
 use mathlib.Core.Path.{_≡_, refl, sym, ap, subst, _∙_}
 use mathlib.Core.Bool.{Bool, true, false}
-use mathlib.Core.List.{List, [], _∷_, _++_}
-use Prim.Native.Nat.{ℕ, zero, suc, _+_, _*_, _/_, _%_, _≤_, _<_}
+use mathlib.Core.List.{List}
+use Prim.Native.Nat.{ℕ, _+_, _*_, _/_, _%_, _≤_, _<_}
 use native.Mathlib.Nat.{mul-lt-mul-of-pos-right}
 use native.Mathlib.Omega.{arith}
 use lib.Dec.{eqb}
 use borrow.Author.Tests.{eqb-true, eqb-false}
-use lib.ListN.{length, getD, set, replicate, length-set}
-use lib.Seq.{sets, getD-set-same, getD-set-other, length-sets, lt-length-sets}
+use lib.ListN.{length, getD, set, length-set}
+use lib.Seq.{getD-set-same, getD-set-other}
 use Rattle.model.specs.Limits.{rowWidth, mostRows}
 use Rattle.bank.specs.Rows.{symbolIn, placesIn, Within}
-use Rattle.bank.specs.Index.{keyBase, indexWidth, sizeIn, linkOf, holeOf, headOf, headFor, bucketFor, keyFor, Leads, here, on, Met, Slot, head, link, Treed, Indexed, NoTwins, Roomy, Finding, findIn, Seat, Walk, entered}
+use Rattle.bank.specs.Index.{sizeIn, linkOf, holeOf, headOf, headFor, bucketFor, keyFor, Leads, here, on, Met, Slot, head, link, Treed, Indexed, NoTwins, Roomy, Finding, findIn, Seat, Walk, entered}
 use Rattle.bank.proofs.Laws.Words.{SameRows, symbol-kept, places-kept}
 use Rattle.bank.proofs.Laws.Finding.{absent-in, find-none, find-is}
 
@@ -55,8 +55,8 @@ module _ {z : ℕ} {ws : List ℕ} {n : ℕ} {xs : List ℕ} (x : Treed z ws n x
   slot-below (head h l e) = rw e (x .heads h l)
   slot-below (link r b p l c e) = rw e (x .links r b p l c)
 
-  pub slot-next : {s : ℕ} → Slot z n s → (getD xs s 0 ≡ 0 → ⊥) → (k : ℕ) → Slot z n (linkOf (getD xs s 0) (k % keyBase))
-  slot-next {s} q nz k = link (getD xs s 0) (k % keyBase) (by-equal (getD xs s 0) 0 (λ e. absurd (nz e)) (λ e. omega arith)) (slot-below q) (omega arith) refl
+  pub slot-next : {s : ℕ} → Slot z n s → (getD xs s 0 ≡ 0 → ⊥) → (k : ℕ) → Slot z n (linkOf (getD xs s 0) (k % 2))
+  slot-next {s} q nz k = link (getD xs s 0) (k % 2) (by-equal (getD xs s 0) 0 (λ e. absurd (nz e)) (λ e. omega arith)) (slot-below q) (omega arith) refl
 
   pub slot-end : {e s k : ℕ} → Leads xs e s k → Slot z n s → Slot z n e
   slot-end (here p) q = subst (λ (t : ℕ). Slot z n t) p q
@@ -87,76 +87,47 @@ finding-kept {ws} {n} vs f s l =
           (sym (places-kept ws vs n s i (omega arith)) ∙ q ∙ places-kept ws vs n s j k);
     }
 
--- A RUN OF NUMBERS stored from a place on: what is read at one of its places, and away from them
-run-off : (vs l : List ℕ) (k t : ℕ) → (k ≤ t → t < k + length vs → ⊥) → getD (sets l k vs) t 0 ≡ getD l t 0
-run-off [] l k t h = refl
-run-off (a ∷ vs) l k t h =
-    run-off vs (set l k a) (suc k) t (λ p q. h (omega arith) (omega arith)) ∙ getD-set-other l k t a 0 (λ e. h (omega arith) (omega arith))
-
-run-at : (vs l : List ℕ) (k b : ℕ) → b < length vs → k + length vs ≤ length l → getD (sets l k vs) (k + b) 0 ≡ getD vs b 0
-run-at [] l k b c h = absurd (omega arith)
-run-at (a ∷ vs) l k zero c h =
-    let e : k + 0 ≡ k = omega arith in
-    ap (λ (t : ℕ). getD (sets (set l k a) (suc k) vs) t 0) e ∙ run-off vs (set l k a) (suc k) k (λ p q. omega arith) ∙ getD-set-same l k a 0 (omega arith)
-run-at (a ∷ vs) l k (suc b) c h =
-    let e : k + suc b ≡ suc k + b = omega arith in
-    ap (λ (t : ℕ). getD (sets (set l k a) (suc k) vs) t 0) e ∙ run-at vs (set l k a) (suc k) b (omega arith) (simp length-set (omega arith))
-
-front-zero : (c v b : ℕ) → b < c → getD (replicate c 0 ++ v ∷ []) b 0 ≡ 0
-front-zero zero v b h = absurd (omega arith)
-front-zero (suc c) v zero h = refl
-front-zero (suc c) v (suc b) h = front-zero c v b (omega arith)
-
--- ONE ROW MORE, where its own walk ends: eight links to no row, and the place of the hole
-abbrev fresh : ℕ → List ℕ
-fresh v = 0 ∷ 0 ∷ 0 ∷ 0 ∷ 0 ∷ 0 ∷ 0 ∷ 0 ∷ v ∷ []
-
+-- ONE ROW MORE, where its own walk ends
 pub length-entered : (xs : List ℕ) (s i v : ℕ) → length (entered xs s i v) ≡ length xs
-length-entered xs s i v = length-set (sets xs (linkOf i 0) (fresh v)) s i ∙ length-sets xs (linkOf i 0) (fresh v)
-
--- as the numbers are written one after the other
-pub row-written : (xs : List ℕ) (s i v : ℕ) →
-    set (set (set (set (set (set (set (set (set (set xs (9 * i) 0) (9 * i + 1) 0) (9 * i + 2) 0) (9 * i + 3) 0) (9 * i + 4) 0) (9 * i + 5) 0) (9 * i + 6) 0) (9 * i + 7) 0) (9 * i + 8) v) s i ≡
-    entered xs s i v
-row-written xs s i v =
-    let m : ℕ = 9 * i in
-    let e₀ : m ≡ m + 0 = omega arith in
-    let e₁ : m + 1 ≡ suc (m + 0) = omega arith in
-    let e₂ : m + 2 ≡ suc (suc (m + 0)) = omega arith in
-    let e₃ : m + 3 ≡ suc (suc (suc (m + 0))) = omega arith in
-    let e₄ : m + 4 ≡ suc (suc (suc (suc (m + 0)))) = omega arith in
-    let e₅ : m + 5 ≡ suc (suc (suc (suc (suc (m + 0))))) = omega arith in
-    let e₆ : m + 6 ≡ suc (suc (suc (suc (suc (suc (m + 0)))))) = omega arith in
-    let e₇ : m + 7 ≡ suc (suc (suc (suc (suc (suc (suc (m + 0))))))) = omega arith in
-    let e₈ : m + 8 ≡ suc (suc (suc (suc (suc (suc (suc (suc (m + 0)))))))) = omega arith in
-    λ t. set (set (set (set (set (set (set (set (set (set xs (e₀ t) 0) (e₁ t) 0) (e₂ t) 0) (e₃ t) 0) (e₄ t) 0) (e₅ t) 0) (e₆ t) 0) (e₇ t) 0) (e₈ t) v) s i
+length-entered xs s i v = simp length-set
 
 module _ (xs : List ℕ) (s i v : ℕ) where
-  abbrev row-set : List ℕ
-  row-set = sets xs (linkOf i 0) (fresh v)
-
-  -- away from the row's nine numbers and the slot nothing changes
-  pub entered-off : (t : ℕ) → (linkOf i 0 ≤ t → t ≤ holeOf i → ⊥) → (t ≡ s → ⊥) → getD (entered xs s i v) t 0 ≡ getD xs t 0
-  entered-off t a d =
-      getD-set-other row-set s t i 0 d ∙ run-off (fresh v) xs (linkOf i 0) t (λ p q. a p (omega arith))
+  -- away from the row's three numbers and the slot nothing changes
+  pub entered-off : (t : ℕ) → (t ≡ linkOf i 0 → ⊥) → (t ≡ linkOf i 1 → ⊥) → (t ≡ holeOf i → ⊥) → (t ≡ s → ⊥) → getD (entered xs s i v) t 0 ≡ getD xs t 0
+  entered-off t a b c d =
+      getD-set-other (set (set (set xs (linkOf i 0) 0) (linkOf i 1) 0) (holeOf i) v) s t i 0 d ∙
+      getD-set-other (set (set xs (linkOf i 0) 0) (linkOf i 1) 0) (holeOf i) t v 0 c ∙
+      getD-set-other (set xs (linkOf i 0) 0) (linkOf i 1) t 0 0 b ∙ getD-set-other xs (linkOf i 0) t 0 0 a
 
   pub entered-at : (t : ℕ) → t ≡ s → s < length xs → getD (entered xs s i v) t 0 ≡ i
-  entered-at t e l = rw e (getD-set-same row-set s i 0 (lt-length-sets xs (linkOf i 0) (fresh v) l))
-
-  -- one of the row's numbers, where the slot is another
-  own : (b : ℕ) → b < 9 → (s ≡ linkOf i b → ⊥) → holeOf i < length xs → getD (entered xs s i v) (linkOf i b) 0 ≡ getD (fresh v) b 0
-  own b c d l =
-      let e : linkOf i b ≡ linkOf i 0 + b = omega arith in
-      getD-set-other row-set s (linkOf i b) i 0 (λ p. d (sym p)) ∙ ap (λ (t : ℕ). getD row-set t 0) e ∙
-      run-at (fresh v) xs (linkOf i 0) b c (omega arith)
+  entered-at t e l =
+      rw e (getD-set-same (set (set (set xs (linkOf i 0) 0) (linkOf i 1) 0) (holeOf i) v) s i 0 (simp length-set l))
 
   pub entered-hole : (s ≡ holeOf i → ⊥) → holeOf i < length xs → getD (entered xs s i v) (holeOf i) 0 ≡ v
-  entered-hole d l = own 8 (omega arith) d l
+  entered-hole d l =
+      getD-set-other (set (set (set xs (linkOf i 0) 0) (linkOf i 1) 0) (holeOf i) v) s (holeOf i) i 0 (λ e. d (sym e)) ∙
+      getD-set-same (set (set xs (linkOf i 0) 0) (linkOf i 1) 0) (holeOf i) v 0 (simp length-set l)
 
-  pub entered-link : (b : ℕ) → b < keyBase → (s ≡ linkOf i b → ⊥) → holeOf i < length xs → getD (entered xs s i v) (linkOf i b) 0 ≡ 0
-  entered-link b c d l = own b (omega arith) d l ∙ front-zero keyBase v b c
+  entered-link0 : (s ≡ linkOf i 0 → ⊥) → linkOf i 0 < length xs → getD (entered xs s i v) (linkOf i 0) 0 ≡ 0
+  entered-link0 d l =
+      getD-set-other (set (set (set xs (linkOf i 0) 0) (linkOf i 1) 0) (holeOf i) v) s (linkOf i 0) i 0 (λ e. d (sym e)) ∙
+      getD-set-other (set (set xs (linkOf i 0) 0) (linkOf i 1) 0) (holeOf i) (linkOf i 0) v 0 (λ e. omega arith) ∙
+      getD-set-other (set xs (linkOf i 0) 0) (linkOf i 1) (linkOf i 0) 0 0 (λ e. omega arith) ∙
+      getD-set-same xs (linkOf i 0) 0 0 l
 
-module _ (z : ℕ) (ws xs : List ℕ) (i s v : ℕ) (x : Treed z ws i xs) (some : 0 < i) (room : i < z) (long : indexWidth * z ≤ length xs)
+  entered-link1 : (s ≡ linkOf i 1 → ⊥) → linkOf i 1 < length xs → getD (entered xs s i v) (linkOf i 1) 0 ≡ 0
+  entered-link1 d l =
+      getD-set-other (set (set (set xs (linkOf i 0) 0) (linkOf i 1) 0) (holeOf i) v) s (linkOf i 1) i 0 (λ e. d (sym e)) ∙
+      getD-set-other (set (set xs (linkOf i 0) 0) (linkOf i 1) 0) (holeOf i) (linkOf i 1) v 0 (λ e. omega arith) ∙
+      getD-set-same (set xs (linkOf i 0) 0) (linkOf i 1) 0 0 (simp length-set l)
+
+  pub entered-link : (b : ℕ) → b < 2 → (s ≡ linkOf i b → ⊥) → linkOf i b < length xs → getD (entered xs s i v) (linkOf i b) 0 ≡ 0
+  entered-link b c d l =
+      by-equal b 0
+      (λ e. subst (λ (k : ℕ). getD (entered xs s i v) (linkOf i k) 0 ≡ 0) (sym e) (entered-link0 (λ p. d (omega arith)) (omega arith)))
+      (λ e. let f : b ≡ 1 = omega arith in subst (λ (k : ℕ). getD (entered xs s i v) (linkOf i k) 0 ≡ 0) (sym f) (entered-link1 (λ p. d (omega arith)) (omega arith)))
+
+module _ (z : ℕ) (ws xs : List ℕ) (i s v : ℕ) (x : Treed z ws i xs) (some : 0 < i) (room : i < z) (long : 5 * z ≤ length xs)
     (seat : Leads xs s (headFor z (symbolIn ws i) (placesIn ws i)) (keyFor (symbolIn ws i) (placesIn ws i))) (free : getD xs s 0 ≡ 0) where
   ys : List ℕ
   ys = entered xs s i v
@@ -171,15 +142,15 @@ module _ (z : ℕ) (ws xs : List ℕ) (i s v : ℕ) (x : Treed z ws i xs) (some 
   same : {t : ℕ} → Slot z i t → (getD xs t 0 ≡ 0 → ⊥) → getD ys t 0 ≡ getD xs t 0
   unfolding ys
   same {t} (head h l e) nz =
-      entered-off xs s i v t (λ p o. omega arith) (λ p. nz (ap (λ (k : ℕ). getD xs k 0) p ∙ free))
+      entered-off xs s i v t (λ p. omega arith) (λ p. omega arith) (λ p. omega arith) (λ p. nz (ap (λ (k : ℕ). getD xs k 0) p ∙ free))
   same {t} (link r b p l c e) nz =
-      entered-off xs s i v t (λ p o. omega arith) (λ p. nz (ap (λ (k : ℕ). getD xs k 0) p ∙ free))
+      entered-off xs s i v t (λ p. omega arith) (λ p. omega arith) (λ p. omega arith) (λ p. nz (ap (λ (k : ℕ). getD xs k 0) p ∙ free))
 
   leads-kept : {e t k : ℕ} → Leads xs e t k → Slot z i t → Leads ys e t k
   leads-kept (here p) q = here p
   leads-kept {e} (on {slot = t} {key = k} nz l) q =
       on (λ p. nz (sym (same q nz) ∙ p))
-      (subst (λ (r : ℕ). Leads ys e (linkOf r (k % keyBase)) (k / keyBase)) (sym (same q nz)) (leads-kept l (slot-next x q nz k)))
+      (subst (λ (r : ℕ). Leads ys e (linkOf r (k % 2)) (k / 2)) (sym (same q nz)) (leads-kept l (slot-next x q nz k)))
 
   within : s < length xs
   within = slot-within slot
@@ -188,7 +159,7 @@ module _ (z : ℕ) (ws xs : List ℕ) (i s v : ℕ) (x : Treed z ws i xs) (some 
       slot-within (head h l e) = omega arith
       slot-within (link r b p l c e) = omega arith
 
-  not-own : (b : ℕ) → b < 9 → s ≡ linkOf i b → ⊥
+  not-own : (b : ℕ) → b < 3 → s ≡ 3 * i + b → ⊥
   not-own b c e = go slot
     where
       go : Slot z i s → ⊥
@@ -212,7 +183,7 @@ module _ (z : ℕ) (ws xs : List ℕ) (i s v : ℕ) (x : Treed z ws i xs) (some 
   other-below : {t : ℕ} → Slot z (i + 1) t → (t ≡ s → ⊥) → getD ys t 0 < i
   unfolding ys
   other-below {t} (head h l e) d =
-      omega (arith, entered-off xs s i v t (λ p o. omega arith) d, ap (λ (k : ℕ). getD xs k 0) e, x .heads h l)
+      omega (arith, entered-off xs s i v t (λ p. omega arith) (λ p. omega arith) (λ p. omega arith) d, ap (λ (k : ℕ). getD xs k 0) e, x .heads h l)
   other-below {t} (link r b p l c e) d =
       by-equal r i
       (λ f. omega (
@@ -220,16 +191,16 @@ module _ (z : ℕ) (ws xs : List ℕ) (i s v : ℕ) (x : Treed z ws i xs) (some 
         subst (λ (k : ℕ). getD (entered xs s i v) k 0 ≡ 0) (let g : linkOf i b ≡ t = omega arith in g)
             (entered-link xs s i v b c (λ g. d (omega arith)) (omega arith)),
       ))
-      (λ f. omega (arith, entered-off xs s i v t (λ g o. omega arith) d, ap (λ (k : ℕ). getD xs k 0) e, x .links r b p (omega arith) c))
+      (λ f. omega (arith, entered-off xs s i v t (λ g. omega arith) (λ g. omega arith) (λ g. omega arith) d, ap (λ (k : ℕ). getD xs k 0) e, x .links r b p (omega arith) c))
 
   old-slot : {t : ℕ} → Slot z (i + 1) t → (t ≡ s → ⊥) → (getD ys t 0 ≡ 0 → ⊥) → Slot z i t × (getD ys t 0 ≡ getD xs t 0)
   unfolding ys
-  old-slot {t} (head h l e) d nz = (head h l e, entered-off xs s i v t (λ p o. omega arith) d)
+  old-slot {t} (head h l e) d nz = (head h l e, entered-off xs s i v t (λ p. omega arith) (λ p. omega arith) (λ p. omega arith) d)
   old-slot {t} (link r b p l c e) d nz =
       by-equal r i
       (λ f. absurd (nz (subst (λ (k : ℕ). getD (entered xs s i v) k 0 ≡ 0) (let g : linkOf i b ≡ t = omega arith in g)
       (entered-link xs s i v b c (λ g. d (omega arith)) (omega arith)))))
-      (λ f. (link r b p (omega arith) c e, entered-off xs s i v t (λ g o. omega arith) d))
+      (λ f. (link r b p (omega arith) c e, entered-off xs s i v t (λ g. omega arith) (λ g. omega arith) (λ g. omega arith) d))
 
   single-more : (t u : ℕ) → Slot z (i + 1) t → Slot z (i + 1) u → (getD ys t 0 ≡ 0 → ⊥) → getD ys t 0 ≡ getD ys u 0 → t ≡ u
   unfolding ys
@@ -246,15 +217,15 @@ module _ (z : ℕ) (ws xs : List ℕ) (i s v : ℕ) (x : Treed z ws i xs) (some 
   treed-more =
       record {
         heads = λ h l. by-equal (headOf z h) s (λ e. omega (arith, entered-at xs s i v (headOf z h) e within))
-            (λ e. omega (arith, entered-off xs s i v (headOf z h) (λ p o. omega arith) e, x .heads h l));
+            (λ e. omega (arith, entered-off xs s i v (headOf z h) (λ p. omega arith) (λ p. omega arith) (λ p. omega arith) e, x .heads h l));
         links = λ r b p l c. by-equal r i
             (λ e. subst (λ (k : ℕ). getD (entered xs s i v) (linkOf k b) 0 < i + 1) (sym e) (omega (arith, entered-link xs s i v b c (not-own b (omega arith)) (omega arith))))
             (λ e. by-equal (linkOf r b) s (λ f. omega (arith, entered-at xs s i v (linkOf r b) f within))
-            (λ f. omega (arith, entered-off xs s i v (linkOf r b) (λ g o. omega arith) f, x .links r b p (omega arith) c)));
+            (λ f. omega (arith, entered-off xs s i v (linkOf r b) (λ g. omega arith) (λ g. omega arith) (λ g. omega arith) f, x .links r b p (omega arith) c)));
         later = λ r b p l c nz. by-equal r i
             (λ e. absurd (nz (subst (λ (k : ℕ). getD (entered xs s i v) (linkOf k b) 0 ≡ 0) (sym e) (entered-link xs s i v b c (not-own b (omega arith)) (omega arith)))))
             (λ e. by-equal (linkOf r b) s (λ f. omega (arith, entered-at xs s i v (linkOf r b) f within))
-            (λ f. let o = entered-off xs s i v (linkOf r b) (λ g h. omega arith) f in
+            (λ f. let o = entered-off xs s i v (linkOf r b) (λ g. omega arith) (λ g. omega arith) (λ g. omega arith) f in
             omega (arith, o, x .later r b p (omega arith) c (λ g. nz (o ∙ g)))));
         single = single-more;
         met = λ j p l. by-equal j i
@@ -263,19 +234,19 @@ module _ (z : ℕ) (ws xs : List ℕ) (i s v : ℕ) (x : Treed z ws i xs) (some 
       }
 
   pub holes-kept : (j : ℕ) → j < i → getD (entered xs s i v) (holeOf j) 0 ≡ getD xs (holeOf j) 0
-  holes-kept j l = entered-off xs s i v (holeOf j) (λ p o. omega arith) (λ p. go slot p)
+  holes-kept j l = entered-off xs s i v (holeOf j) (λ p. omega arith) (λ p. omega arith) (λ p. omega arith) (λ p. go slot p)
     where
       go : Slot z i s → holeOf j ≡ s → ⊥
       go (head h k p) q = omega arith
       go (link r d y k f p) q = omega arith
 
   pub hole-entered : getD (entered xs s i v) (holeOf i) 0 ≡ v
-  hole-entered = entered-hole xs s i v (not-own 8 (omega arith)) (omega arith)
+  hole-entered = entered-hole xs s i v (not-own 2 (omega arith)) (omega arith)
 
 pub indexed-more : (ws xs : List ℕ) (i s v : ℕ) → Indexed ws i xs → 0 < i → i < sizeIn xs → Seat xs (symbolIn ws i) (placesIn ws i) s → getD xs s 0 ≡ 0 →
     Indexed ws (i + 1) (entered xs s i v)
 indexed-more ws xs i s v x some room seat free =
-    subst (λ (z : ℕ). Treed z ws (i + 1) (entered xs s i v)) (ap (λ (l : ℕ). l / indexWidth) (sym (length-entered xs s i v)))
+    subst (λ (z : ℕ). Treed z ws (i + 1) (entered xs s i v)) (ap (λ (l : ℕ). l / 5) (sym (length-entered xs s i v)))
     (treed-more (sizeIn xs) ws xs i s v x some room (omega arith) (seat .leads) free)
 
 -- with row n unlike the earlier ones there are still no twins
@@ -299,7 +270,7 @@ finding-more {ws} {n} {xs} s v f l w seat holds none =
     }
 
 -- one step: a row that is not at the slot is met beyond it
-beyond : {xs : List ℕ} {e s k j : ℕ} → Leads xs e s k → getD xs e 0 ≡ j → (getD xs s 0 ≡ j → ⊥) → Met xs (linkOf (getD xs s 0) (k % keyBase)) (k / keyBase) j
+beyond : {xs : List ℕ} {e s k j : ℕ} → Leads xs e s k → getD xs e 0 ≡ j → (getD xs s 0 ≡ j → ⊥) → Met xs (linkOf (getD xs s 0) (k % 2)) (k / 2) j
 beyond {xs} (here p) h other = absurd (other (ap (λ (t : ℕ). getD xs t 0) p ∙ h))
 beyond {e = e} (on nz l) h other = record { end = e; leads = l; holds = h }
 
@@ -364,21 +335,21 @@ module _ {ws : List ℕ} {n : ℕ} {xs : List ℕ} (f : Finding ws n xs) (a : �
 
   -- THE ROWS BELOW
   module _ (i k : ℕ) (w : Walk ws n xs a ps i k) where
-    link-slot : Slot (sizeIn xs) n (linkOf i (k % keyBase))
-    link-slot = link i (k % keyBase) (w .some) (w .within) (omega arith) refl
+    link-slot : Slot (sizeIn xs) n (linkOf i (k % 2))
+    link-slot = link i (k % 2) (w .some) (w .within) (omega arith) refl
 
-    pub link-below : getD xs (linkOf i (k % keyBase)) 0 < n
+    pub link-below : getD xs (linkOf i (k % 2)) 0 < n
     link-below = slot-below (f .indexed) link-slot
 
-    pub link-later : (getD xs (linkOf i (k % keyBase)) 0 ≡ 0 → ⊥) → i < getD xs (linkOf i (k % keyBase)) 0
-    link-later nz = f .indexed .later i (k % keyBase) (w .some) (w .within) (omega arith) nz
+    pub link-later : (getD xs (linkOf i (k % 2)) 0 ≡ 0 → ⊥) → i < getD xs (linkOf i (k % 2)) 0
+    link-later nz = f .indexed .later i (k % 2) (w .some) (w .within) (omega arith) nz
 
-    pub link-seat : Seat xs a ps (linkOf i (k % keyBase))
-    link-seat = record { within = omega (arith, w .within, f .room, f .roomy .long); leads = w .back (linkOf i (k % keyBase)) (here refl) }
+    pub link-seat : Seat xs a ps (linkOf i (k % 2))
+    link-seat = record { within = omega (arith, w .within, f .room, f .roomy .long); leads = w .back (linkOf i (k % 2)) (here refl) }
 
-    pub link-none : getD xs (linkOf i (k % keyBase)) 0 ≡ 0 → getD xs (linkOf i (k % keyBase)) 0 ≡ findIn ws n a ps
-    link-none z = none-at (linkOf i (k % keyBase)) (k / keyBase) (w .left) z
+    pub link-none : getD xs (linkOf i (k % 2)) 0 ≡ 0 → getD xs (linkOf i (k % 2)) 0 ≡ findIn ws n a ps
+    link-none z = none-at (linkOf i (k % 2)) (k / 2) (w .left) z
 
-    pub goes-on : (getD xs (linkOf i (k % keyBase)) 0 ≡ 0 → ⊥) →
-        (symbolIn ws (getD xs (linkOf i (k % keyBase)) 0) ≡ a → placesIn ws (getD xs (linkOf i (k % keyBase)) 0) ≡ ps → ⊥) → Walk ws n xs a ps (getD xs (linkOf i (k % keyBase)) 0) (k / keyBase)
-    goes-on nz other = step-on (linkOf i (k % keyBase)) (k / keyBase) link-slot nz (w .back) (w .left) other
+    pub goes-on : (getD xs (linkOf i (k % 2)) 0 ≡ 0 → ⊥) →
+        (symbolIn ws (getD xs (linkOf i (k % 2)) 0) ≡ a → placesIn ws (getD xs (linkOf i (k % 2)) 0) ≡ ps → ⊥) → Walk ws n xs a ps (getD xs (linkOf i (k % 2)) 0) (k / 2)
+    goes-on nz other = step-on (linkOf i (k % 2)) (k / 2) link-slot nz (w .back) (w .left) other

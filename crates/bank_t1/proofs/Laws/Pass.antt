@@ -18,7 +18,7 @@ use Rattle.model.proofs.Laws.FirstRows.{nodes-first}
 use Rattle.model.proofs.Laws.ReflectRows.{counts-at, hole-of}
 use Rattle.model.proofs.Laws.Tests.{both-true}
 use Rattle.bank.specs.Rows.{symbolIn, answerIn, placesIn, nodeIn}
-use Rattle.bank.specs.Index.{indexWidth, sizeIn, headOf, holeOf, Roomy, Finding, findIn, Seat, entered}
+use Rattle.bank.specs.Index.{sizeIn, headOf, Roomy, Finding, findIn, Seat, entered}
 use Rattle.bank.specs.Ready.{placeCode}
 use Rattle.bank_t1.specs.Pass.{Cleared, Reached, Begun, rowSays, rowsPass, Marked}
 use Rattle.bank_t1.specs.declared.Kids.{Kids}
@@ -35,12 +35,12 @@ pub cleared-more : (xs : List ℕ) (z h : ℕ) → headOf z h < length xs → ((
 cleared-more xs z h l m g u =
     by-equal g h (λ e. rw e (getD-set-same xs (headOf z h) 0 0 l)) (λ e. getD-set-other xs (headOf z h) (headOf z g) 0 0 (λ p. e (omega arith)) ∙ m g (omega arith))
 
-pub cleared : (xs ys : List ℕ) → length ys ≡ length xs → 0 < sizeIn xs → ((h : ℕ) → h < 2 * sizeIn xs → getD ys (headOf (sizeIn xs) h) 0 ≡ 0) → Cleared (set ys (holeOf 0) 0)
+pub cleared : (xs ys : List ℕ) → length ys ≡ length xs → 0 < sizeIn xs → ((h : ℕ) → h < 2 * sizeIn xs → getD ys (headOf (sizeIn xs) h) 0 ≡ 0) → Cleared (set ys 2 0)
 cleared xs ys l s z =
-    let e : sizeIn (set ys (holeOf 0) 0) ≡ sizeIn xs = ap (λ (k : ℕ). k / indexWidth) (length-set ys (holeOf 0) 0 ∙ l) in
+    let e : sizeIn (set ys 2 0) ≡ sizeIn xs = ap (λ (k : ℕ). k / 5) (length-set ys 2 0 ∙ l) in
     record {
-      empty = λ h u. subst (λ (m : ℕ). getD (set ys (holeOf 0) 0) (headOf m h) 0 ≡ 0) (sym e) (getD-set-other ys (holeOf 0) (headOf (sizeIn xs) h) 0 0 (λ p. omega arith) ∙ z h (omega (arith, e)));
-      unmarked = getD-set-same ys (holeOf 0) 0 0 (omega arith);
+      empty = λ h u. subst (λ (m : ℕ). getD (set ys 2 0) (headOf m h) 0 ≡ 0) (sym e) (getD-set-other ys 2 (headOf (sizeIn xs) h) 0 0 (λ p. omega arith) ∙ z h (omega (arith, e)));
+      unmarked = getD-set-same ys 2 0 0 (omega arith);
     }
 
 -- THE INVARIANT before row i

@@ -4,7 +4,7 @@ use Prim.Native.Nat.{ℕ, _*_, _≤_, _<_, _-_, _/_}
 use native.Mathlib.Omega.{arith}
 use borrow.Author.Needs.{needs}
 use lib.ListN.{length, getD, length-set}
-use Rattle.bank.specs.Index.{sizeIn, headOf}
+use Rattle.bank.specs.Index.{headOf}
 use Rattle.bank_t1.proofs.Laws.Pass.{cleared-more, cleared}
 use Rattle.bank_t1.proofs.clear.Statement.{statement}
 use Rattle.bank_t1.proofs.clear.Tie as tie
@@ -44,14 +44,8 @@ loop-again c =
     let s = c .before .loop in (
       omega arith,
       simp length-set (s .inv .1),
-      cleared-more (s .index) (sizeIn (c .before .before .args .index .now)) (s .h) (omega arith) (s .inv .2),
+      cleared-more (s .index) (length (c .before .before .args .index .now) / 5) (s .h) (omega arith) (s .inv .2),
     )
-
-sub-index : tie.Need-sub-index Inv-loop μ-loop
-sub-index c = search needs
-
-mul-index-3 : tie.Need-mul-index-3 Inv-loop μ-loop
-mul-index-3 c = search needs
 
 slice-write-index-2 : tie.Need-slice-write-index-2 Inv-loop μ-loop
 slice-write-index-2 c = search needs
@@ -77,8 +71,6 @@ clear-spec =
     add-h
     loop-less
     loop-again
-    sub-index
-    mul-index-3
     slice-write-index-2
     same-length
     returns)

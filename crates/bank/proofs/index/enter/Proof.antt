@@ -1,8 +1,9 @@
--- `bank::index::enter` meets its contract: ten numbers are set, one after the other, those of the row as a run.
+-- `bank::index::enter` meets its contract: four numbers are set, one after the other.
+use mathlib.Core.Path.{_≡_, ap}
+use Prim.Native.Nat.{ℕ, _+_, _*_}
 use native.Mathlib.Omega.{arith}
-use lib.ListN.{length-set}
+use lib.ListN.{set, length-set}
 use borrow.Author.Needs.{needs}
-use Rattle.bank.proofs.Laws.Trees.{row-written}
 use Rattle.bank.proofs.index.enter.Statement.{statement}
 use Rattle.bank.proofs.index.enter.Tie as tie
 
@@ -36,73 +37,20 @@ mul-index-3 c = search needs
 slice-write-index-3 : tie.Need-slice-write-index-3
 slice-write-index-3 c = simp length-set (omega arith)
 
-add-index-3 : tie.Need-add-index-3
-add-index-3 c = search needs
-
 mul-index-4 : tie.Need-mul-index-4
 mul-index-4 c = search needs
 
 slice-write-index-4 : tie.Need-slice-write-index-4
-slice-write-index-4 c = simp length-set (omega arith)
-
-add-index-4 : tie.Need-add-index-4
-add-index-4 c = search needs
-
-mul-index-5 : tie.Need-mul-index-5
-mul-index-5 c = search needs
-
-slice-write-index-5 : tie.Need-slice-write-index-5
-slice-write-index-5 c = simp length-set (omega arith)
-
-add-index-5 : tie.Need-add-index-5
-add-index-5 c = search needs
-
-mul-index-6 : tie.Need-mul-index-6
-mul-index-6 c = search needs
-
-slice-write-index-6 : tie.Need-slice-write-index-6
-slice-write-index-6 c = simp length-set (omega arith)
-
-add-index-6 : tie.Need-add-index-6
-add-index-6 c = search needs
-
-mul-index-7 : tie.Need-mul-index-7
-mul-index-7 c = search needs
-
-slice-write-index-7 : tie.Need-slice-write-index-7
-slice-write-index-7 c = simp length-set (omega arith)
-
-add-index-7 : tie.Need-add-index-7
-add-index-7 c = search needs
-
-mul-index-8 : tie.Need-mul-index-8
-mul-index-8 c = search needs
-
-slice-write-index-8 : tie.Need-slice-write-index-8
-slice-write-index-8 c = simp length-set (omega arith)
-
-add-index-8 : tie.Need-add-index-8
-add-index-8 c = search needs
-
-mul-index-9 : tie.Need-mul-index-9
-mul-index-9 c = search needs
-
-slice-write-index-9 : tie.Need-slice-write-index-9
-slice-write-index-9 c = simp length-set (omega arith)
-
-mul-index-10 : tie.Need-mul-index-10
-mul-index-10 c = search needs
-
-slice-write-index-10 : tie.Need-slice-write-index-10
-slice-write-index-10 c = simp length-set (omega arith)
+slice-write-index-4 c = search needs
 
 same-length : tie.Need-same-length
-same-length c = simp length-set
+same-length c = search needs
 
 returns : tie.Need-returns
 returns c =
     let a = c .before .args in
-    row-written (a .index .now) (a .slot) (a .row .0) (a .hole)
+    let e : 3 * a .row .0 ≡ 3 * a .row .0 + 0 = omega arith in
+    ap (λ (k : ℕ). set (set (set (set (a .index .now) k 0) (3 * a .row .0 + 1) 0) (3 * a .row .0 + 2) (a .hole)) (a .slot) (a .row .0)) e
 
 pub enter-spec : {M : Type 1} → statement M
 enter-spec =
@@ -118,25 +66,7 @@ enter-spec =
     add-index-2
     mul-index-3
     slice-write-index-3
-    add-index-3
     mul-index-4
     slice-write-index-4
-    add-index-4
-    mul-index-5
-    slice-write-index-5
-    add-index-5
-    mul-index-6
-    slice-write-index-6
-    add-index-6
-    mul-index-7
-    slice-write-index-7
-    add-index-7
-    mul-index-8
-    slice-write-index-8
-    add-index-8
-    mul-index-9
-    slice-write-index-9
-    mul-index-10
-    slice-write-index-10
     same-length
     returns)
