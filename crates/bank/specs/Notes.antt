@@ -1,8 +1,9 @@
 -- The notes of a call: one slice of four numbers a row, in four columns. The first has the representatives of the transitions;
 -- the others have what one loop at a time writes down.
 use mathlib.Core.List.{List}
-use Prim.Native.Nat.{ℕ, _*_, _/_}
+use Prim.Native.Nat.{ℕ, _*_, _/_, _≤_}
 use lib.ListN.{length, take, drop}
+use Rattle.model.specs.Limits.{rowWidth}
 
 abbrev pub noteWidth : ℕ
 noteWidth = 4
@@ -10,6 +11,10 @@ noteWidth = 4
 -- the rows that notes have room for
 abbrev pub roomIn : (notes : List ℕ) → ℕ
 roomIn ns = length ns / noteWidth
+
+-- room for all rows lent
+abbrev pub NotesFor : (words notes : List ℕ) → Type 0
+NotesFor ws ns = length ws ≤ rowWidth * roomIn ns
 
 -- a column: a number for each of these rows
 abbrev pub columnIn : (notes : List ℕ) → (k : ℕ) → List ℕ

@@ -5,13 +5,13 @@ use mathlib.Core.Bool.{cond}
 use mathlib.Core.List.{List}
 use Prim.Native.Nat.{ℕ, suc, _+_, _*_, _≤_, _<_}
 use lib.ListN.{length, getD, take}
-use Rattle.model.specs.Limits.{rowWidth, mostRows}
+use Rattle.model.specs.Limits.{rowWidth}
 use Rattle.model.specs.Store.{Store, padded, used, hasHole, Built, full, built}
 use Rattle.model.specs.Facts.{RowAsked, Fits}
-use Rattle.model.specs.Entry.{storeOf, rowsLent}
+use Rattle.model.specs.Entry.{storeOf}
 use Rattle.bank.specs.Rows.{withRow, Within}
-use Rattle.bank.specs.Index.{Finding, findIn, Seat, entered}
-use Rattle.bank.specs.Ready.{placeCode, Ready, pathOf, withRows, Kept}
+use Rattle.bank.specs.Index.{findIn, Seat, entered}
+use Rattle.bank.specs.Bank.{placeCode, Bank, pathOf, withRows, Kept}
 use Rattle.bank_t1.specs.Pass.{holeBy}
 use Rattle.bank_fill.specs.declared.add.Grown.{Grown}
 
@@ -21,7 +21,7 @@ grownRow j n = Grown.At (record { 0 = j }) n
 
 abbrev pub Came : (words counts : List ℕ) → (n : ℕ) → Built → Grown → (words' index' : List ℕ) → Type 0
 Came ws ns n full r ws' xs' = (r ≡ Grown.Full) × Kept ws n ws'
-Came ws ns n (built j y) r ws' xs' = (r ≡ grownRow j (used y)) × (ws' ≡ withRows ws n y) × Ready ws' ns (used y) xs'
+Came ws ns n (built j y) r ws' xs' = (r ≡ grownRow j (used y)) × (ws' ≡ withRows ws n y) × Bank ws' ns (used y) xs'
 
 -- the children among four places
 abbrev pub kidsOf : (counts : List ℕ) → (symbol : ℕ) → (places : List ℕ) → List ℕ
@@ -33,11 +33,6 @@ pub record PlacesAsked (x : Store) (symbol : ℕ) (places : List ℕ) (hole : �
   pub asked : RowAsked x symbol (kidsOf (x .counts) symbol places)
   pub unused : places ≡ padded (kidsOf (x .counts) symbol places)
   pub hole-place : hole ≡ placeCode (hasHole x) (kidsOf (x .counts) symbol places)
-
--- what of Ready no alphabet enters
-pub record Lent (words : List ℕ) (n : ℕ) (index : List ℕ) : Type 0 where
-  pub lent : rowsLent words ≤ mostRows
-  pub finding : Finding words n index
 
 -- the place, plus one, of a child with a hole; 0 for a child without
 abbrev pub holeAbove : (index : List ℕ) → (kid place : ℕ) → ℕ
@@ -57,7 +52,7 @@ pub record Under (condition : (counts : List ℕ) → Type 0) : Type 0 where
 
 -- FRAMES ASKED to be filled with a row: at least one from a row down, each around a child
 pub record FramesAsked (words counts : List ℕ) (n : ℕ) (index places : List ℕ) (row with : ℕ) : Type 0 where
-  pub ready : Ready words counts n index
+  pub bank : Bank words counts n index
   pub places-long : n ≤ length places
   pub row-used : row < n
   pub with-used : with < n

@@ -7,8 +7,8 @@ ghost use Rattle.model.specs.Store.{rowFor, fill as fillOf};
 ghost use Rattle.model.specs.Facts.{Fits};
 ghost use Rattle.model.specs.Entry.{storeOf};
 ghost use Rattle.bank.specs.Rows.{symbolIn, placesIn};
-ghost use Rattle.bank.specs.Ready.{Ready, pathOf};
-ghost use Rattle.bank_fill.specs.Adding.{Came, PlacesAsked, kidsOf, Lent, holeAbove, Put, Under, FramesAsked};
+ghost use Rattle.bank.specs.Bank.{Bank, Lent, pathOf};
+ghost use Rattle.bank_fill.specs.Adding.{Came, PlacesAsked, kidsOf, holeAbove, Put, Under, FramesAsked};
 use bank::index;
 use bank::rows;
 use model::Row;
@@ -30,7 +30,7 @@ pub fn row_for(
     places: [u32; 4],
     hole: u8,
 ) -> Grown
-    requires { ⌜ Ready (now words) (now counts) used (now index)
+    requires { ⌜ Bank (now words) (now counts) used (now index)
         × PlacesAsked (storeOf (now words) (now counts) used) symbol places hole ⌝ }
     ensures { λ r.
         let x = storeOf (now (words .entry)) (now (counts .entry)) used in
@@ -76,7 +76,7 @@ pub fn fill(
     with: Row,
 ) -> Grown
     requires { let x = storeOf (now words) (now counts) used in
-        ⌜ Ready (now words) (now counts) used (now index)
+        ⌜ Bank (now words) (now counts) used (now index)
         × (used ≤ length (now down))
         × (row .0 < used)
         × (with .0 < used)

@@ -6,7 +6,7 @@ ghost use lib.ListN.{length, getD};
 ghost use Rattle.model.specs.Store.{hasHole, framesOf, fill as fillOf};
 ghost use Rattle.model.specs.Entry.{storeOf};
 ghost use Rattle.bank.specs.Index.{sizeIn, holeOf};
-ghost use Rattle.bank.specs.Ready.{Ready};
+ghost use Rattle.bank.specs.Bank.{Bank};
 ghost use Rattle.bank_fill.specs.Adding.{Came};
 use crate::add;
 use crate::add::Grown;
@@ -36,7 +36,7 @@ pub fn fill_context(
     with: Row,
     down: &mut [u16],
 ) -> Grown
-    requires { ⌜ Ready (now words) (now counts) used (now index)
+    requires { ⌜ Bank (now words) (now counts) used (now index)
         × (context .0 < used)
         × (hasHole (storeOf (now words) (now counts) used) (context .0) ≡ true)
         × (with .0 < used)

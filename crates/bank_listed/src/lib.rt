@@ -1,4 +1,4 @@
-// bank: records listed by their symbols: what is wrong with one, and the row that it has or gets (§3.4, §4.4).
+// bank: records listed by their symbols: what is wrong with one, the row that it has or gets, and its size (§3.4, §4.4, §8.5).
 ghost use mathlib.Core.Path.{_≡_};
 ghost use mathlib.Core.List.{[]};
 ghost use Prim.Native.Nat.{_≤_};
@@ -9,7 +9,7 @@ ghost use Rattle.model.specs.Store.{padded};
 ghost use Rattle.model.specs.Terms.{recordFault, storeFrom, knownRow};
 ghost use Rattle.model.specs.Facts.{Parses};
 ghost use Rattle.model.specs.Entry.{storeOf};
-ghost use Rattle.bank.specs.Ready.{Ready};
+ghost use Rattle.bank.specs.Bank.{Bank};
 ghost use Rattle.bank_fill.specs.Adding.{Came};
 ghost use Rattle.bank_listed.specs.Listed.{stackOf};
 use bank::index;
@@ -17,6 +17,8 @@ use bank_fill::add;
 use bank_fill::add::Grown;
 use model::Row;
 use model::limits::MOST_LISTED;
+
+pub mod sizes; // sizes.rt: the size of a row's unfolded record, counted up to 1,025 and never by unfolding
 
 // The fault of a listed record: 11, 12, then 13 or 14 at the first symbol at fault, 15 (§5.1); 0 for none.
 pub fn record_fault(counts: &[u8], symbols: &[u8]) -> u8
@@ -80,7 +82,7 @@ pub fn store(
     index: &mut [u16],
     symbols: &[u8],
 ) -> Grown
-    requires { ⌜ Ready (now words) (now counts) used (now index)
+    requires { ⌜ Bank (now words) (now counts) used (now index)
         × Parses (now counts) 0 (now symbols)
         × (length (now symbols) ≤ mostListed) ⌝ }
     ensures { λ r.
@@ -115,7 +117,7 @@ pub fn store(
 
 // The row of a listed record where it stands already; row 0 for none.
 pub fn known_row(words: &[u32], counts: &[u8], used: u16, index: &[u16], symbols: &[u8]) -> Row
-    requires { ⌜ Ready (now words) (now counts) used (now index)
+    requires { ⌜ Bank (now words) (now counts) used (now index)
         × Parses (now counts) 0 (now symbols)
         × (length (now symbols) ≤ mostListed) ⌝ }
     ensures { λ r. ⌜ r .0 ≡ knownRow (storeOf (now (words .entry)) (now (counts .entry)) used) (now (symbols .entry)) ⌝ }

@@ -13,7 +13,7 @@ use Rattle.model.specs.Entry.{storeOf, answersIn}
 use Rattle.model.specs.Sound.{alphabetFits, isHole, nodeFits, answerFits, rowsFit}
 use Rattle.bank.specs.Rows.{answerIn, placesIn, nodeIn}
 use Rattle.bank.specs.Index.{sizeIn, headOf, holeOf, Finding}
-use Rattle.bank.specs.Ready.{placeCode, Holed}
+use Rattle.bank.specs.Bank.{placeCode, Holed}
 use Rattle.bank_t1.specs.declared.Kids.{Kids}
 
 -- an index with no row in it yet: all heads empty, and no hole among row 0's children

@@ -7,39 +7,19 @@ ghost use Prim.Native.Nat.{_+_, _*_, _<_, _≤_};
 ghost use lib.ListN.{length, getD};
 ghost use Rattle.model.specs.Limits.{mostRows};
 ghost use Rattle.model.specs.Table.{tables};
-ghost use Rattle.model.specs.Sound.{isT1, alphabetFits, isHole};
+ghost use Rattle.model.specs.Sound.{isT1, isHole};
 ghost use Rattle.model.specs.Entry.{storeOf, answersIn, sizeFits};
 ghost use Rattle.bank.specs.Rows.{symbolIn, answerIn, placesIn, nodeIn, Within};
 ghost use Rattle.bank.specs.Index.{sizeIn, Roomy, Finding, findIn, Seat};
-ghost use Rattle.bank.specs.Ready.{Ready};
+ghost use Rattle.bank.specs.Bank.{Bank};
 ghost use Rattle.bank_t1.specs.Pass.{Cleared, holeBy, unusedZero, kidsIn, rowSays, Reached, Begun, rowsPass, Marked};
 use bank::index;
 use bank::index::INDEX_WIDTH;
 use bank::rows;
 use model::Row;
 use model::limits::HOLE_SYMBOL;
-use model::limits::MOST_SYMBOLS;
 use model::limits::ROW_WIDTH;
-
-// Whether the alphabet is within its limits.
-pub fn alphabet_fits(counts: &[u8]) -> bool
-    ensures { λ r. ⌜ r ≡ alphabetFits (now (counts .entry)) ⌝ }
-{
-    if counts.len() == 0 {
-        return false;
-    }
-    if MOST_SYMBOLS < counts.len() {
-        return false;
-    }
-    let mut a = 0;
-    while a < counts.len() {
-        if 4 < counts[a] {
-            return false;
-        }
-        a += 1;
-    }
-    true
-}
+use run_lists::fit;
 
 // Whether row 0 is the hole, unanswered.
 fn is_hole(words: &[u32]) -> bool
@@ -198,9 +178,9 @@ pub fn t1(words: &[u32], counts: &[u8], used: u16, index: &mut [u16]) -> bool
     ensures { λ r.
         let x = storeOf (now (words .entry)) (now (counts .entry)) used in
         ⌜ r ≡ isT1 (tables x (answersIn used (now (words .entry))) [] [] [] 0 0 false) ⌝ }
-    ensures ready { λ r. ⌜ (r ≡ true → Ready (now (words .entry)) (now (counts .entry)) used (now (index .exit))) ⌝ }
+    ensures bank { λ r. ⌜ (r ≡ true → Bank (now (words .entry)) (now (counts .entry)) used (now (index .exit))) ⌝ }
 {
-    if !alphabet_fits(counts) {
+    if !fit::alphabet_fits(counts) {
         return false;
     }
     if used == 0 {

@@ -1,24 +1,19 @@
-// call: start, by value, and what the calls return and tell (§3.2, §3.3).
+// call: start, by value; what refuses every call, and what calls return and tell (§3.2, §3.3, §5.3).
 // Start leaves row 0 the hole and the lists of a run that has learnt nothing; 18 and 17 refuse it.
 ghost use mathlib.Core.Path.{_≡_};
 ghost use mathlib.Core.Bool.{true};
 ghost use mathlib.Core.List.{List};
-ghost use Prim.Native.Nat.{ℕ, _≤_};
-ghost use lib.ListN.{length};
-ghost use Rattle.model.specs.Limits.{mostSymbols};
-ghost use Rattle.model.specs.Base.{over};
-ghost use Rattle.model.specs.Calls.{started, look as lookOf};
-ghost use Rattle.model.specs.Entry.{zeroLists, listsFit, listsOf, tablesOf, seenOf, refused};
+ghost use Prim.Native.Nat.{ℕ};
+ghost use Rattle.model.specs.Calls.{look as lookOf};
+ghost use Rattle.model.specs.Entry.{listsFit, lentFault, tablesOf, seenOf, refused};
 ghost use Rattle.call.specs.Calls.{StartAs};
 use bank::rows;
 use model::Lists;
 use model::Row;
 use model::Seen;
 use model::limits::HOLE_SYMBOL;
-use model::limits::MOST_CONTEXTS;
-use model::limits::MOST_RULES;
-use model::limits::MOST_STATES;
-use model::limits::MOST_SYMBOLS;
+use run_lists::change;
+use run_lists::fit;
 
 pub mod ladder; // ladder.rt: how long the arrays are that a call works in
 
@@ -28,14 +23,47 @@ pub struct Done {
     pub lists: Lists,
 }
 
+// What the archive said: an answer to the open question, or its mark for the record offered.
+pub enum Said {
+    Answer(u8),
+    Offer(u8),
+}
+
+// A refusal: its number and nothing else.
+pub fn refusal(number: u8) -> Seen
+    ensures { λ r. ⌜ r ≡ refused number ⌝ }
+{
+    Seen {
+        number: number,
+        phase: 0,
+        row: 0,
+        states: 0,
+        rules: 0,
+        contexts: 0,
+    }
+}
+
 // A refusal: its number, and the lists as they were.
 pub fn refuse(number: u8, lists: Lists) -> Done
     ensures { λ r. ⌜ (r .seen ≡ refused number) × (r .lists ≡ lists) ⌝ }
 {
     Done {
-        seen: sound_parts::refusal(number),
+        seen: refusal(number),
         lists: lists,
     }
+}
+
+// What refuses any call on a run before its tables are looked at: 18, then 30 for lists that do not fit; 0 for neither.
+pub fn lent_fault(words: &[u32], lists: Lists) -> u8
+    ensures { λ r. ⌜ r ≡ lentFault (now (words .entry)) lists ⌝ }
+{
+    if !rows::size_fits(words) {
+        return 18;
+    }
+    if !fit::lists_fit(lists) {
+        return 30;
+    }
+    0
 }
 
 // What looking tells of lists that are within their arrays, whatever the words are.
@@ -60,49 +88,14 @@ pub fn told(lists: Lists) -> Seen
     }
 }
 
-// The alphabet at the front of an array, zeros behind it.
-fn spread(counts: &[u8]) -> [u8; MOST_SYMBOLS]
-    requires { ⌜ length (now counts) ≤ mostSymbols ⌝ }
-    ensures { λ r. ⌜ r ≡ over (now (counts .entry)) (zeroLists .counts) ⌝ }
-{
-    let mut wide = [0u8; MOST_SYMBOLS];
-    let mut a = 0;
-    while a < counts.len() {
-        wide[a] = counts[a];
-        a += 1;
-    }
-    wide
-}
-
-// The lists of a run that has learnt nothing: row 0 is used, C is the hole.
-fn fresh(counts: &[u8]) -> Lists
-    requires { ⌜ length (now counts) ≤ mostSymbols ⌝ }
-    ensures { λ r. ⌜ r ≡ listsOf zeroLists (started 1 (now (counts .entry))) ⌝ }
-{
-    Lists {
-        letters: counts.len() as u8,
-        counts: spread(counts),
-        accepted: 0,
-        used: 1,
-        states: 0,
-        s: [0; MOST_STATES],
-        rules: 0,
-        t: [0; MOST_RULES],
-        contexts: 1,
-        c: [0; MOST_CONTEXTS],
-        hand: 0,
-        asked: 0,
-    }
-}
-
 // Start: 18, 17; the other rows stay.
 pub fn start(words: &mut [u32], lists: Lists, counts: &[u8]) -> Done
     ensures { λ r. ⌜ StartAs (now (words .entry)) (now (counts .entry)) lists r (now (words .exit)) ⌝ }
 {
-    if !sound_parts::size_fits(words) {
+    if !rows::size_fits(words) {
         return refuse(18, lists);
     }
-    if !bank_t1::alphabet_fits(counts) {
+    if !fit::alphabet_fits(counts) {
         return refuse(17, lists);
     }
     rows::write_row(words, Row(0), HOLE_SYMBOL, [0, 0, 0, 0]);
@@ -115,6 +108,6 @@ pub fn start(words: &mut [u32], lists: Lists, counts: &[u8]) -> Done
             rules: 0,
             contexts: 1,
         },
-        lists: fresh(counts),
+        lists: change::fresh(counts),
     }
 }

@@ -8,8 +8,7 @@ use lib.ListN.{length, getD, drop}
 use Rattle.model.specs.Limits.{mostRules}
 use Rattle.model.specs.Base.{In, Each, over}
 use Rattle.model.specs.Store.{Store, used, kidsAt}
-use Rattle.model.specs.Automata.{Automaton}
-use Rattle.model.specs.Listing.{emitted}
+use Rattle.model.specs.Listing.{Sheet, emitted}
 use Rattle.model.specs.declared.Emitted.{Emitted}
 use Rattle.bank.specs.Rows.{answerIn}
 use Rattle.table_verdict.specs.Rules.{ruleBy}
@@ -37,10 +36,10 @@ pub record SixAt (flat : List ℕ) (at : ℕ) (bytes after : List ℕ) : Type 0 
   pub here : (j : ℕ) → j < ruleWidth → getD after (at + j) 0 ≡ getD bytes j 0
   pub before : (j : ℕ) → j < at → getD after j 0 ≡ getD flat j 0
 
--- the list of an automaton put into an output: 20 and nothing where it does not fit
-abbrev pub listedSeen : Automaton → (out : List ℕ) → Emitted
+-- the list of a sheet put into an output: 20 and nothing where it does not fit
+abbrev pub listedSeen : Sheet → (out : List ℕ) → Emitted
 listedSeen a o =
     cond (leb (length (emitted a)) (length o)) (record { number = 0; size = length (emitted a) }) (record { number = 20; size = 0 })
 
-abbrev pub listedOut : Automaton → (out : List ℕ) → List ℕ
+abbrev pub listedOut : Sheet → (out : List ℕ) → List ℕ
 listedOut a o = cond (leb (length (emitted a)) (length o)) (over (emitted a) o) o

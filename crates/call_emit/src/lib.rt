@@ -10,9 +10,9 @@ ghost use Rattle.model.specs.Table.{finalsOf};
 ghost use Rattle.model.specs.Sound.{isSound};
 ghost use Rattle.model.specs.Entry.{storeOf, answersIn, sizeFits, listsFit, tablesOf, emitSeen, emitOut};
 ghost use Rattle.bank.specs.Rows.{Within};
-ghost use Rattle.table_verdict.specs.Rows.{RowsIn};
+ghost use Rattle.bank.specs.Bank.{Stored};
 ghost use Rattle.table_verdict.specs.Rules.{ruleBy, Ruled};
-ghost use Rattle.list.specs.Flat.{flatRule, flatAutomaton, Short, ruleWidth};
+ghost use Rattle.list.specs.Flat.{flatRule, flatSheet, Short, ruleWidth};
 ghost use Rattle.sound.specs.Proposal.{Proposal};
 ghost use Rattle.call_emit.specs.Proposal.{finalByte, Transition, Flat, SixAt, listedSeen, listedOut};
 use bank::rows;
@@ -72,7 +72,7 @@ fn rule_bytes(
     row: Row,
 ) -> [u8; list::RULE_WIDTH]
     requires { let x = storeOf (now words) (now counts) used in
-        ⌜ RowsIn (now words) (now counts) used
+        ⌜ Stored (now words) (now counts) used
         × (length (now s) ≤ mostStates)
         × (used ≤ length (now reps))
         × Transition x (now s) (now reps) (row .0) ⌝ }
@@ -121,7 +121,7 @@ fn write_rules(
     flat: &mut [u8; list::RULE_WIDTH * MOST_RULES],
 )
     requires { let x = storeOf (now words) (now counts) used in
-        ⌜ RowsIn (now words) (now counts) used
+        ⌜ Stored (now words) (now counts) used
         × Ruled x (now s) (now t) (now reps)
         × (length (now t) ≤ mostRules)
         × (length (now flat) ≡ ruleWidth * mostRules) ⌝ }
@@ -152,10 +152,10 @@ pub fn refuse(number: u32) -> Emitted
 fn write_listed(counts: &[u8], finals: &[u8], rules: &[u8], out: &mut [u8]) -> Emitted
     requires { ⌜ Short (now counts) (now finals) (now rules) ⌝ }
     ensures { λ r.
-        let a = flatAutomaton (now (counts .entry)) (now (finals .entry)) (now (rules .entry)) in
+        let a = flatSheet (now (counts .entry)) (now (finals .entry)) (now (rules .entry)) in
         ⌜ r ≡ listedSeen a (now (out .entry)) ⌝ }
     ensures bytes { λ r.
-        let a = flatAutomaton (now (counts .entry)) (now (finals .entry)) (now (rules .entry)) in
+        let a = flatSheet (now (counts .entry)) (now (finals .entry)) (now (rules .entry)) in
         ⌜ now (out .exit) ≡ listedOut a (now (out .entry)) ⌝ }
 {
     let size = list::list_size(counts, finals, rules);

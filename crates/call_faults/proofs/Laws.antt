@@ -1,1 +1,2 @@
 pub mod OfferLines
+pub mod AnswerLines

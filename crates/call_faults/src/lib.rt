@@ -1,14 +1,18 @@
-// call: the lines that refuse an offer to sound tables: 31, 11 to 16, 32, 33, the first that applies (§5.3).
+// call: the lines that refuse an answer or an offer to sound tables: 31, 11 to 16, 32, 33, the first that applies (§5.3).
 ghost use mathlib.Core.Path.{_≡_};
 ghost use mathlib.Core.Bool.{true};
-ghost use Rattle.model.specs.Calls.{offerFault, verdictIs};
+ghost use Rattle.model.specs.Calls.{offerFault, faultOf, verdictIs};
 ghost use Rattle.model.specs.Entry.{listsFit, tablesOf};
-ghost use Rattle.bank.specs.Ready.{Ready};
+ghost use Rattle.bank.specs.Bank.{Bank};
 ghost use Rattle.run_lists.specs.Members.{countsIn};
 ghost use Rattle.sound.specs.Proposal.{Proposal};
+ghost use Rattle.call.specs.Said.{callOf};
 ghost use Rattle.call_faults.specs.Lines.{InputFault, Tested};
 use bank::rows;
+use call::Said;
 use model::Lists;
+
+mod answer; // answer.rt: the lines that refuse an answer
 
 // The number of the first line that refuses an offer without a look at the tables, 31 or 11 to 16; 0 for none.
 fn input_fault(lists: Lists, symbols: &[u8], mark: u8) -> u8
@@ -43,7 +47,7 @@ fn verdict_is(
     reps: &[u16],
 ) -> bool
     requires { ⌜ (listsFit lists ≡ true)
-        × Ready (now words) (countsIn lists) (lists .used) (now index)
+        × Bank (now words) (countsIn lists) (lists .used) (now index)
         × Proposal (now words) lists (now reps)
         × Tested lists (now symbols) mark ⌝ }
     ensures { λ r. ⌜ r ≡ verdictIs (tablesOf (now (words .entry)) lists) (now (symbols .entry)) mark ⌝ }
@@ -62,7 +66,7 @@ fn verdict_is(
 }
 
 // The number of the first line that refuses an offer to sound tables; 0 for none.
-pub fn fault_of(
+fn offer_fault(
     words: &[u32],
     lists: Lists,
     symbols: &[u8],
@@ -71,7 +75,7 @@ pub fn fault_of(
     reps: &[u16],
 ) -> u8
     requires { ⌜ (listsFit lists ≡ true)
-        × Ready (now words) (countsIn lists) (lists .used) (now index)
+        × Bank (now words) (countsIn lists) (lists .used) (now index)
         × (lists .asked ≡ 0 → Proposal (now words) lists (now reps)) ⌝ }
     ensures { λ r. ⌜ r ≡ offerFault (tablesOf (now (words .entry)) lists) (now (symbols .entry)) mark ⌝ }
 {
@@ -93,4 +97,24 @@ pub fn fault_of(
         return 0;
     }
     33
+}
+
+// The number of the first line that refuses what was said to sound tables; 0 for none.
+pub fn fault_of(
+    words: &[u32],
+    lists: Lists,
+    symbols: &[u8],
+    said: Said,
+    index: &[u16],
+    reps: &[u16],
+) -> u8
+    requires { ⌜ (listsFit lists ≡ true)
+        × Bank (now words) (countsIn lists) (lists .used) (now index)
+        × (lists .asked ≡ 0 → Proposal (now words) lists (now reps)) ⌝ }
+    ensures { λ r. ⌜ r ≡ faultOf (tablesOf (now (words .entry)) lists) (callOf said (now (symbols .entry))) ⌝ }
+{
+    match said {
+        Said::Answer(mark) => answer::answer_fault(lists, mark),
+        Said::Offer(mark) => offer_fault(words, lists, symbols, mark, index, reps),
+    }
 }

@@ -6,7 +6,7 @@ ghost use Prim.Native.Nat.{_*_, _<_, _≤_};
 ghost use lib.ListN.{length};
 ghost use Rattle.model.specs.Limits.{rowWidth};
 ghost use Rattle.model.specs.Calls.{looks};
-ghost use Rattle.model.specs.Entry.{sizeFits, listsFit, callSeen, emitSeen, emitOut};
+ghost use Rattle.model.specs.Entry.{sizeFits, lentFits, callSeen, emitSeen, emitOut};
 ghost use Rattle.sound.specs.Working.{Room};
 ghost use Rattle.call.specs.Ladder.{smallRows, smallRules};
 ghost use Rattle.call_read.specs.Read.{ReadAs, LookedAs};
@@ -41,7 +41,7 @@ fn read_in(
     notes: &mut [u16],
 ) -> Emitted
     requires { ⌜ (sizeFits (now words) ≡ true)
-        × (listsFit lists ≡ true)
+        × (lentFits (now words) lists ≡ true)
         × Room (now words) (lists .rules) (now index) (now table) (now notes) ⌝ }
     ensures { λ r. ⌜ ReadAs (now (words .entry)) lists wants (now (out .entry)) r (now (out .exit)) ⌝ }
 {
@@ -60,7 +60,7 @@ fn read_in(
 // In small room: few rows, and few transitions.
 fn read_small(words: &[u32], lists: Lists, wants: Wants, out: &mut [u8]) -> Emitted
     requires { ⌜ (sizeFits (now words) ≡ true)
-        × (listsFit lists ≡ true)
+        × (lentFits (now words) lists ≡ true)
         × (length (now words) ≤ rowWidth * smallRows)
         × (lists .rules < smallRules) ⌝ }
     ensures { λ r. ⌜ ReadAs (now (words .entry)) lists wants (now (out .entry)) r (now (out .exit)) ⌝ }
@@ -73,7 +73,7 @@ fn read_small(words: &[u32], lists: Lists, wants: Wants, out: &mut [u8]) -> Emit
 
 // In room for all that may be lent.
 fn read_wide(words: &[u32], lists: Lists, wants: Wants, out: &mut [u8]) -> Emitted
-    requires { ⌜ (sizeFits (now words) ≡ true) × (listsFit lists ≡ true) ⌝ }
+    requires { ⌜ (sizeFits (now words) ≡ true) × (lentFits (now words) lists ≡ true) ⌝ }
     ensures { λ r. ⌜ ReadAs (now (words .entry)) lists wants (now (out .entry)) r (now (out .exit)) ⌝ }
 {
     let mut index = [0u16; INDEX_WIDTH * MOST_ROWS];
@@ -84,7 +84,7 @@ fn read_wide(words: &[u32], lists: Lists, wants: Wants, out: &mut [u8]) -> Emitt
 
 // In the smaller room where it is enough for the rows lent.
 fn read(words: &[u32], lists: Lists, wants: Wants, out: &mut [u8]) -> Emitted
-    requires { ⌜ (sizeFits (now words) ≡ true) × (listsFit lists ≡ true) ⌝ }
+    requires { ⌜ (sizeFits (now words) ≡ true) × (lentFits (now words) lists ≡ true) ⌝ }
     ensures { λ r. ⌜ ReadAs (now (words .entry)) lists wants (now (out .entry)) r (now (out .exit)) ⌝ }
 {
     if ladder::is_small(words.len() / ROW_WIDTH, lists.rules) {
@@ -105,7 +105,7 @@ fn is_lent(used: u16, size: usize) -> bool
 
 // Whether the tables are sound, by the used rows alone where they are lent: 0, or 30.
 fn look_number(words: &[u32], lists: Lists) -> u32
-    requires { ⌜ (sizeFits (now words) ≡ true) × (listsFit lists ≡ true) ⌝ }
+    requires { ⌜ (sizeFits (now words) ≡ true) × (lentFits (now words) lists ≡ true) ⌝ }
     ensures { λ r. ⌜ LookedAs (now (words .entry)) lists r ⌝ }
 {
     let mut none = [0u8; 1];
@@ -122,14 +122,12 @@ fn look_number(words: &[u32], lists: Lists) -> u32
 pub fn look(words: &[u32], lists: Lists) -> Seen
     ensures { λ r. ⌜ r ≡ callSeen (now (words .entry)) lists looks ⌝ }
 {
-    if !sound_parts::size_fits(words) {
-        return sound_parts::refusal(18);
-    }
-    if !sound_parts::lists_fit(lists) {
-        return sound_parts::refusal(30);
+    let fault = call::lent_fault(words, lists);
+    if fault != 0 {
+        return call::refusal(fault);
     }
     if look_number(words, lists) != 0 {
-        return sound_parts::refusal(30);
+        return call::refusal(30);
     }
     call::told(lists)
 }
@@ -139,11 +137,9 @@ pub fn emit(words: &[u32], lists: Lists, out: &mut [u8]) -> Emitted
     ensures { λ r. ⌜ r ≡ emitSeen (now (words .entry)) lists (now (out .entry)) ⌝ }
     ensures bytes { λ r. ⌜ now (out .exit) ≡ emitOut (now (words .entry)) lists (now (out .entry)) ⌝ }
 {
-    if !sound_parts::size_fits(words) {
-        return call_emit::refuse(18);
-    }
-    if !sound_parts::lists_fit(lists) {
-        return call_emit::refuse(30);
+    let fault = call::lent_fault(words, lists);
+    if fault != 0 {
+        return call_emit::refuse(fault as u32);
     }
     read(words, lists, Wants::Emit, out)
 }

@@ -2,11 +2,11 @@
 // Words by reference, lists in and out. A refusal returns its number and leaves both as they were.
 ghost use mathlib.Core.Path.{_≡_};
 ghost use Rattle.model.specs.Calls.{answers, offers, accept as acceptCall};
-ghost use Rattle.step_end.specs.Stepping.{accepting as acceptingOf};
 ghost use Rattle.call.specs.Calls.{CallAs};
 use call::Done;
-use call_lent::Said;
+use call::Said;
 use model::Lists;
+use run_lists::change;
 
 mod tried; // tried.rt: the room that an answer or an offer works in
 
@@ -25,15 +25,6 @@ pub fn answer(words: &mut [u32], lists: Lists, mark: u8) -> Done
     tried::made(words, lists, &none[..0], Said::Answer(mark))
 }
 
-// The lists with the run accepted.
-fn accepting(lists: Lists) -> Lists
-    ensures { λ r. ⌜ r ≡ acceptingOf lists ⌝ }
-{
-    let mut left = lists;
-    left.accepted = 1;
-    left
-}
-
 // Acceptance: 18, 30, 31.
 pub fn accept(words: &mut [u32], lists: Lists) -> Done
     ensures { λ r. ⌜ CallAs (now (words .entry)) lists acceptCall r (now (words .exit)) ⌝ }
@@ -48,7 +39,7 @@ pub fn accept(words: &mut [u32], lists: Lists) -> Done
     if seen.phase != 0 {
         return call::refuse(31, lists);
     }
-    let left = accepting(lists);
+    let left = change::accepting(lists);
     Done {
         seen: call::told(left),
         lists: left,

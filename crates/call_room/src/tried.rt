@@ -6,17 +6,17 @@ ghost use Prim.Native.Nat.{_<_, _+_, _*_, _≤_};
 ghost use lib.ListN.{length};
 ghost use Rattle.call.specs.Ladder.{smallRows, smallRules};
 ghost use Rattle.model.specs.Limits.{rowWidth};
-ghost use Rattle.model.specs.Entry.{sizeFits, listsFit};
+ghost use Rattle.model.specs.Entry.{sizeFits, lentFits};
 ghost use Rattle.call.specs.Calls.{CallAs};
-ghost use Rattle.call_lent.specs.Said.{callOf};
+ghost use Rattle.call.specs.Said.{callOf};
 ghost use Rattle.call_room.specs.Tried.{FirstAs, moreSpareRows, spareRows};
 use call::Done;
+use call::Said;
 use call::ladder;
 use call::ladder::MID_ROWS;
 use call::ladder::MID_RULES;
 use call::ladder::TINY_ROWS;
 use call::ladder::TINY_RULES;
-use call_lent::Said;
 use model::Lists;
 use model::limits::ROW_WIDTH;
 
@@ -31,38 +31,14 @@ const DEEP: u16 = 4096;
 // A longer record is not tried with few rows.
 const SHORT: usize = 64;
 
-// With few rows past the used ones, on a small table.
-fn with_few(words: &mut [u32], lists: Lists, symbols: &[u8], said: Said) -> Done
-    requires { ⌜ (sizeFits (now words) ≡ true)
-        × (listsFit lists ≡ true)
-        × (length (now words) ≤ rowWidth * (lists .used + spareRows))
-        × (length (now words) ≤ rowWidth * smallRows)
-        × (lists .rules < smallRules) ⌝ }
-    ensures { λ r. ⌜ CallAs (now (words .entry)) lists (callOf said (now (symbols .entry))) r (now (words .exit)) ⌝ }
+// The smaller of two lengths.
+fn least(a: usize, b: usize) -> usize
+    ensures { λ r. ⌜ (a ≤ b → r ≡ a) × (b < a → r ≡ b) ⌝ }
 {
-    let mut saved = [0u32; ROW_WIDTH * SPARE_ROWS];
-    if words.len() <= ROW_WIDTH * TINY_ROWS {
-        if (lists.rules as usize) < TINY_RULES {
-            return call_sizes::in_tiny(words, lists, symbols, said, &mut saved);
-        }
+    if a <= b {
+        return a;
     }
-    call_sizes::in_small(words, lists, symbols, said, &mut saved)
-}
-
-// With more rows past the used ones.
-fn with_more(words: &mut [u32], lists: Lists, symbols: &[u8], said: Said) -> Done
-    requires { ⌜ (sizeFits (now words) ≡ true)
-        × (listsFit lists ≡ true)
-        × (length (now words) ≤ rowWidth * (lists .used + moreSpareRows)) ⌝ }
-    ensures { λ r. ⌜ CallAs (now (words .entry)) lists (callOf said (now (symbols .entry))) r (now (words .exit)) ⌝ }
-{
-    let mut saved = [0u32; ROW_WIDTH * MORE_SPARE_ROWS];
-    if words.len() <= ROW_WIDTH * MID_ROWS {
-        if (lists.rules as usize) < MID_RULES {
-            return call_sizes::in_mid(words, lists, symbols, said, &mut saved);
-        }
-    }
-    call_sizes::in_wide(words, lists, symbols, said, &mut saved)
+    b
 }
 
 // Whether a call is tried with few rows: a short record, on a small table.
@@ -75,40 +51,49 @@ fn is_short(used: u16, rules: u16, length: usize) -> bool
     ladder::is_small(used as usize + SPARE_ROWS, rules)
 }
 
-// Tried with few rows past the used ones: 34 where they are not enough.
+// Tried with few rows past the used ones, on a small table: 34 where they are not enough.
 fn first_few(words: &mut [u32], lists: Lists, symbols: &[u8], said: Said) -> Done
     requires { ⌜ (sizeFits (now words) ≡ true)
-        × (listsFit lists ≡ true)
+        × (lentFits (now words) lists ≡ true)
         × (lists .used + spareRows ≤ smallRows)
         × (lists .rules < smallRules) ⌝ }
     ensures { λ r.
         let made = callOf said (now (symbols .entry)) in
         ⌜ FirstAs (now (words .entry)) (rowWidth * (lists .used + spareRows)) lists made r (now (words .exit)) ⌝ }
 {
-    let most = ROW_WIDTH * (lists.used as usize + SPARE_ROWS);
-    if words.len() <= most {
-        return with_few(words, lists, symbols, said);
+    let n = least(words.len(), ROW_WIDTH * (lists.used as usize + SPARE_ROWS));
+    let mut saved = [0u32; ROW_WIDTH * SPARE_ROWS];
+    if n <= ROW_WIDTH * TINY_ROWS {
+        if (lists.rules as usize) < TINY_RULES {
+            return call_sizes::in_tiny(&mut words[..n], lists, symbols, said, &mut saved);
+        }
     }
-    with_few(&mut words[..most], lists, symbols, said)
+    call_sizes::in_small(&mut words[..n], lists, symbols, said, &mut saved)
 }
 
 // Tried with more rows: 34 where they are not enough.
 fn first_more(words: &mut [u32], lists: Lists, symbols: &[u8], said: Said) -> Done
-    requires { ⌜ (sizeFits (now words) ≡ true) × (listsFit lists ≡ true) ⌝ }
+    requires { ⌜ (sizeFits (now words) ≡ true) × (lentFits (now words) lists ≡ true) ⌝ }
     ensures { λ r.
         let made = callOf said (now (symbols .entry)) in
         ⌜ FirstAs (now (words .entry)) (rowWidth * (lists .used + moreSpareRows)) lists made r (now (words .exit)) ⌝ }
 {
-    let most = ROW_WIDTH * (lists.used as usize + MORE_SPARE_ROWS);
-    if words.len() <= most {
-        return with_more(words, lists, symbols, said);
+    let n = least(
+        words.len(),
+        ROW_WIDTH * (lists.used as usize + MORE_SPARE_ROWS),
+    );
+    let mut saved = [0u32; ROW_WIDTH * MORE_SPARE_ROWS];
+    if n <= ROW_WIDTH * MID_ROWS {
+        if (lists.rules as usize) < MID_RULES {
+            return call_sizes::in_mid(&mut words[..n], lists, symbols, said, &mut saved);
+        }
     }
-    with_more(&mut words[..most], lists, symbols, said)
+    call_sizes::in_wide(&mut words[..n], lists, symbols, said, &mut saved)
 }
 
 // Tried with more rows, and where they are not enough and more are lent, made with all.
 fn tried_more(words: &mut [u32], lists: Lists, symbols: &[u8], said: Said) -> Done
-    requires { ⌜ (sizeFits (now words) ≡ true) × (listsFit lists ≡ true) ⌝ }
+    requires { ⌜ (sizeFits (now words) ≡ true) × (lentFits (now words) lists ≡ true) ⌝ }
     ensures { λ r. ⌜ CallAs (now (words .entry)) lists (callOf said (now (symbols .entry))) r (now (words .exit)) ⌝ }
 {
     if DEEP < lists.used {
@@ -130,11 +115,9 @@ fn tried_more(words: &mut [u32], lists: Lists, symbols: &[u8], said: Said) -> Do
 pub fn made(words: &mut [u32], lists: Lists, symbols: &[u8], said: Said) -> Done
     ensures { λ r. ⌜ CallAs (now (words .entry)) lists (callOf said (now (symbols .entry))) r (now (words .exit)) ⌝ }
 {
-    if !sound_parts::size_fits(words) {
-        return call::refuse(18, lists);
-    }
-    if !sound_parts::lists_fit(lists) {
-        return call::refuse(30, lists);
+    let fault = call::lent_fault(words, lists);
+    if fault != 0 {
+        return call::refuse(fault, lists);
     }
     if !is_short(lists.used, lists.rules, symbols.len()) {
         return tried_more(words, lists, symbols, said);

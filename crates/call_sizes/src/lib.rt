@@ -5,20 +5,20 @@ ghost use mathlib.Core.Bool.{true};
 ghost use Prim.Native.Nat.{_<_, _+_, _*_, _≤_};
 ghost use lib.ListN.{length};
 ghost use Rattle.model.specs.Limits.{rowWidth};
-ghost use Rattle.model.specs.Entry.{sizeFits, listsFit};
+ghost use Rattle.model.specs.Entry.{sizeFits, lentFits};
 ghost use Rattle.call.specs.Ladder.{midRows, midRules, smallRows, smallRules, tinyRows, tinyRules};
 ghost use Rattle.call.specs.Calls.{CallAs};
-ghost use Rattle.call_lent.specs.Said.{callOf};
+ghost use Rattle.call.specs.Said.{callOf};
 use bank::index::INDEX_WIDTH;
 use bank::notes::NOTE_WIDTH;
 use call::Done;
+use call::Said;
 use call::ladder::MID_ROWS;
 use call::ladder::MID_RULES;
 use call::ladder::SMALL_ROWS;
 use call::ladder::SMALL_RULES;
 use call::ladder::TINY_ROWS;
 use call::ladder::TINY_RULES;
-use call_lent::Said;
 use model::Lists;
 use model::limits::MOST_CONTEXTS;
 use model::limits::MOST_ROWS;
@@ -35,7 +35,7 @@ pub fn in_tiny(
     saved: &mut [u32],
 ) -> Done
     requires { ⌜ (sizeFits (now words) ≡ true)
-        × (listsFit lists ≡ true)
+        × (lentFits (now words) lists ≡ true)
         × (length (now words) ≤ rowWidth * lists .used + length (now saved))
         × (length (now words) ≤ rowWidth * tinyRows)
         × (lists .rules < tinyRules) ⌝ }
@@ -44,7 +44,7 @@ pub fn in_tiny(
     let mut index = [0u16; INDEX_WIDTH * TINY_ROWS];
     let mut table = [0u8; MOST_CONTEXTS * TINY_RULES];
     let mut notes = [0u16; NOTE_WIDTH * TINY_ROWS];
-    call_lent::call_in(
+    call_take::call_in(
         words,
         lists,
         symbols,
@@ -65,7 +65,7 @@ pub fn in_small(
     saved: &mut [u32],
 ) -> Done
     requires { ⌜ (sizeFits (now words) ≡ true)
-        × (listsFit lists ≡ true)
+        × (lentFits (now words) lists ≡ true)
         × (length (now words) ≤ rowWidth * lists .used + length (now saved))
         × (length (now words) ≤ rowWidth * smallRows)
         × (lists .rules < smallRules) ⌝ }
@@ -74,7 +74,7 @@ pub fn in_small(
     let mut index = [0u16; INDEX_WIDTH * SMALL_ROWS];
     let mut table = [0u8; MOST_CONTEXTS * SMALL_RULES];
     let mut notes = [0u16; NOTE_WIDTH * SMALL_ROWS];
-    call_lent::call_in(
+    call_take::call_in(
         words,
         lists,
         symbols,
@@ -95,7 +95,7 @@ pub fn in_mid(
     saved: &mut [u32],
 ) -> Done
     requires { ⌜ (sizeFits (now words) ≡ true)
-        × (listsFit lists ≡ true)
+        × (lentFits (now words) lists ≡ true)
         × (length (now words) ≤ rowWidth * lists .used + length (now saved))
         × (length (now words) ≤ rowWidth * midRows)
         × (lists .rules < midRules) ⌝ }
@@ -104,7 +104,7 @@ pub fn in_mid(
     let mut index = [0u16; INDEX_WIDTH * MID_ROWS];
     let mut table = [0u8; MOST_CONTEXTS * MID_RULES];
     let mut notes = [0u16; NOTE_WIDTH * MID_ROWS];
-    call_lent::call_in(
+    call_take::call_in(
         words,
         lists,
         symbols,
@@ -125,14 +125,14 @@ pub fn in_wide(
     saved: &mut [u32],
 ) -> Done
     requires { ⌜ (sizeFits (now words) ≡ true)
-        × (listsFit lists ≡ true)
+        × (lentFits (now words) lists ≡ true)
         × (length (now words) ≤ rowWidth * lists .used + length (now saved)) ⌝ }
     ensures { λ r. ⌜ CallAs (now (words .entry)) lists (callOf said (now (symbols .entry))) r (now (words .exit)) ⌝ }
 {
     let mut index = [0u16; INDEX_WIDTH * MOST_ROWS];
     let mut table = [0u8; MOST_CONTEXTS * (MOST_RULES + 1)];
     let mut notes = [0u16; NOTE_WIDTH * MOST_ROWS];
-    call_lent::call_in(
+    call_take::call_in(
         words,
         lists,
         symbols,
@@ -146,7 +146,7 @@ pub fn in_wide(
 
 // With all rows saved, in the smallest room that is enough.
 pub fn with_all(words: &mut [u32], lists: Lists, symbols: &[u8], said: Said) -> Done
-    requires { ⌜ (sizeFits (now words) ≡ true) × (listsFit lists ≡ true) ⌝ }
+    requires { ⌜ (sizeFits (now words) ≡ true) × (lentFits (now words) lists ≡ true) ⌝ }
     ensures { λ r. ⌜ CallAs (now (words .entry)) lists (callOf said (now (symbols .entry))) r (now (words .exit)) ⌝ }
 {
     let mut saved = [0u32; MOST_WORDS];

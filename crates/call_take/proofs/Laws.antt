@@ -1,7 +1,4 @@
--- The laws, in reading order: a file uses those above it.
-pub mod Accepted
 pub mod Ends
-pub mod Answered
-pub mod AnswerTaken
-pub mod OfferTaken
-pub mod Offered
+pub mod Marked
+pub mod Begun
+pub mod Taken

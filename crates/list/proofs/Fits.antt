@@ -1,4 +1,4 @@
--- What the reader wants of a body (§6.2), test by test: an alphabet, states, a rule, a left side.
+-- What the reader wants of a body (§6.2), test by test: states, a rule, a left side.
 -- Each test that fails makes the conjunction false, and the last one decides it.
 use mathlib.Core.Path.{_≡_, refl, sym, ap, _∙_}
 use mathlib.Core.Bool.{Bool, true, false, _&&_}
@@ -9,10 +9,9 @@ use lib.Dec.{leb, ltb, leb·suc-suc}
 use lib.ListN.{length, getD, take, drop, length-drop}
 use lib.Seq.{length-take-le, take-all}
 use borrow.Author.Tests.{leb-true, le-leb, lt-leb, le-ltb, lt-ltb, eq-eqb, ne-eqb}
-use Rattle.model.specs.Limits.{mostSymbols, mostChildren, mostStates}
+use Rattle.model.specs.Limits.{mostStates}
 use Rattle.model.specs.Base.{all, same}
 use Rattle.model.specs.Automata.{hasLeftSide}
-use Rattle.model.specs.Sound.{alphabetFits}
 use Rattle.model.specs.Listing.{ruleIn, ruleBodyFits, finalsFit}
 use Rattle.model.proofs.Laws.Tests.{both-true}
 use Rattle.model.proofs.Laws.RuleBodies.{rule-written}
@@ -24,15 +23,6 @@ up-to : (n : ℕ) (xs : List ℕ) → all (λ (q : ℕ). leb q n) xs ≡ allBelo
 up-to n xs = all-alike (λ (q : ℕ). leb q n) (λ (q : ℕ). ltb q (suc n)) (λ q. sym (leb·suc-suc q n)) xs
 
 module _ (ns : List ℕ) where
-  pub alphabet-none : length ns < 1 → alphabetFits ns ≡ false
-  alphabet-none l = rw (lt-leb 1 (length ns) l)
-
-  pub alphabet-many : 1 ≤ length ns → mostSymbols < length ns → alphabetFits ns ≡ false
-  alphabet-many k l = rw (le-leb 1 (length ns) k, lt-leb (length ns) mostSymbols l)
-
-  pub alphabet-is : 1 ≤ length ns → length ns ≤ mostSymbols → alphabetFits ns ≡ allBelow 5 ns
-  alphabet-is k l = rw (le-leb 1 (length ns) k, le-leb (length ns) mostSymbols l) (up-to mostChildren ns)
-
   pub finals-many : mostStates < length ns → finalsFit ns ≡ false
   finals-many l = rw (lt-leb (length ns) mostStates l)
 

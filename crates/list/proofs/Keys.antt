@@ -14,7 +14,7 @@ use Rattle.model.specs.Limits.{mostSymbols, mostChildren, mostStates, mostRules
 use Rattle.model.specs.Base.{isIn, all, same, among}
 use Rattle.model.specs.Automata.{Rule, hasLeftSide, hasLeft, ruleFits}
 use Rattle.model.specs.Sound.{alphabetFits}
-use Rattle.model.specs.Listing.{bodyAt, isBlock, ruleIn, ruleBodyFits}
+use Rattle.model.specs.Listing.{bodyAt, ruleIn, ruleBodyFits}
 use Rattle.model.proofs.Laws.Tests.{both-true, all-snoc, same-eq, same-of}
 use Rattle.model.proofs.Laws.Listing.{rule-few}
 use Rattle.list.specs.Blocks.{rulesIn, after, keyOf, isRule, isNew}
@@ -125,12 +125,11 @@ module _ (ns : List ℕ) (n : ℕ) (alphabet : alphabetFits ns ≡ true) (states
 
   -- the test over numbers is the test over rules
   pub new-rule : (rs : List Rule) (ks : List ℕ) (bs : List ℕ) → ks ≡ map keyOf rs → all (ruleFits ns n) rs ≡ true → isNew ns n ks bs ≡ isRule ns n rs bs
-  new-rule rs ks bs e fs = ap (λ (us : List ℕ). isNew ns n us bs) e ∙ go (isBlock 3 bs) (ruleBodyFits ns n (bodyAt bs)) refl
+  new-rule rs ks bs e fs = ap (λ (us : List ℕ). isNew ns n us bs) e ∙ go (ruleBodyFits ns n (bodyAt bs)) refl
     where
-      go : (a b : Bool) → ruleBodyFits ns n (bodyAt bs) ≡ b → a && b && not (among (keyOf (ruleIn (bodyAt bs))) (map keyOf rs)) ≡ a && b && not (hasLeft (ruleIn (bodyAt bs)) rs)
-      go false b f = refl
-      go true false f = refl
-      go true true f =
+      go : (b : Bool) → ruleBodyFits ns n (bodyAt bs) ≡ b → b && not (among (keyOf (ruleIn (bodyAt bs))) (map keyOf rs)) ≡ b && not (hasLeft (ruleIn (bodyAt bs)) rs)
+      go false f = refl
+      go true f =
           ap not (among-keys (ruleIn (bodyAt bs)) (both-true (leb 2 (length (bodyAt bs))) (ruleFits ns n (ruleIn (bodyAt bs))) f .1) rs fs)
 
 -- A KEY from its bytes
@@ -161,8 +160,7 @@ pub keyed-next : {ns : List ℕ} {n : ℕ} {bs ks : List ℕ} {k : ℕ} → Keye
     (v : ℕ) → v ≡ keyOf (ruleIn (bodyAt at)) → Keyed ns n bs (set ks k v) (k + 1)
 keyed-next {ns} {n} {bs} {ks} {k} y l at place new v is =
     let r : Rule = ruleIn (bodyAt at) in
-    let f = both-true (isBlock 3 at) (ruleBodyFits ns n (bodyAt at))
-    (both-true (isBlock 3 at && ruleBodyFits ns n (bodyAt at)) (not (among (keyOf r) (take k ks))) new .0) .1 in
+    let f = both-true (ruleBodyFits ns n (bodyAt at)) (not (among (keyOf r) (take k ks))) new .0 in
     let rules : rulesIn k bs ++ (r ∷ []) ≡ rulesIn (k + 1) bs = ap (λ (us : List ℕ). rulesIn k bs ++ (ruleIn (bodyAt us) ∷ [])) place ∙ sym (rules-in-next k bs) in
     record {
       long = length-set ks k v ∙ y .long;

@@ -8,7 +8,7 @@ use native.Mathlib.Numerals.{add-one}
 use native.Mathlib.Omega.{arith}
 use lib.ListN.{length}
 use Rattle.model.specs.Automata.{Rule}
-use Rattle.model.specs.Listing.{bodyAt, behind, isBlock, ruleIn, ruleBodyFits}
+use Rattle.model.specs.Listing.{bodyAt, behind, ruleIn, ruleBodyFits}
 use Rattle.list.specs.Blocks.{rulesIn, after}
 
 pub length-rules-in : (n : ℕ) (bs : List ℕ) → length (rulesIn n bs) ≡ n
@@ -41,11 +41,8 @@ rules-in-head (suc n) bs l = let e : suc n - 1 ≡ n = omega arith in rw e
 
 -- THE NEXT RULE, test by test; t is the test of its left side
 module _ (ns : List ℕ) (n : ℕ) (bs : List ℕ) (t : Bool) where
-  pub next-none : isBlock 3 bs ≡ false → isBlock 3 bs && ruleBodyFits ns n (bodyAt bs) && t ≡ false
-  next-none e = rw e
+  pub next-unfit : ruleBodyFits ns n (bodyAt bs) ≡ false → ruleBodyFits ns n (bodyAt bs) && t ≡ false
+  next-unfit e = rw e
 
-  pub next-unfit : isBlock 3 bs ≡ true → ruleBodyFits ns n (bodyAt bs) ≡ false → isBlock 3 bs && ruleBodyFits ns n (bodyAt bs) && t ≡ false
-  next-unfit e f = rw (e, f)
-
-  pub next-left : isBlock 3 bs ≡ true → ruleBodyFits ns n (bodyAt bs) ≡ true → isBlock 3 bs && ruleBodyFits ns n (bodyAt bs) && t ≡ t
-  next-left e f = rw (e, f)
+  pub next-left : ruleBodyFits ns n (bodyAt bs) ≡ true → ruleBodyFits ns n (bodyAt bs) && t ≡ t
+  next-left e = rw e

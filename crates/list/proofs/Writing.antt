@@ -10,7 +10,7 @@ use Rattle.model.specs.Base.{over}
 use Rattle.model.specs.Listing.{blockOf, ruleBody, ruleBlocks, emitted}
 use Rattle.model.proofs.Laws.Blocks.{length-block}
 use Rattle.model.proofs.Laws.Listing.{length-emitted}
-use Rattle.list.specs.Flat.{flatRule, flatRules, flatAutomaton}
+use Rattle.list.specs.Flat.{flatRule, flatRules, flatSheet}
 use Rattle.list.specs.Put.{putAt}
 use Rattle.list.proofs.Put.{put-put, put-length, put-three, put-over}
 use Rattle.list.proofs.Flat.{others, flat-states, blocks-none, blocks-more, length-rule, length-more}
@@ -62,13 +62,13 @@ module _ {ns us o : List ℕ} {start : ℕ} {now left : List ℕ} {at : ℕ} (w 
 
 -- THE WHOLE LIST in three runs
 module _ (ns fs us : List ℕ) where
-  pub length-list : length (emitted (flatAutomaton ns fs us)) ≡ 12 + length ns + length fs + length (blocks ns us)
-  length-list = let l = length-emitted (flatAutomaton ns fs us) in omega arith
+  pub length-list : length (emitted (flatSheet ns fs us)) ≡ 12 + length ns + length fs + length (blocks ns us)
+  length-list = let l = length-emitted (flatSheet ns fs us) in omega arith
 
-  pub list-put : (q r : ℕ) (o : List ℕ) {o₁ o₂ o₃ : List ℕ} → length (emitted (flatAutomaton ns fs us)) ≤ length o → q ≡ 0 + (6 + length ns) → r ≡ q + (6 + length fs) →
-      o₁ ≡ putAt 0 (blockOf 1 ns) o → o₂ ≡ putAt q (blockOf 2 fs) o₁ → o₃ ≡ putAt r (blocks ns us) o₂ → o₃ ≡ over (emitted (flatAutomaton ns fs us)) o
+  pub list-put : (q r : ℕ) (o : List ℕ) {o₁ o₂ o₃ : List ℕ} → length (emitted (flatSheet ns fs us)) ≤ length o → q ≡ 0 + (6 + length ns) → r ≡ q + (6 + length fs) →
+      o₁ ≡ putAt 0 (blockOf 1 ns) o → o₂ ≡ putAt q (blockOf 2 fs) o₁ → o₃ ≡ putAt r (blocks ns us) o₂ → o₃ ≡ over (emitted (flatSheet ns fs us)) o
   list-put q r o fits is is′ e f g =
       let l = length-list in
       let c = length-block 1 ns in
       let d = length-block 2 fs in
-      put-three 0 q r (blockOf 1 ns) (blockOf 2 fs) (blocks ns us) o (omega arith) (omega arith) (omega arith) e f g ∙ put-over (emitted (flatAutomaton ns fs us)) o
+      put-three 0 q r (blockOf 1 ns) (blockOf 2 fs) (blocks ns us) o (omega arith) (omega arith) (omega arith) e f g ∙ put-over (emitted (flatSheet ns fs us)) o

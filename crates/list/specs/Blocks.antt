@@ -6,7 +6,7 @@ use lib.Dec.{ltb}
 use lib.ListN.{length, getD}
 use Rattle.model.specs.Base.{all, among}
 use Rattle.model.specs.Automata.{Rule, hasLeft}
-use Rattle.model.specs.Listing.{sizeAt, bodyAt, behind, isBlock, ruleIn, ruleBodyFits, Read, rulesFrom}
+use Rattle.model.specs.Listing.{sizeAt, bodyAt, behind, ruleIn, ruleBodyFits, Read, rulesFrom}
 
 abbrev pub allBelow : (bound : ℕ) → List ℕ → Bool
 allBelow n = all (λ (q : ℕ). ltb q n)
@@ -25,9 +25,9 @@ unfoldable pub after : (count : ℕ) → (bytes : List ℕ) → List ℕ
 after zero bs = bs
 after (suc n) bs = after n (behind bs)
 
--- the next block is a rule that fits, with a left side that none of the rules before it has
+-- the rule at the head fits, and none of the rules before it has its left side
 abbrev pub isRule : (counts : List ℕ) → (states : ℕ) → (rules : List Rule) → (bytes : List ℕ) → Bool
-isRule ns n rs bs = isBlock 3 bs && ruleBodyFits ns n (bodyAt bs) && not (hasLeft (ruleIn (bodyAt bs)) rs)
+isRule ns n rs bs = ruleBodyFits ns n (bodyAt bs) && not (hasLeft (ruleIn (bodyAt bs)) rs)
 
 -- a left side as one number: among rules that fit, no two have the same
 abbrev pub keyOf : Rule → ℕ
@@ -36,8 +36,8 @@ keyOf r =
 
 -- the same test over the numbers of the rules before
 abbrev pub isNew : (counts : List ℕ) → (states : ℕ) → (keys bytes : List ℕ) → Bool
-isNew ns n ks bs = isBlock 3 bs && ruleBodyFits ns n (bodyAt bs) && not (among (keyOf (ruleIn (bodyAt bs))) ks)
+isNew ns n ks bs = ruleBodyFits ns n (bodyAt bs) && not (among (keyOf (ruleIn (bodyAt bs))) ks)
 
--- the rules from the head of the bytes to their end
+-- the rules from the head of the bytes, and what is behind them
 abbrev pub readRules : (counts finals bytes : List ℕ) → Read
 readRules ns fs bs = rulesFrom (length bs + 1) ns fs [] bs

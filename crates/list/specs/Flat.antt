@@ -4,6 +4,7 @@ use Prim.Native.Nat.{ℕ, zero, suc, _*_, _/_, _≤_, min}
 use lib.ListN.{length, getD, take, drop}
 use Rattle.model.specs.Limits.{mostSymbols, mostChildren, mostStates, mostRules}
 use Rattle.model.specs.Automata.{Rule, Automaton}
+use Rattle.model.specs.Listing.{Sheet}
 
 abbrev pub ruleWidth : ℕ
 ruleWidth = 6
@@ -24,6 +25,9 @@ flatRules ns us = flatRulesIn (length us / ruleWidth) ns us
 
 abbrev pub flatAutomaton : (counts finals flat : List ℕ) → Automaton
 flatAutomaton ns fs us = record { counts = ns; finals = fs; rules = flatRules ns us }
+
+abbrev pub flatSheet : (counts finals flat : List ℕ) → Sheet
+flatSheet ns fs us = record { automaton = flatAutomaton ns fs us }
 
 -- within the limits of a list
 pub record Short (counts finals flat : List ℕ) : Type 0 where

@@ -1,9 +1,13 @@
 // The reader (§6.2): the count of rules of bytes that are a list, or 21.
 ghost use mathlib.Core.Path.{_≡_};
 ghost use mathlib.Core.Bool.{true};
+ghost use mathlib.Core.List.{List};
+ghost use Prim.Native.Nat.{ℕ};
+ghost use lib.ListN.{length};
 ghost use Rattle.model.specs.Base.{among};
 ghost use Rattle.model.specs.Sound.{alphabetFits};
-ghost use Rattle.model.specs.Listing.{ruleIn, ruleBodyFits, finalsFit, broken, readFinals};
+ghost use Rattle.model.specs.Automata.{Rule};
+ghost use Rattle.model.specs.Listing.{ruleIn, ruleBodyFits, finalsFit, broken, behindRules, readFinals};
 ghost use Rattle.model.specs.Entry.{loadedBy, loadSeen};
 ghost use Rattle.list.specs.Blocks.{allBelow, keyOf, isNew, readRules};
 use crate::blocks::body;
@@ -13,7 +17,7 @@ use crate::blocks::rest;
 use model::Emitted;
 use model::limits::MOST_RULES;
 use model::limits::MOST_STATES;
-use model::limits::MOST_SYMBOLS;
+use run_lists::fit;
 
 // Whether each byte is below a bound.
 fn all_below(bytes: &[u8], bound: usize) -> bool
@@ -27,19 +31,6 @@ fn all_below(bytes: &[u8], bound: usize) -> bool
         i += 1;
     }
     true
-}
-
-// Whether the body of kind 1 is an alphabet: 1 to 64 symbols of at most 4 children.
-fn alphabet_fits(counts: &[u8]) -> bool
-    ensures { λ r. ⌜ r ≡ alphabetFits (now (counts .entry)) ⌝ }
-{
-    if counts.len() < 1 {
-        return false;
-    }
-    if MOST_SYMBOLS < counts.len() {
-        return false;
-    }
-    all_below(counts, 5)
 }
 
 // Whether the body of kind 2 is at most 32 states, each 0 or 1.
@@ -116,13 +107,10 @@ fn refused() -> Emitted
     }
 }
 
-// Whether the next block is a rule that fits, with a left side whose number none of those before it has.
+// Whether the rule at the head fits, with a left side whose number none of those before it has.
 fn is_rule(counts: &[u8], states: usize, keys: &[usize], at: &[u8]) -> bool
     ensures { λ r. ⌜ r ≡ isNew (now (counts .entry)) states (now (keys .entry)) (now (at .entry)) ⌝ }
 {
-    if !is_block(at, 3) {
-        return false;
-    }
     let found = body(at);
     if !rule_fits(counts, states, found) {
         return false;
@@ -130,7 +118,25 @@ fn is_rule(counts: &[u8], states: usize, keys: &[usize], at: &[u8]) -> bool
     !has_key(keys, key_of(found))
 }
 
-// The rules up to the end of the bytes, each held against the numbers of the left sides before it.
+// What is behind the rules, which are counted: nothing, and there are at most 256 of them.
+fn behind_rules(count: usize, bytes: &[u8]) -> Emitted
+    ensures { λ r.
+        let at = now (bytes .entry) in
+        ⌜ ((ns fs : List ℕ) (rs : List Rule) → length rs ≡ count → r ≡ loadedBy (behindRules ns fs rs at)) ⌝ }
+{
+    if 0 < bytes.len() {
+        return refused();
+    }
+    if MOST_RULES < count {
+        return refused();
+    }
+    Emitted {
+        number: 0,
+        size: count as u32,
+    }
+}
+
+// The blocks of kind 3, each held against the numbers of the left sides before it, and what is behind them.
 fn read_rules(counts: &[u8], finals: &[u8], bytes: &[u8]) -> Emitted
     requires { ⌜ (alphabetFits (now counts) ≡ true) × (finalsFit (now finals) ≡ true) ⌝ }
     ensures { λ r. ⌜ r ≡ loadedBy (readRules (now (counts .entry)) (now (finals .entry)) (now (bytes .entry))) ⌝ }
@@ -139,7 +145,7 @@ fn read_rules(counts: &[u8], finals: &[u8], bytes: &[u8]) -> Emitted
     let mut keys = [0usize; MOST_RULES];
     let mut at = bytes;
     let mut count: usize = 0;
-    while 0 < at.len() {
+    while is_block(at, 3) {
         if MOST_RULES <= count {
             return refused();
         }
@@ -151,10 +157,7 @@ fn read_rules(counts: &[u8], finals: &[u8], bytes: &[u8]) -> Emitted
         at = next;
         count += 1;
     }
-    Emitted {
-        number: 0,
-        size: count as u32,
-    }
+    behind_rules(count, at)
 }
 
 // The states at the head of the bytes, and the rules behind them.
@@ -180,7 +183,7 @@ pub fn load(bytes: &[u8]) -> Emitted
         return refused();
     }
     let counts = body(bytes);
-    if !alphabet_fits(counts) {
+    if !fit::alphabet_fits(counts) {
         return refused();
     }
     read_finals(counts, rest(bytes))

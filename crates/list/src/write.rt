@@ -5,7 +5,7 @@ ghost use Prim.Native.Nat.{_+_, _≤_, _<_};
 ghost use lib.ListN.{length};
 ghost use Rattle.model.specs.Base.{over};
 ghost use Rattle.model.specs.Listing.{little, blockOf, ruleBody, ruleBlocks, emitted};
-ghost use Rattle.list.specs.Flat.{ruleWidth, flatWidth, flatRule, flatRules, flatAutomaton, Short};
+ghost use Rattle.list.specs.Flat.{ruleWidth, flatWidth, flatRule, flatRules, flatSheet, Short};
 ghost use Rattle.list.specs.Put.{putAt};
 use crate::blocks::byte_at;
 
@@ -90,7 +90,7 @@ fn put_rules(counts: &[u8], rules: &[u8], out: &mut [u8], start: usize) -> usize
 // How many bytes the list of an automaton has.
 pub fn list_size(counts: &[u8], finals: &[u8], rules: &[u8]) -> u32
     requires { ⌜ Short (now counts) (now finals) (now rules) ⌝ }
-    ensures { λ r. ⌜ r ≡ length (emitted (flatAutomaton (now (counts .entry)) (now (finals .entry)) (now (rules .entry)))) ⌝ }
+    ensures { λ r. ⌜ r ≡ length (emitted (flatSheet (now (counts .entry)) (now (finals .entry)) (now (rules .entry)))) ⌝ }
 {
     let mut size: usize = 12 + counts.len() + finals.len();
     let mut left = rules;
@@ -104,10 +104,10 @@ pub fn list_size(counts: &[u8], finals: &[u8], rules: &[u8]) -> u32
 // The list of an automaton at the beginning of the bytes; those past it stay.
 pub fn write_list(counts: &[u8], finals: &[u8], rules: &[u8], out: &mut [u8]) -> u32
     requires { ⌜ Short (now counts) (now finals) (now rules) ⌝ }
-    requires room { ⌜ length (emitted (flatAutomaton (now counts) (now finals) (now rules))) ≤ length (now out) ⌝ }
-    ensures { λ r. ⌜ r ≡ length (emitted (flatAutomaton (now (counts .entry)) (now (finals .entry)) (now (rules .entry)))) ⌝ }
+    requires room { ⌜ length (emitted (flatSheet (now counts) (now finals) (now rules))) ≤ length (now out) ⌝ }
+    ensures { λ r. ⌜ r ≡ length (emitted (flatSheet (now (counts .entry)) (now (finals .entry)) (now (rules .entry)))) ⌝ }
     ensures bytes { λ r.
-        let a = flatAutomaton (now (counts .entry)) (now (finals .entry)) (now (rules .entry)) in
+        let a = flatSheet (now (counts .entry)) (now (finals .entry)) (now (rules .entry)) in
         ⌜ now (out .exit) ≡ over (emitted a) (now (out .entry)) ⌝ }
 {
     let after = put_block(out, 0, 1, counts);

@@ -16,7 +16,7 @@ use Rattle.model.specs.declared.ListSizes.{ListSizes}
 use Rattle.model.specs.declared.ListRule.{ListRule}
 use Rattle.list.specs.Blocks.{rulesIn}
 use Rattle.list_view.specs.declared.ShownRule.{ShownRule}
-use Rattle.list_view.specs.Shown.{automatonIn, automatonBy, ruleAt, ruleShown}
+use Rattle.list_view.specs.Shown.{sheetBy, sheetIn, automatonIn, ruleAt, ruleShown}
 use Rattle.list_view.specs.Whole.{ruleOf}
 use Rattle.list_view.proofs.Views.{List-read, list-read, rule-at}
 use Rattle.list_view.proofs.Fits.{few-symbols, few-states, states-counted, target-small}
@@ -29,16 +29,16 @@ no-list bs l = go (readList bs) l
     go broken l = refl
     go (loaded a) l = absurd (l refl)
 
-is-list : (bs : List ℕ) → loadSeen bs .number ≡ 0 → readList bs ≡ loaded (automatonIn bs)
+is-list : (bs : List ℕ) → loadSeen bs .number ≡ 0 → readList bs ≡ loaded (sheetIn bs)
 is-list bs l = go (readList bs) l
   where
-    go : (r : Read) → loadedBy r .number ≡ 0 → r ≡ loaded (automatonBy r)
+    go : (r : Read) → loadedBy r .number ≡ 0 → r ≡ loaded (sheetBy r)
     go broken l = absurd (omega arith)
     go (loaded a) l = refl
 
 module _ (bs : List ℕ) (l : loadSeen bs .number ≡ 0) where
   read : List-read bs (automatonIn bs)
-  read = list-read bs (automatonIn bs) (is-list bs l)
+  read = list-read bs (sheetIn bs) (is-list bs l)
 
   pub size-is : loadSeen bs .size ≡ length (automatonIn bs .rules)
   size-is = ap (λ (r : Read). loadedBy r .size) (is-list bs l)
@@ -46,13 +46,13 @@ module _ (bs : List ℕ) (l : loadSeen bs .number ≡ 0) where
   -- SIZES
   pub small-counts : (us : List ℕ) → us ≡ bodyAt bs → length us ≤ mostSymbols
   small-counts us e =
-      let f = few-symbols bs (automatonIn bs) (is-list bs l) in
+      let f = few-symbols bs (sheetIn bs) (is-list bs l) in
       let s : length us ≡ length (automatonIn bs .counts) = ap length (e ∙ read .counts) in
       omega arith
 
   pub small-finals : (us : List ℕ) → us ≡ bodyAt (behind bs) → length us ≤ mostStates
   small-finals us e =
-      let f = few-states bs (automatonIn bs) (is-list bs l) in
+      let f = few-states bs (sheetIn bs) (is-list bs l) in
       let s : length us ≡ length (automatonIn bs .finals) = ap length (e ∙ read .finals) in
       omega arith
 
@@ -66,13 +66,13 @@ module _ (bs : List ℕ) (l : loadSeen bs .number ≡ 0) where
       rw (s, t, r) (ap sizesBy (sym (is-list bs l)))
 
   -- ONE VALUE
-  pub children-read : (us : List ℕ) (a : ℕ) → us ≡ bodyAt bs → childrenBy a (loaded (record { counts = us; finals = []; rules = [] })) ≡ childrenSeen bs a
+  pub children-read : (us : List ℕ) (a : ℕ) → us ≡ bodyAt bs → childrenBy a (loaded (record { automaton = record { counts = us; finals = []; rules = [] } })) ≡ childrenSeen bs a
   children-read us a e =
-      ap (λ (ns : List ℕ). childrenBy a (loaded (record { counts = ns; finals = []; rules = [] }))) (e ∙ read .counts) ∙ ap (childrenBy a) (sym (is-list bs l))
+      ap (λ (ns : List ℕ). childrenBy a (loaded (record { automaton = record { counts = ns; finals = []; rules = [] } }))) (e ∙ read .counts) ∙ ap (childrenBy a) (sym (is-list bs l))
 
-  pub final-read : (us : List ℕ) (q : ℕ) → us ≡ bodyAt (behind bs) → finalBy q (loaded (record { counts = []; finals = us; rules = [] })) ≡ finalSeen bs q
+  pub final-read : (us : List ℕ) (q : ℕ) → us ≡ bodyAt (behind bs) → finalBy q (loaded (record { automaton = record { counts = []; finals = us; rules = [] } })) ≡ finalSeen bs q
   final-read us q e =
-      ap (λ (fs : List ℕ). finalBy q (loaded (record { counts = []; finals = fs; rules = [] }))) (e ∙ read .finals) ∙ ap (finalBy q) (sym (is-list bs l))
+      ap (λ (fs : List ℕ). finalBy q (loaded (record { automaton = record { counts = []; finals = fs; rules = [] } }))) (e ∙ read .finals) ∙ ap (finalBy q) (sym (is-list bs l))
 
   pub target-read : (us : List ℕ) (n a : ℕ) (qs : List ℕ) → us ≡ behind (behind bs) → n ≡ loadSeen bs .size →
       targetFound (targetIn a qs (rulesIn n us)) ≡ targetSeen bs a qs
@@ -91,14 +91,14 @@ module _ (bs : List ℕ) (l : loadSeen bs .number ≡ 0) where
 
   pub small-target : (k : ℕ) → k < loadSeen bs .size → ruleAt k bs .target < mostStates
   small-target k m =
-      let t = target-small bs (automatonIn bs) (is-list bs l) k (has k m) in
+      let t = target-small bs (sheetIn bs) (is-list bs l) k (has k m) in
       let s : ruleAt k bs .target ≡ ruleOf (automatonIn bs) k .target = ap (λ (r : Rule). r .target) (shown-is k) in
       omega arith
 
   children-at : (k : ℕ) → k < loadSeen bs .size → getD (bodyAt bs) (ruleAt k bs .symbol) 0 ≡ length (ruleAt k bs .states)
   children-at k m =
       ap (λ (ns : List ℕ). getD ns (ruleAt k bs .symbol) 0) (read .counts) ∙ ap (λ (r : Rule). getD (automatonIn bs .counts) (r .symbol) 0) (shown-is k) ∙
-      sym (states-counted bs (automatonIn bs) (is-list bs l) k (has k m)) ∙ sym (ap (λ (r : Rule). length (r .states)) (shown-is k))
+      sym (states-counted bs (sheetIn bs) (is-list bs l) k (has k m)) ∙ sym (ap (λ (r : Rule). length (r .states)) (shown-is k))
 
   pub rule-read : (k : ℕ) (s : ShownRule) (n : ℕ) → k < loadSeen bs .size → s ≡ ruleShown (ruleAt k bs) → n ≡ getD (bodyAt bs) (s .symbol) 0 →
       _≡_ {A = ListRule} (record { number = 0; found = 1; symbol = s .symbol; children = n; states = s .states; target = s .target .0 }) (ruleSeen bs k)

@@ -12,7 +12,7 @@ use borrow.Author.Tests.{eqb-true, eq-eqb, not-true, lt-ltb}
 use Rattle.model.specs.Limits.{mostChildren}
 use Rattle.model.specs.Base.{same}
 use Rattle.model.specs.Automata.{Rule, Automaton, hasLeftSide, targetIn, hasLeft, leftsDiffer}
-use Rattle.model.specs.Listing.{loaded, readList}
+use Rattle.model.specs.Listing.{Sheet, loaded, readList}
 use Rattle.model.specs.View.{present, absent, childrenBy, targetFound, targetBy, fourPlaces, ruleFound, ruleAbsent, noRule, ruleBy, ruleSeen}
 use Rattle.model.specs.declared.Found.{Found}
 use Rattle.model.specs.declared.ListRule.{ListRule}
@@ -77,26 +77,29 @@ found-same none q e = let z : _≡_ {A = ℕ} 0 1 = ap (λ (f : Found). f .found
 found-same (some p) q e = ap some (ap (λ (f : Found). f .value) e)
 
 -- A RULE OF A LIST
-module _ (bs : List ℕ) (d : Automaton) (e : readList bs ≡ loaded d) where
+module _ (bs : List ℕ) (a : Sheet) (e : readList bs ≡ loaded a) where
+  abbrev d : Automaton
+  d = a .automaton
+
   rule-is : (k : ℕ) → k < length (d .rules) → ruleSeen bs k ≡ ruleFound (ruleOf d k)
   rule-is k l = ap (ruleBy k) e ∙ ap (λ (b : Bool). cond b (ruleFound (ruleOf d k)) (ruleAbsent 0)) (lt-ltb k (length (d .rules)) l)
 
   whole : Whole bs d
   whole =
       record {
-        states = λ k l. ap (λ (r : ListRule). take (r .children) (r .states)) (rule-is k l) ∙ four-places (ruleOf d k .states) (few-children bs d e k l);
+        states = λ k l. ap (λ (r : ListRule). take (r .children) (r .states)) (rule-is k l) ∙ four-places (ruleOf d k .states) (few-children bs a e k l);
         children = λ k l.
             let r = ruleOf d k in
             ap (λ (r : ListRule). childrenBy (r .symbol) (readList bs)) (rule-is k l) ∙ ap (childrenBy (r .symbol)) e ∙
-            ap (λ (b : Bool). cond b (present (getD (d .counts) (r .symbol) 0)) (absent 0)) (lt-ltb (r .symbol) (length (d .counts)) (symbol-known bs d e k l)) ∙
-            ap present (sym (states-counted bs d e k l)) ∙ sym (ap (λ (r : ListRule). present (r .children)) (rule-is k l));
+            ap (λ (b : Bool). cond b (present (getD (d .counts) (r .symbol) 0)) (absent 0)) (lt-ltb (r .symbol) (length (d .counts)) (symbol-known bs a e k l)) ∙
+            ap present (sym (states-counted bs a e k l)) ∙ sym (ap (λ (r : ListRule). present (r .children)) (rule-is k l));
         target = λ k l.
             let r = ruleOf d k in
-            ap (targetBy (r .symbol) (r .states)) e ∙ ap targetFound (target-at (d .rules) k (lefts-differ bs d e) l);
-        back = λ a qs q f.
-            let m = target-back a qs q (d .rules) (found-same (targetIn a qs (d .rules)) q (sym (ap (targetBy a qs) e) ∙ f)) in
+            ap (targetBy (r .symbol) (r .states)) e ∙ ap targetFound (target-at (d .rules) k (lefts-differ bs a e) l);
+        back = λ s qs q f.
+            let m = target-back s qs q (d .rules) (found-same (targetIn s qs (d .rules)) q (sym (ap (targetBy s qs) e) ∙ f)) in
             (m .place, m .there, m .is);
       }
 
 pub seen-whole : SeenWhole
-seen-whole bs d e = whole bs d e
+seen-whole bs a e = whole bs a e

@@ -7,7 +7,7 @@ use Prim.Native.Nat.{ℕ}
 use lib.Dec.{eqb}
 use lib.ListN.{length, getD, take}
 use Rattle.model.specs.Automata.{Rule, Automaton, isFinal, targetIn}
-use Rattle.model.specs.Listing.{bodyAt, behind, ruleIn, Read, broken, loaded, readList}
+use Rattle.model.specs.Listing.{Sheet, bodyAt, behind, ruleIn, Read, broken, loaded, readList}
 use Rattle.model.specs.Entry.{loadSeen}
 use Rattle.model.specs.View.{targetFound, fourPlaces, noRule}
 use Rattle.model.specs.declared.State.{State}
@@ -46,7 +46,7 @@ asTarget o = targetOf (targetFound o)
 abbrev pub targetAt : (bytes : List ℕ) → (rules symbol : ℕ) → (states : List ℕ) → Target
 targetAt bs n a qs = asTarget (targetIn a (take (flatWidth (bodyAt bs) a) qs) (rulesIn n (behind (behind bs))))
 
--- the bytes that are shown, and the automaton that they are
+-- the bytes that are shown, and the sheet that they are
 abbrev pub shownBy : (bytes : List ℕ) → Read → List ℕ
 shownBy bs broken = []
 shownBy bs (loaded a) = bs
@@ -54,12 +54,15 @@ shownBy bs (loaded a) = bs
 abbrev pub shownBytes : (bytes : List ℕ) → List ℕ
 shownBytes bs = shownBy bs (readList bs)
 
-abbrev pub automatonBy : Read → Automaton
-automatonBy broken = record { counts = []; finals = []; rules = [] }
-automatonBy (loaded a) = a
+abbrev pub sheetBy : Read → Sheet
+sheetBy broken = record { automaton = record { counts = []; finals = []; rules = [] } }
+sheetBy (loaded a) = a
+
+abbrev pub sheetIn : (bytes : List ℕ) → Sheet
+sheetIn bs = sheetBy (readList bs)
 
 abbrev pub automatonIn : (bytes : List ℕ) → Automaton
-automatonIn bs = automatonBy (readList bs)
+automatonIn bs = sheetIn bs .automaton
 
 -- WHAT A HOST SEES through a view of any bytes: the automaton that they are, field by field; past the last rule one with zeros
 pub record Shows (bytes : List ℕ) : Type 0 where

@@ -4,7 +4,7 @@ use mathlib.Core.List.{List}
 use Prim.Native.Nat.{ℕ, _<_}
 use lib.ListN.{length, getD, take}
 use Rattle.model.specs.Automata.{Rule, Automaton}
-use Rattle.model.specs.Listing.{loaded, readList}
+use Rattle.model.specs.Listing.{Sheet, loaded, readList}
 use Rattle.model.specs.View.{present, childrenSeen, targetSeen, noRule, ruleSeen}
 
 abbrev pub ruleOf : Automaton → (number : ℕ) → Rule
@@ -18,4 +18,4 @@ pub record Whole (bytes : List ℕ) (d : Automaton) : Type 0 where
       (k : ℕ) × (k < length (d .rules)) × (ruleOf d k ≡ record { symbol = symbol; states = states; target = q })
 
 abbrev pub SeenWhole : Type 0
-SeenWhole = (bytes : List ℕ) (d : Automaton) → readList bytes ≡ loaded d → Whole bytes d
+SeenWhole = (bytes : List ℕ) (a : Sheet) → readList bytes ≡ loaded a → Whole bytes (a .automaton)

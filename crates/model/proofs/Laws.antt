@@ -27,9 +27,9 @@ pub mod Blocks
 pub mod Heads
 pub mod RuleBodies
 pub mod LeftSides
+pub mod RulesRead
 pub mod Listing
 pub mod ListRead
-pub mod RulesRead
 -- the table: the proposal, any automaton that agrees, the search in hand, settling and growing
 pub mod Proposal
 pub mod Proposed

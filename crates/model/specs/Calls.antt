@@ -9,7 +9,7 @@ use Rattle.model.specs.Terms.{orElse, unless, recordFault, knownRow}
 use Rattle.model.specs.Automata.{acceptsList}
 use Rattle.model.specs.Table.{Tables, tables, answerAt, automatonOf}
 use Rattle.model.specs.Sound.{alphabetFits, isSound}
-use Rattle.model.specs.Listing.{emitted}
+use Rattle.model.specs.Listing.{Sheet, emitted}
 use Rattle.model.specs.Steps.{Shortage, shortageNumber, Ended, short, asks, proposes, offered, answered}
 
 pub data Call : Type 0 where
@@ -78,8 +78,12 @@ answerFault x m = orElse (unless (isAsking x) 31) (unless (markFits m) 16)
 abbrev pub acceptFault : Tables → ℕ
 acceptFault x = unless (isProposing x) 31
 
+-- the sheet that tables propose
+abbrev pub sheetOf : Tables → Sheet
+sheetOf x = record { automaton = automatonOf x }
+
 abbrev pub emitFault : Tables → (room : ℕ) → ℕ
-emitFault x r = orElse (unless (not (isAsking x)) 31) (unless (leb (length (emitted (automatonOf x))) r) 20)
+emitFault x r = orElse (unless (not (isAsking x)) 31) (unless (leb (length (emitted (sheetOf x))) r) 20)
 
 abbrev pub faultOf : Tables → Call → ℕ
 faultOf x (offers xs m) = offerFault x xs m

@@ -7,10 +7,9 @@ use lib.ListN.{length, getD, take, drop, replicate}
 use Rattle.model.specs.Limits.{rowWidth, mostRows, mostSymbols, mostStates, mostRules, mostContexts, mostChildren}
 use Rattle.model.specs.Base.{isIn, over}
 use Rattle.model.specs.Store.{Node, Store}
-use Rattle.model.specs.Automata.{Automaton}
-use Rattle.model.specs.Table.{Tables, tables, automatonOf}
+use Rattle.model.specs.Table.{Tables, tables}
 use Rattle.model.specs.Listing.{emitted, Read, broken, loaded, readList}
-use Rattle.model.specs.Calls.{Call, looks, emits, Outcome, refuses, leaves, numberOf, Look, look, call, startFault, started}
+use Rattle.model.specs.Calls.{Call, looks, emits, Outcome, refuses, leaves, numberOf, Look, look, sheetOf, call, startFault, started}
 use Rattle.model.specs.declared.Lists.{Lists}
 use Rattle.model.specs.declared.Seen.{Seen}
 use Rattle.model.specs.declared.Emitted.{Emitted}
@@ -44,6 +43,14 @@ listsFit l =
     leb (l .letters) mostSymbols && leb (l .states) mostStates && leb (l .rules) mostRules && leb (l .contexts) mostContexts &&
     leb (l .accepted) 1
 
+-- what is lent fits: the one test of words and lists before the tables are looked at (30)
+abbrev pub lentFits : (words : List ℕ) → Lists → Bool
+lentFits ws l = listsFit l
+
+-- 18, then 30 for what does not fit; 0 for neither
+abbrev pub lentFault : (words : List ℕ) → Lists → ℕ
+lentFault ws l = cond (sizeFits ws) (cond (lentFits ws l) 0 30) 18
+
 -- the tables that lent words and lists mean
 abbrev pub storeOf : (words counts : List ℕ) → (used : ℕ) → Store
 storeOf ws ns u = record { counts = ns; room = rowsLent ws; nodes = nodesIn u ws }
@@ -53,23 +60,29 @@ tablesOf ws l =
     tables (storeOf ws (take (l .letters) (l .counts)) (l .used)) (answersIn (l .used) ws) (take (l .states) (l .s)) (take (l .rules) (l .t))
     (take (l .contexts) (l .c)) (l .hand) (l .asked) (eqb (l .accepted) 1)
 
+-- LISTS CHANGED: the fields, spelt once. What a call changes is said by this (listsOf, and run_lists' Changes)
+abbrev pub changed : Lists → (letters : ℕ) → (counts : List ℕ) → (accepted used states : ℕ) → (s : List ℕ) → (rules : ℕ) → (t : List ℕ) → (contexts : ℕ) → (c : List ℕ) → (hand asked : ℕ) → Lists
+changed l k ns z u q s n t m c h j =
+    record {
+      letters = k;
+      counts = ns;
+      accepted = z;
+      used = u;
+      states = q;
+      s = s;
+      rules = n;
+      t = t;
+      contexts = m;
+      c = c;
+      hand = h;
+      asked = j;
+    }
+
 -- and the lists that mean tables: places past an end keep what they held
 abbrev pub listsOf : (old : Lists) → Tables → Lists
 listsOf l x =
-    record {
-      letters = length (x .store .counts);
-      counts = over (x .store .counts) (l .counts);
-      accepted = cond (x .accepted) 1 0;
-      used = length (x .store .nodes);
-      states = length (x .s);
-      s = over (x .s) (l .s);
-      rules = length (x .t);
-      t = over (x .t) (l .t);
-      contexts = length (x .c);
-      c = over (x .c) (l .c);
-      hand = x .hand;
-      asked = x .asked;
-    }
+    changed l (length (x .store .counts)) (over (x .store .counts) (l .counts)) (cond (x .accepted) 1 0) (length (x .store .nodes))
+    (length (x .s)) (over (x .s) (l .s)) (length (x .t)) (over (x .t) (l .t)) (length (x .c)) (over (x .c) (l .c)) (x .hand) (x .asked)
 
 -- WHAT IS RETURNED
 abbrev pub seenOf : Look → Seen
@@ -137,7 +150,7 @@ startLists ws ns l = zeroedBy l (startBy ws ns)
 
 -- OFFERS, ANSWERS, ACCEPTANCE, LOOKING (§3.3 to §3.6): 18, 30, then the call's own lines
 abbrev pub callBy : (words : List ℕ) → Lists → Call → Outcome
-callBy ws l k = cond (sizeFits ws) (cond (listsFit l) (call (tablesOf ws l) k) (refuses 30)) (refuses 18)
+callBy ws l k = cond (sizeFits ws) (cond (lentFits ws l) (call (tablesOf ws l) k) (refuses 30)) (refuses 18)
 
 abbrev pub callNumber : (words : List ℕ) → Lists → Call → ℕ
 callNumber ws l k = numberOf (callBy ws l k)
@@ -154,11 +167,11 @@ callLists ws l k = listsBy l (callBy ws l k)
 -- EMITTING (§3.7): 18, 30, 31, 20; the bytes of the proposed automaton, and the rest of the output left
 abbrev pub emittedBy : Outcome → Emitted
 emittedBy (refuses n) = record { number = n; size = 0 }
-emittedBy (leaves x) = record { number = 0; size = length (emitted (automatonOf x)) }
+emittedBy (leaves x) = record { number = 0; size = length (emitted (sheetOf x)) }
 
 abbrev pub outBy : (out : List ℕ) → Outcome → List ℕ
 outBy o (refuses n) = o
-outBy o (leaves x) = over (emitted (automatonOf x)) o
+outBy o (leaves x) = over (emitted (sheetOf x)) o
 
 abbrev pub emitSeen : (words : List ℕ) → Lists → (out : List ℕ) → Emitted
 emitSeen ws l o = emittedBy (callBy ws l (emits (length o)))
@@ -169,7 +182,7 @@ emitOut ws l o = outBy o (callBy ws l (emits (length o)))
 -- LOADING (§3.8): 21 alone; the count of rules
 abbrev pub loadedBy : Read → Emitted
 loadedBy broken = record { number = 21; size = 0 }
-loadedBy (loaded a) = record { number = 0; size = length (a .rules) }
+loadedBy (loaded a) = record { number = 0; size = length (a .automaton .rules) }
 
 abbrev pub loadSeen : (bytes : List ℕ) → Emitted
 loadSeen bs = loadedBy (readList bs)

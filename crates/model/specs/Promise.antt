@@ -14,9 +14,9 @@ use Rattle.model.specs.Automata.{Automaton, isDeterministic, stateOf, ac
 use Rattle.model.specs.Table.{Tables, size, answerAt, answerIn, rowOf, ruleOf, automatonOf}
 use Rattle.model.specs.Sound.{alphabetFits, isSound, isNearlySound, contextsFew}
 use Rattle.model.specs.Phase.{Sounds}
-use Rattle.model.specs.Listing.{emitted, loaded, readList, finalsFit}
+use Rattle.model.specs.Listing.{Sheet, emitted, loaded, readList, finalsFit}
 use Rattle.model.specs.Steps.{lost, search, noneUnknown, unknown, seek, grow}
-use Rattle.model.specs.Calls.{Call, offers, answers, accept, looks, emits, refuses, numberOf, isAsking, phaseOf, faultOf, call}
+use Rattle.model.specs.Calls.{Call, offers, answers, accept, looks, emits, refuses, numberOf, isAsking, phaseOf, sheetOf, faultOf, call}
 use Rattle.model.specs.Entry.{sizeFits, listsFit, startNumber, startSeen, callNumber, callSeen}
 use Rattle.model.specs.Due.{RowsShort, StatesShort, TransitionsShort}
 use Rattle.model.specs.Run.{Lent, meant, startedRun, afterCall, after, isTaken, takenOnly, taken, shown, grows, Said, said, saidIn, offeredBy, askedBy, heardIn, agreesWith}
@@ -104,7 +104,7 @@ pub record OthersTaken : Type 0 where
   pub answer : (x : Tables) (m : ℕ) → isSound x ≡ true → phaseOf x ≡ 1 → m ≤ 1 → among (numberOf (call x (answers m))) (0 ∷ 34 ∷ 35 ∷ 36 ∷ []) ≡ true
   pub acceptance : (x : Tables) → isSound x ≡ true → phaseOf x ≡ 0 → numberOf (call x accept) ≡ 0
   pub look : (x : Tables) → isSound x ≡ true → numberOf (call x looks) ≡ 0
-  pub emission : (x : Tables) (room : ℕ) → isSound x ≡ true → x .asked ≡ 0 → length (emitted (automatonOf x)) ≤ room → numberOf (call x (emits room)) ≡ 0
+  pub emission : (x : Tables) (room : ℕ) → isSound x ≡ true → x .asked ≡ 0 → length (emitted (sheetOf x)) ≤ room → numberOf (call x (emits room)) ≡ 0
 
 -- the counts told are the lengths of S, T and C, the phase and row told are the tables'
 pub record Tells (seen : Seen) (x : Tables) : Type 0 where
@@ -188,12 +188,12 @@ pub record OneAutomaton : Type 0 where
   pub rows : (x : Tables) (d : Automaton) (i : ℕ) → isSound x ≡ true → i < used (x .store) → acceptsRow d (x .store) i ≡ accepts d (treeAt (x .store) i)
   pub listed : (d : Automaton) (xs : List ℕ) → recordFault (d .counts) xs ≡ 0 → acceptsList d xs ≡ accepts d (treeOf (d .counts) xs)
 
--- emitted bytes, read again, give the automaton; and bytes that read as an automaton are those that it emits
+-- emitted bytes, read again, give the sheet; and bytes that read as a sheet are those that it emits
 pub record ListBack : Type 0 where
-  pub read : (x : Tables) → isSound x ≡ true → x .asked ≡ 0 → readList (emitted (automatonOf x)) ≡ loaded (automatonOf x)
-  pub written : (bs : List ℕ) (a : Automaton) → Below 256 bs → readList bs ≡ loaded a → emitted a ≡ bs
-  pub limits : (bs : List ℕ) (a : Automaton) → readList bs ≡ loaded a →
-      (alphabetFits (a .counts) ≡ true) × (finalsFit (a .finals) ≡ true) × (length (a .rules) ≤ mostRules) × (isDeterministic a ≡ true)
+  pub read : (x : Tables) → isSound x ≡ true → x .asked ≡ 0 → readList (emitted (sheetOf x)) ≡ loaded (sheetOf x)
+  pub written : (bs : List ℕ) (a : Sheet) → Below 256 bs → readList bs ≡ loaded a → emitted a ≡ bs
+  pub limits : (bs : List ℕ) (a : Sheet) → readList bs ≡ loaded a →
+      (alphabetFits (a .automaton .counts) ≡ true) × (finalsFit (a .automaton .finals) ≡ true) × (length (a .automaton .rules) ≤ mostRules) × (isDeterministic (a .automaton) ≡ true)
 
 -- each rule exists because a record that holds its transition got a yes: the rules are T's, in its order, and all that an accepted record uses
 pub record VouchedFor (x : Tables) (es : List Said) : Type 0 where

@@ -14,7 +14,7 @@ use Rattle.model.specs.declared.ListRule.{ListRule}
 -- SIZES
 abbrev pub sizesBy : Read → ListSizes
 sizesBy broken = record { number = 21; symbols = 0; states = 0; rules = 0 }
-sizesBy (loaded d) = record { number = 0; symbols = length (d .counts); states = length (d .finals); rules = length (d .rules) }
+sizesBy (loaded d) = record { number = 0; symbols = length (d .automaton .counts); states = length (d .automaton .finals); rules = length (d .automaton .rules) }
 
 abbrev pub sizesSeen : (bytes : List ℕ) → ListSizes
 sizesSeen bs = sizesBy (readList bs)
@@ -29,7 +29,7 @@ absent n = record { number = n; found = 0; value = 0 }
 -- the child count of a symbol of the alphabet
 abbrev pub childrenBy : (symbol : ℕ) → Read → Found
 childrenBy a broken = absent 21
-childrenBy a (loaded d) = cond (ltb a (length (d .counts))) (present (getD (d .counts) a 0)) (absent 0)
+childrenBy a (loaded d) = cond (ltb a (length (d .automaton .counts))) (present (getD (d .automaton .counts) a 0)) (absent 0)
 
 abbrev pub childrenSeen : (bytes : List ℕ) → (symbol : ℕ) → Found
 childrenSeen bs a = childrenBy a (readList bs)
@@ -37,7 +37,7 @@ childrenSeen bs a = childrenBy a (readList bs)
 -- 1 for a state that is final, 0 for another
 abbrev pub finalBy : (state : ℕ) → Read → Found
 finalBy q broken = absent 21
-finalBy q (loaded d) = cond (ltb q (length (d .finals))) (present (cond (isFinal (d .finals) (some q)) 1 0)) (absent 0)
+finalBy q (loaded d) = cond (ltb q (length (d .automaton .finals))) (present (cond (isFinal (d .automaton .finals) (some q)) 1 0)) (absent 0)
 
 abbrev pub finalSeen : (bytes : List ℕ) → (state : ℕ) → Found
 finalSeen bs q = finalBy q (readList bs)
@@ -49,7 +49,7 @@ targetFound (some q) = present q
 
 abbrev pub targetBy : (symbol : ℕ) → (states : List ℕ) → Read → Found
 targetBy a qs broken = absent 21
-targetBy a qs (loaded d) = targetFound (targetIn a qs (d .rules))
+targetBy a qs (loaded d) = targetFound (targetIn a qs (d .automaton .rules))
 
 abbrev pub targetSeen : (bytes : List ℕ) → (symbol : ℕ) → (states : List ℕ) → Found
 targetSeen bs a qs = targetBy a qs (readList bs)
@@ -77,7 +77,7 @@ noRule = record { symbol = 0; states = []; target = 0 }
 
 abbrev pub ruleBy : (number : ℕ) → Read → ListRule
 ruleBy k broken = ruleAbsent 21
-ruleBy k (loaded d) = cond (ltb k (length (d .rules))) (ruleFound (getD (d .rules) k noRule)) (ruleAbsent 0)
+ruleBy k (loaded d) = cond (ltb k (length (d .automaton .rules))) (ruleFound (getD (d .automaton .rules) k noRule)) (ruleAbsent 0)
 
 abbrev pub ruleSeen : (bytes : List ℕ) → (number : ℕ) → ListRule
 ruleSeen bs k = ruleBy k (readList bs)

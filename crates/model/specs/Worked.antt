@@ -180,7 +180,7 @@ pub record Corners : Type 0 where
 -- the premises of LearnsEach hold for this run and its own automaton
 pub record PremisesHold : Type 0 where
   pub own : Automaton
-  pub is-its-list : readList theList ≡ loaded own
+  pub is-its-list : readList theList ≡ loaded (record { automaton = own })
   pub start : startNumber (oldWords 5) counts ≡ 0
   pub alphabet : own .counts ≡ counts
   pub deterministic : isDeterministic own ≡ true

@@ -11,7 +11,7 @@ use Rattle.model.specs.Sound.{isT1}
 use Rattle.model.specs.Terms.{recordFault, storeFrom, knownRow}
 use Rattle.model.specs.Entry.{storeOf, answersIn, sizeFits}
 use Rattle.bank.specs.Index.{holeOf, findIn}
-use Rattle.bank.specs.Ready.{placeCode, Kept, withRows}
+use Rattle.bank.specs.Bank.{placeCode, Kept, withRows}
 use Rattle.bank_fill.specs.declared.add.Grown.{Grown}
 use Rattle.probe.specs.declared.Reply.{Reply}
 

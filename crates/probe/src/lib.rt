@@ -11,16 +11,16 @@ ghost use lib.ListN.{length};
 ghost use Rattle.model.specs.Limits.{mostRows};
 ghost use Rattle.model.specs.Terms.{recordFault};
 ghost use Rattle.model.specs.Entry.{sizeFits};
-ghost use Rattle.bank.specs.Ready.{Ready};
+ghost use Rattle.bank.specs.Bank.{Bank};
 ghost use Rattle.bank.specs.Index.{indexWidth, sizeIn};
 ghost use Rattle.probe.specs.Probed.{isPassed, Shown, Marks, said, saidOf, found, FilledReady, Filled, StoredReady, Stored, known};
 use bank::index;
 use bank::index::INDEX_WIDTH;
+use bank::rows;
 use bank_fill::add::Grown;
 use bank_fill::context;
 use model::Row;
 use model::limits::MOST_ROWS;
-use model::limits::ROW_WIDTH;
 
 // How adding rows ended: 0 rows ran out, 1 the row and the rows used afterwards, 2 refused.
 #[repr(C)]
@@ -38,26 +38,13 @@ pub extern "C" fn probe_fault(counts: &[u8], symbols: &[u8]) -> u8
     bank_listed::record_fault(counts, symbols)
 }
 
-// Whether the words are whole rows, 1 to 16,384.
-fn size_fits(words: &[u32]) -> bool
-    ensures { λ r. ⌜ r ≡ sizeFits (now (words .entry)) ⌝ }
-{
-    if words.len() % ROW_WIDTH != 0 {
-        return false;
-    }
-    if words.len() / ROW_WIDTH < 1 {
-        return false;
-    }
-    words.len() / ROW_WIDTH <= MOST_ROWS
-}
-
 // T1 behind the test of the size; where it holds, the index and the holes are ready.
 fn passes(words: &[u32], counts: &[u8], used: u16, index: &mut [u16]) -> bool
     requires { ⌜ length (now index) ≡ indexWidth * mostRows ⌝ }
     ensures { λ r. ⌜ r ≡ isPassed (now (words .entry)) (now (counts .entry)) used ⌝ }
-    ensures ready { λ r. ⌜ (r ≡ true → Ready (now (words .entry)) (now (counts .entry)) used (now (index .exit))) ⌝ }
+    ensures bank { λ r. ⌜ (r ≡ true → Bank (now (words .entry)) (now (counts .entry)) used (now (index .exit))) ⌝ }
 {
-    if !size_fits(words) {
+    if !rows::size_fits(words) {
         return false;
     }
     bank_t1::t1(words, counts, used, index)
@@ -152,7 +139,7 @@ fn filled(
     context: u16,
     with: u16,
 ) -> Reply
-    requires { ⌜ Ready (now words) (now counts) used (now index) ⌝ }
+    requires { ⌜ Bank (now words) (now counts) used (now index) ⌝ }
     ensures { λ r. ⌜ FilledReady (now (words .entry)) (now (counts .entry)) used context with r (now (words .exit)) ⌝ }
 {
     if used <= context {
@@ -190,7 +177,7 @@ pub extern "C" fn probe_fill(
 
 // A listed record stored, unless it is at fault.
 fn stored(words: &mut [u32], counts: &[u8], used: u16, index: &mut [u16], symbols: &[u8]) -> Reply
-    requires { ⌜ Ready (now words) (now counts) used (now index) ⌝ }
+    requires { ⌜ Bank (now words) (now counts) used (now index) ⌝ }
     ensures { λ r. ⌜ StoredReady (now (words .entry)) (now (counts .entry)) used (now (symbols .entry)) r (now (words .exit)) ⌝ }
 {
     if bank_listed::record_fault(counts, symbols) != 0 {

@@ -1,1 +1,3 @@
 pub mod Members
+pub mod Changes
+pub mod Run

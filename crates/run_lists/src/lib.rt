@@ -1,8 +1,11 @@
-// run: numbers looked for in the run's lists: members, repeats, inclusion (§2.2).
-// Proved equal to model's tests on lists.
+// run: the run's lists: numbers looked for in them, whether they fit, and every way in which they change (§2.2).
+// Proved equal to model's tests on lists, and to the changes that specs/Changes.antt defines.
 ghost use mathlib.Core.Path.{_≡_};
 ghost use Rattle.model.specs.Base.{among, noRepeats, allAmong, placeOf};
 use model::Row;
+
+pub mod change; // change.rt: the ways in which lists change
+pub mod fit; // fit.rt: lengths within their arrays, an alphabet within its limits
 
 // Whether a row is in a list. The loop goes on past it: without a way out the compiler compares many at once.
 pub fn is_among(xs: &[u16], row: Row) -> bool

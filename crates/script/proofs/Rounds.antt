@@ -21,7 +21,7 @@ pub record Round (input input' : List ℕ) (read got at end : ℕ) : Type 0 wher
   pub came : ReadAs input read got input'
   pub read-within : read ≤ length input
   pub known : at ≡ wholeFrom 0 0 (take read input)
-  pub ready : let bs = take (read + got) input' in end ≡ far bs at read (eqb read (length bs))
+  pub bank : let bs = take (read + got) input' in end ≡ far bs at read (eqb read (length bs))
 
 module _ {input input' : List ℕ} {read got at end : ℕ} (r : Round input input' read got at end) where
   size-is : length (take (read + got) input') ≡ read + got
@@ -32,12 +32,12 @@ module _ {input input' : List ℕ} {read got at end : ℕ} (r : Round input inpu
 
   -- no more came: all of it
   pub round-all : got ≡ 0 → end ≡ read + got
-  round-all e = r .ready ∙ sym (ready-all (take (read + got) input') at read (omega (arith, e, size-is))) ∙ omega (arith, e)
+  round-all e = r .bank ∙ sym (ready-all (take (read + got) input') at read (omega (arith, e, size-is))) ∙ omega (arith, e)
 
   -- more came: its whole lines
   pub round-lines : (got ≡ 0 → ⊥) → end ≡ wholeFrom 0 0 (take (read + got) input')
   round-lines e =
-      r .ready ∙ sym (ready-lines (take (read + got) input') at read (λ f. e (omega (arith, f, size-is)))) ∙
+      r .bank ∙ sym (ready-lines (take (read + got) input') at read (λ f. e (omega (arith, f, size-is)))) ∙
       whole-more (take (read + got) input') read at (omega (arith, size-is)) known-now
 
   at-within : at ≤ read

@@ -6,11 +6,11 @@ use Rattle.model.specs.Table.{automatonOf}
 use Rattle.model.specs.Entry.{storeOf, tablesOf}
 use Rattle.model.specs.declared.Lists.{Lists}
 use Rattle.run_lists.specs.Members.{countsIn, statesIn, rulesIn}
-use Rattle.table_verdict.specs.Rows.{RowsIn}
+use Rattle.bank.specs.Bank.{Stored}
 use Rattle.table_verdict.specs.Rules.{Ruled, hypothesis}
 
 -- rows that can be read, a representative for each transition, and what they mean
 pub record Proposal (words : List ℕ) (l : Lists) (reps : List ℕ) : Type 0 where
-  pub rows : RowsIn words (countsIn l) (l .used)
+  pub rows : Stored words (countsIn l) (l .used)
   pub ruled : Ruled (storeOf words (countsIn l) (l .used)) (statesIn l) (rulesIn l) reps
   pub is : hypothesis words (countsIn l) (l .used) (l .s) (l .states) (l .t) (l .rules) reps ≡ automatonOf (tablesOf words l)

@@ -12,13 +12,13 @@ use Rattle.model.specs.Entry.{storeOf, answersIn}
 use Rattle.model.specs.declared.Lists.{Lists}
 use Rattle.bank.specs.Rows.{answerIn}
 use Rattle.bank.specs.Index.{Roomy}
-use Rattle.bank.specs.Ready.{Ready}
+use Rattle.bank.specs.Bank.{Bank}
 use Rattle.bank.specs.Notes.{roomIn, repsIn}
 use Rattle.run_lists.specs.Members.{countsIn}
 use Rattle.table.specs.Answers.{Observed, Placing, Placed, gapFrom, isOpen}
 use Rattle.sound_roles.specs.Marked.{recordBy}
 use Rattle.table_verdict.specs.Rules.{RepsBy, acceptsBy}
-use Rattle.sound_parts.specs.Given.{rolesFit, questionFits}
+use Rattle.sound.specs.Given.{rolesFit, questionFits}
 use Rattle.sound.specs.declared.Standing.{Standing}
 
 -- the run's lists in their arrays: the first q of S, the first n of T, the first m of C
@@ -41,7 +41,7 @@ pub record Room (words : List ℕ) (n : ℕ) (index table notes : List ℕ) : Ty
 
 -- WHAT THE TEST LEAVES: the index, the table of answers; where no answer is missing, the representative of each transition, which is found by S as places in T
 pub record Working (words counts : List ℕ) (u : ℕ) (s : List ℕ) (q : ℕ) (t : List ℕ) (n : ℕ) (c : List ℕ) (m : ℕ) (index table notes : List ℕ) : Type 0 where
-  pub ready : Ready words counts u index
+  pub bank : Bank words counts u index
   pub observed : Observed (storeOf words counts u) (answersIn u words) t n c m table
   pub s-in-t : List ℕ
   pub placing : Placing s-in-t q n

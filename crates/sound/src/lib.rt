@@ -9,7 +9,7 @@ ghost use Rattle.model.specs.Base.{noRepeats, allAmong};
 ghost use Rattle.model.specs.Table.{tables};
 ghost use Rattle.model.specs.Sound.{isSound};
 ghost use Rattle.model.specs.Entry.{storeOf, answersIn, sizeFits, listsFit, tablesOf};
-ghost use Rattle.bank.specs.Ready.{Ready};
+ghost use Rattle.bank.specs.Bank.{Bank};
 ghost use Rattle.bank.specs.Notes.{roomIn, repsIn};
 ghost use Rattle.table.specs.Answers.{Sized, Observed, Placing, Placed, gapFrom, isOpen};
 ghost use Rattle.table_verdict.specs.Rules.{RepsBy, RepsIn};
@@ -19,7 +19,8 @@ use bank::rows;
 use model::Lists;
 use model::Row;
 use model::limits::MOST_STATES;
-use sound_parts::judge;
+
+mod judge; // judge.rt: T2 to T8, in parts
 
 // S by its places in T, and whether an answer is missing; where none is, the representative of each transition too, into the notes.
 fn represent(
@@ -47,8 +48,8 @@ fn represent(
         × Placed (now (t .entry)) rules (now (s .entry)) states places
         × (isOpen gap ≡ false → RepsBy (now (table .entry)) contexts (take states places) (now (s .entry)) (now (t .entry)) reps) ⌝ }
 {
-    judge::find_s_in_t(s, t, s_in_t);
-    if judge::is_missing(table, t.len(), contexts) {
+    table::find_s_in_t(s, t, s_in_t);
+    if table::is_missing(table, t.len(), contexts) {
         return true;
     }
     let size = notes.len() / NOTE_WIDTH;
@@ -80,9 +81,9 @@ fn prepare(
         let w = answersIn used (now (words .entry)) in
         let rules = length (now (t .entry)) in
         let contexts = length (now (c .entry)) in
-        let ready = Ready (now (words .entry)) (now (counts .entry)) used (now (index .exit)) in
+        let bank = Bank (now (words .entry)) (now (counts .entry)) used (now (index .exit)) in
         let right = Observed x w (now (t .entry)) rules (now (c .entry)) contexts (now (table .exit)) in
-        ⌜ (r ≡ true → ready × right) ⌝ }
+        ⌜ (r ≡ true → bank × right) ⌝ }
 {
     if !bank_t1::t1(words, counts, used, index) {
         return false;
@@ -104,7 +105,7 @@ fn hand_fits(
     hand: Row,
     missing: bool,
 ) -> bool
-    requires { ⌜ Ready (now words) (now counts) used (now index)
+    requires { ⌜ Bank (now words) (now counts) used (now index)
         × (used ≤ roomIn (now notes))
         × (missing ≡ false → RepsIn used (repsIn (now notes))) ⌝ }
     ensures { λ r.
@@ -145,7 +146,7 @@ fn standing_fits(
     standing: Standing,
     missing: bool,
 ) -> bool
-    requires { ⌜ Ready (now words) (now counts) used (now index)
+    requires { ⌜ Bank (now words) (now counts) used (now index)
         × (used ≤ roomIn (now notes))
         × (missing ≡ false → RepsIn used (repsIn (now notes))) ⌝ }
     ensures { λ r.

@@ -1,21 +1,20 @@
 // T2 (§2.3) but for the length of T: transitions are records, none twice, whose children are representatives.
 ghost use mathlib.Core.Path.{_≡_};
 ghost use mathlib.Core.Bool.{true, _&&_};
-ghost use Prim.Native.Nat.{ℕ, _*_, _≤_};
+ghost use Prim.Native.Nat.{ℕ, _*_, _≤_, _<_};
 ghost use lib.ListN.{length};
 ghost use Rattle.model.specs.Limits.{rowWidth};
 ghost use Rattle.model.specs.Base.{all, noRepeats, allAmong};
 ghost use Rattle.model.specs.Store.{kidsAt, isRecord};
 ghost use Rattle.model.specs.Facts.{Good};
 ghost use Rattle.model.specs.Entry.{storeOf};
-ghost use Rattle.bank.specs.Ready.{Ready};
-ghost use Rattle.sound_roles.specs.Stored.{Stored};
+ghost use Rattle.bank.specs.Bank.{Stored, Bank};
 use bank::rows;
 use model::Row;
 
 // Whether the children of a row are all in S.
 fn kids_in(words: &[u32], counts: &[u8], used: u16, row: Row, s: &[u16]) -> bool
-    requires { ⌜ Stored (now words) (now counts) used (row .0) ⌝ }
+    requires { ⌜ Stored (now words) (now counts) used × (0 < row .0) × (row .0 < used) ⌝ }
     ensures { λ r.
         let store = storeOf (now (words .entry)) (now (counts .entry)) used in
         ⌜ r ≡ allAmong (kidsAt store (row .0)) (now (s .entry)) ⌝ }
@@ -56,7 +55,7 @@ fn all_kids_in(words: &[u32], counts: &[u8], used: u16, t: &[u16], s: &[u16]) ->
 
 // T2 but for the length of T.
 pub fn t2(words: &[u32], counts: &[u8], used: u16, index: &[u16], t: &[u16], s: &[u16]) -> bool
-    requires { ⌜ Ready (now words) (now counts) used (now index) ⌝ }
+    requires { ⌜ Bank (now words) (now counts) used (now index) ⌝ }
     ensures { λ r.
         let store = storeOf (now (words .entry)) (now (counts .entry)) used in
         let rules = now (t .entry) in

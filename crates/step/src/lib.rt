@@ -4,21 +4,28 @@ ghost use mathlib.Core.Path.{_≡_};
 ghost use Prim.Native.Nat.{_+_, _*_, _≤_};
 ghost use lib.ListN.{length};
 ghost use Rattle.model.specs.Limits.{mostContexts};
-ghost use Rattle.model.specs.Steps.{advance as advanceOf, search};
+ghost use Rattle.model.specs.Steps.{advance as advanceOf, search as searchOf};
 ghost use Rattle.model.specs.Entry.{tablesOf};
-ghost use Rattle.bank.specs.Notes.{repsIn, downIn, spotsIn, exchangedIn};
+ghost use Rattle.bank.specs.Bank.{Bank};
+ghost use Rattle.bank.specs.Notes.{NotesFor, repsIn, downIn, spotsIn, exchangedIn};
+ghost use Rattle.run_lists.specs.Members.{countsIn};
+ghost use Rattle.run_lists.specs.Run.{Run};
 ghost use Rattle.step_search.specs.Spots.{Descended, searchBy};
-ghost use Rattle.step_end.specs.Stepping.{Stepping, Noting, KnownTable, InHand, EndedAs};
+ghost use Rattle.step_settle.specs.Stepped.{KnownTable, EndedAs};
+ghost use Rattle.step.specs.InHand.{InHand};
 use model::Lists;
 use model::Row;
-use step_end::finish;
-use step_end::finish::Stepped;
 use step_search::Found;
+use step_settle::Stepped;
+use step_settle::settle;
 
-// The parts of the lists lent to the search in hand.
-fn find(words: &[u32], lists: Lists, index: &[u16], notes: &mut [u16]) -> Found
-    requires { ⌜ Stepping (now words) lists (now index)
-        × Noting (now words) (now notes)
+mod found; // found.rt: what the search in hand found: a missing transition, an unknown answer, answers that differ
+
+// The search with the record in hand, on the parts of the lists that it reads.
+fn search(words: &[u32], lists: Lists, index: &[u16], notes: &mut [u16]) -> Found
+    requires { ⌜ Bank (now words) (countsIn lists) (lists .used) (now index)
+        × Run (now words) lists
+        × NotesFor (now words) (now notes)
         × InHand (now words) lists (repsIn (now notes)) ⌝ }
     ensures { λ r.
         let x = tablesOf (now (words .entry)) lists in
@@ -29,7 +36,7 @@ fn find(words: &[u32], lists: Lists, index: &[u16], notes: &mut [u16]) -> Found
     ensures ended { λ r.
         let x = tablesOf (now (words .entry)) lists in
         let reps = repsIn (now (notes .entry)) in
-        ⌜ searchBy (x .s) reps (x .store) r ≡ search (x .store) (x .answers) (x .s) (x .t) (x .c) (lists .hand) ⌝ }
+        ⌜ searchBy (x .s) reps (x .store) r ≡ searchOf (x .store) (x .answers) (x .s) (x .t) (x .c) (lists .hand) ⌝ }
 {
     let letters = lists.letters as usize;
     let counts = lists.counts;
@@ -43,25 +50,6 @@ fn find(words: &[u32], lists: Lists, index: &[u16], notes: &mut [u16]) -> Found
     )
 }
 
-// With a record in hand: the search, and what its end asks for.
-pub fn in_hand(
-    words: &mut [u32],
-    lists: Lists,
-    index: &mut [u16],
-    table: &mut [u8],
-    notes: &mut [u16],
-) -> Stepped
-    requires { ⌜ Stepping (now words) lists (now index)
-        × Noting (now words) (now notes)
-        × (mostContexts * (lists .rules + 1) ≤ length (now table))
-        × InHand (now words) lists (repsIn (now notes))
-        × (lists .hand ≡ 0 → ⊥) ⌝ }
-    ensures { λ r. ⌜ EndedAs (now (words .entry)) lists (advanceOf (tablesOf (now (words .entry)) lists)) r (now (words .exit)) ⌝ }
-{
-    let found = find(words, lists, index, notes);
-    step_found::ended_at(words, lists, index, table, notes, found)
-}
-
 // A step. With nothing in hand, rows of the table without an unknown answer are right; there is room in it for one transition more.
 pub fn advance(
     words: &mut [u32],
@@ -70,8 +58,9 @@ pub fn advance(
     table: &mut [u8],
     notes: &mut [u16],
 ) -> Stepped
-    requires { ⌜ Stepping (now words) lists (now index)
-        × Noting (now words) (now notes)
+    requires { ⌜ Bank (now words) (countsIn lists) (lists .used) (now index)
+        × Run (now words) lists
+        × NotesFor (now words) (now notes)
         × (mostContexts * (lists .rules + 1) ≤ length (now table))
         × ((lists .hand ≡ 0 → ⊥) → InHand (now words) lists (repsIn (now notes)))
         × (lists .hand ≡ 0 → KnownTable (now words) lists (now table))
@@ -80,7 +69,8 @@ pub fn advance(
     ensures { λ r. ⌜ EndedAs (now (words .entry)) lists (advanceOf (tablesOf (now (words .entry)) lists)) r (now (words .exit)) ⌝ }
 {
     if lists.hand == 0 {
-        return finish::finish(words, lists, index, table, notes);
+        return settle::settled(words, lists, index, table, notes);
     }
-    in_hand(words, lists, index, table, notes)
+    let ended = search(words, lists, index, notes);
+    found::searched(words, lists, index, table, notes, ended)
 }

@@ -10,11 +10,11 @@ use Rattle.model.specs.Base.{In, among}
 use Rattle.model.specs.Store.{Store, Spot, used, kidsAt, filledRow, down, spotOf}
 use Rattle.model.specs.Steps.{Search, atNewTransition, atUnknown, atDifference, repOf, search}
 use Rattle.model.specs.TableFacts.{Full, HandFits}
-use Rattle.bank.specs.Ready.{placeCode}
+use Rattle.bank.specs.Bank.{placeCode}
 use Rattle.step_search.specs.declared.Found.{Found}
 
 -- T1 to T6 with nothing missing, and the representative of each transition; other rows have 0
-pub record Handling (x : Store) (w s t cs reps : List ℕ) : Type 0 where
+pub record Noted (x : Store) (w s t cs reps : List ℕ) : Type 0 where
   pub full : Full x w s t cs
   pub long : x .room ≤ length reps
   pub of-t : (u : ℕ) → In u t → getD reps u 0 ≡ repOf x w s t cs u
@@ -70,10 +70,10 @@ pub record Handed (x : Store) (w reps : List ℕ) (hand : ℕ) : Type 0 where
   pub s : List ℕ
   pub t : List ℕ
   pub cs : List ℕ
-  pub handling : Handling x w s t cs reps
+  pub noted : Noted x w s t cs reps
   pub fits : HandFits x w s t cs hand
 
 -- where the search with it ends, by whatever tables the representatives are of
 abbrev pub EndsAt : Store → (w reps : List ℕ) → (hand : ℕ) → Found → Type 0
 EndsAt x w reps h f =
-    (s t cs : List ℕ) → Handling x w s t cs reps → HandFits x w s t cs h → searchBy s reps x f ≡ search x w s t cs h
+    (s t cs : List ℕ) → Noted x w s t cs reps → HandFits x w s t cs h → searchBy s reps x f ≡ search x w s t cs h

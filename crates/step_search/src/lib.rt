@@ -8,7 +8,7 @@ ghost use Rattle.model.specs.Limits.{rowWidth, mostRows};
 ghost use Rattle.model.specs.Store.{kidsAt, nextRow};
 ghost use Rattle.model.specs.Facts.{Good};
 ghost use Rattle.model.specs.Entry.{storeOf, answersIn};
-ghost use Rattle.bank.specs.Ready.{Ready, frameAt};
+ghost use Rattle.bank.specs.Bank.{Bank, frameAt};
 ghost use Rattle.bank.specs.Notes.{roomIn, repsIn, downIn, spotsIn, exchangedIn};
 ghost use Rattle.step_search.specs.Spots.{exchangedBy, TurnsBy, DescendedBy, ownRep, notOwn, outsideBy, spotBy, Handed, EndsAt};
 use bank::index;
@@ -63,7 +63,7 @@ fn with_child(
     place: usize,
     with: Row,
 ) -> Row
-    requires { ⌜ Ready (now words) (now counts) used (now index)
+    requires { ⌜ Bank (now words) (now counts) used (now index)
         × (0 < row .0)
         × (row .0 < used)
         × (place < length (kidsAt (storeOf (now words) (now counts) used) (row .0))) ⌝ }
@@ -99,7 +99,7 @@ fn turn_of(
     exchanged: &[u16],
     row: Row,
 ) -> Turn
-    requires { ⌜ Ready (now words) (now counts) used (now index)
+    requires { ⌜ Bank (now words) (now counts) used (now index)
         × (used ≤ length (now reps))
         × TurnsBy (notOwn (now reps)) (now reps) (storeOf (now words) (now counts) used) (now at) (now exchanged) (row .0)
         × (0 < row .0)
@@ -150,7 +150,7 @@ fn note_turn(notes: &mut [u16], row: Row, turn: Turn)
 
 // All rows from the bottom: the place down, the row at the spot, the exchanged row.
 fn descend(words: &[u32], counts: &[u8], used: u16, index: &[u16], notes: &mut [u16])
-    requires { ⌜ Ready (now words) (now counts) used (now index)
+    requires { ⌜ Bank (now words) (now counts) used (now index)
         × (used ≤ roomIn (now notes))
         × (getD (repsIn (now notes)) 0 0 ≡ 0) ⌝ }
     ensures { λ _.
@@ -233,7 +233,7 @@ pub fn find(
     hand: Row,
 ) -> Found
     requires { let x = storeOf (now words) (now counts) used in
-        ⌜ Ready (now words) (now counts) used (now index)
+        ⌜ Bank (now words) (now counts) used (now index)
         × Handed x (answersIn used (now words)) (repsIn (now notes)) (hand .0)
         × (used ≤ roomIn (now notes)) ⌝ }
     ensures { λ r.

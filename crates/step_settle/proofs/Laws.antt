@@ -1,3 +1,7 @@
 -- The laws, in reading order: a file uses those above it.
 pub mod Gap
-pub mod Asked
+pub mod Lists
+pub mod States
+pub mod Ends
+pub mod Settled
+pub mod PutDown

@@ -8,3 +8,4 @@ pub mod Tied
 pub mod ToGap
 pub mod Known
 pub mod Judged
+pub mod InT

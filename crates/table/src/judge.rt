@@ -6,13 +6,13 @@ ghost use lib.Dec.{eqb};
 ghost use lib.ListN.{take, drop};
 ghost use Rattle.model.specs.Base.{all, among};
 ghost use Rattle.model.specs.Sound.{differKnown, allDiffer, countSame};
-ghost use Rattle.table.specs.Answers.{rowAt, Sized, placesFrom, Placing};
+ghost use Rattle.table.specs.Answers.{answersAt, Sized, placesFrom, Placing};
 use model::limits::MOST_STATES;
 
 // Whether each transition has a yes at some context.
 pub fn all_yes(table: &[u8], rules: usize, contexts: usize) -> bool
     requires { ⌜ Sized (now table) rules contexts ⌝ }
-    ensures { λ r. ⌜ r ≡ all (λ (k : ℕ). among 2 (rowAt (now (table .entry)) contexts k)) (placesFrom 0 rules) ⌝ }
+    ensures { λ r. ⌜ r ≡ all (λ (k : ℕ). among 2 (answersAt (now (table .entry)) contexts k)) (placesFrom 0 rules) ⌝ }
 {
     let mut k = 0;
     while k < rules {
@@ -29,7 +29,7 @@ fn differs(
     table: &[u8],
     rules: usize,
     contexts: usize,
-    places: &[u16; MOST_STATES],
+    s_in_t: &[u16; MOST_STATES],
     states: usize,
     from: usize,
     a: usize,
@@ -37,14 +37,14 @@ fn differs(
     requires { ⌜ Sized (now table) rules contexts
         × (a < rules)
         × (from ≤ states)
-        × Placing (now places) states rules ⌝ }
+        × Placing (now s_in_t) states rules ⌝ }
     ensures { λ r.
-        let row = rowAt (now (table .entry)) contexts in
-        ⌜ r ≡ all (differKnown (row a)) (map row (drop from (take states (now (places .entry))))) ⌝ }
+        let row = answersAt (now (table .entry)) contexts in
+        ⌜ r ≡ all (differKnown (row a)) (map row (drop from (take states (now (s_in_t .entry))))) ⌝ }
 {
     let mut q = from;
     while q < states {
-        if !crate::differ_known(table, contexts, a, places[q] as usize) {
+        if !crate::differ_known(table, contexts, a, s_in_t[q] as usize) {
             return false;
         }
         q += 1;
@@ -57,11 +57,11 @@ pub fn all_differ(
     table: &[u8],
     rules: usize,
     contexts: usize,
-    places: &[u16; MOST_STATES],
+    s_in_t: &[u16; MOST_STATES],
     states: usize,
 ) -> bool
-    requires { ⌜ Sized (now table) rules contexts × Placing (now places) states rules ⌝ }
-    ensures { λ r. ⌜ r ≡ allDiffer (map (rowAt (now (table .entry)) contexts) (take states (now (places .entry)))) ⌝ }
+    requires { ⌜ Sized (now table) rules contexts × Placing (now s_in_t) states rules ⌝ }
+    ensures { λ r. ⌜ r ≡ allDiffer (map (answersAt (now (table .entry)) contexts) (take states (now (s_in_t .entry)))) ⌝ }
 {
     let mut q = 0;
     while q < states {
@@ -69,10 +69,10 @@ pub fn all_differ(
             table,
             rules,
             contexts,
-            places,
+            s_in_t,
             states,
             q + 1,
-            places[q] as usize,
+            s_in_t[q] as usize,
         ) {
             return false;
         }
@@ -86,19 +86,19 @@ fn count_same(
     table: &[u8],
     rules: usize,
     contexts: usize,
-    places: &[u16; MOST_STATES],
+    s_in_t: &[u16; MOST_STATES],
     states: usize,
     a: usize,
 ) -> u8
-    requires { ⌜ Sized (now table) rules contexts × (a < rules) × Placing (now places) states rules ⌝ }
+    requires { ⌜ Sized (now table) rules contexts × (a < rules) × Placing (now s_in_t) states rules ⌝ }
     ensures { λ r.
-        let row = rowAt (now (table .entry)) contexts in
-        ⌜ r ≡ countSame (row a) (map row (take states (now (places .entry)))) ⌝ }
+        let row = answersAt (now (table .entry)) contexts in
+        ⌜ r ≡ countSame (row a) (map row (take states (now (s_in_t .entry)))) ⌝ }
 {
     let mut n: u8 = 0;
     let mut q = 0;
     while q < states {
-        if crate::same_rows(table, contexts, a, places[q] as usize) {
+        if crate::same_answers(table, contexts, a, s_in_t[q] as usize) {
             n += 1;
         }
         q += 1;
@@ -111,18 +111,18 @@ pub fn all_once(
     table: &[u8],
     rules: usize,
     contexts: usize,
-    places: &[u16; MOST_STATES],
+    s_in_t: &[u16; MOST_STATES],
     states: usize,
 ) -> bool
-    requires { ⌜ Sized (now table) rules contexts × Placing (now places) states rules ⌝ }
+    requires { ⌜ Sized (now table) rules contexts × Placing (now s_in_t) states rules ⌝ }
     ensures { λ r.
-        let row = rowAt (now (table .entry)) contexts in
-        let own = map row (take states (now (places .entry))) in
+        let row = answersAt (now (table .entry)) contexts in
+        let own = map row (take states (now (s_in_t .entry))) in
         ⌜ r ≡ all (λ (k : ℕ). eqb (countSame (row k) own) 1) (placesFrom 0 rules) ⌝ }
 {
     let mut k = 0;
     while k < rules {
-        if count_same(table, rules, contexts, places, states, k) != 1 {
+        if count_same(table, rules, contexts, s_in_t, states, k) != 1 {
             return false;
         }
         k += 1;

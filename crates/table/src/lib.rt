@@ -1,13 +1,15 @@
 // table: the table of answers: answers compared, the state of a transition, the first unknown, the growth of S, T5 and T6 (§1.5).
 // A transition has MOST_CONTEXTS bytes, one for each context; transitions and representatives are places in T. Proved equal to model's Table and Steps.
 ghost use mathlib.Core.Path.{_≡_};
+ghost use mathlib.Core.Bool.{true};
 ghost use Prim.Native.Nat.{ℕ, _+_, _*_, _<_, _≤_};
 ghost use lib.ListN.{length, getD, take};
 ghost use Rattle.model.specs.Limits.{mostContexts, mostRules, mostStates};
-ghost use Rattle.model.specs.Base.{same, among};
+ghost use Rattle.model.specs.Base.{same, among, allAmong};
 ghost use Rattle.model.specs.Sound.{differKnown};
-ghost use Rattle.table.specs.Answers.{rowAt, Sized, Forgotten, unknownIn, placeBy, gapFrom, stateAt, growAt, grownBy};
+ghost use Rattle.table.specs.Answers.{answersAt, Sized, Forgotten, unknownIn, placeBy, gapFrom, isOpen, stateAt, growAt, grownBy, Placing, Placed};
 use model::Context;
+use model::Row;
 use model::State;
 use model::limits::MOST_CONTEXTS;
 use model::limits::MOST_STATES;
@@ -15,9 +17,9 @@ use model::limits::MOST_STATES;
 pub mod judge; // judge.rt: T5 and T6
 
 // Whether two transitions have the same answers at the first `contexts` contexts.
-pub fn same_rows(table: &[u8], contexts: usize, a: usize, b: usize) -> bool
+pub fn same_answers(table: &[u8], contexts: usize, a: usize, b: usize) -> bool
     requires { ⌜ Sized (now table) (a + 1) contexts × Sized (now table) (b + 1) contexts ⌝ }
-    ensures { λ r. ⌜ r ≡ same (rowAt (now (table .entry)) contexts a) (rowAt (now (table .entry)) contexts b) ⌝ }
+    ensures { λ r. ⌜ r ≡ same (answersAt (now (table .entry)) contexts a) (answersAt (now (table .entry)) contexts b) ⌝ }
 {
     let mut j = 0;
     while j < contexts {
@@ -32,7 +34,7 @@ pub fn same_rows(table: &[u8], contexts: usize, a: usize, b: usize) -> bool
 // Whether two transitions differ at a context where both answers are known.
 pub fn differ_known(table: &[u8], contexts: usize, a: usize, b: usize) -> bool
     requires { ⌜ Sized (now table) (a + 1) contexts × Sized (now table) (b + 1) contexts ⌝ }
-    ensures { λ r. ⌜ r ≡ differKnown (rowAt (now (table .entry)) contexts a) (rowAt (now (table .entry)) contexts b) ⌝ }
+    ensures { λ r. ⌜ r ≡ differKnown (answersAt (now (table .entry)) contexts a) (answersAt (now (table .entry)) contexts b) ⌝ }
 {
     let mut j = 0;
     while j < contexts {
@@ -53,7 +55,7 @@ pub fn differ_known(table: &[u8], contexts: usize, a: usize, b: usize) -> bool
 // Whether a transition has an answer at some context: 2 for a yes, 0 for an unknown one.
 pub fn has_answer(table: &[u8], contexts: usize, a: usize, answer: u8) -> bool
     requires { ⌜ Sized (now table) (a + 1) contexts ⌝ }
-    ensures { λ r. ⌜ r ≡ among answer (rowAt (now (table .entry)) contexts a) ⌝ }
+    ensures { λ r. ⌜ r ≡ among answer (answersAt (now (table .entry)) contexts a) ⌝ }
 {
     let mut j = 0;
     while j < contexts {
@@ -86,7 +88,7 @@ pub enum Gap {
 // The first context at which the answer of a transition is unknown; past the last for none.
 fn first_in(table: &[u8], contexts: usize, a: usize) -> Context
     requires { ⌜ Sized (now table) (a + 1) contexts ⌝ }
-    ensures { λ r. ⌜ r .0 ≡ placeBy contexts (unknownIn (rowAt (now (table .entry)) contexts a) 0) ⌝ }
+    ensures { λ r. ⌜ r .0 ≡ placeBy contexts (unknownIn (answersAt (now (table .entry)) contexts a) 0) ⌝ }
 {
     let mut j = 0;
     while j < contexts {
@@ -119,20 +121,20 @@ pub fn state_of(
     table: &[u8],
     rules: usize,
     contexts: usize,
-    places: &[u16; MOST_STATES],
+    s_in_t: &[u16; MOST_STATES],
     states: usize,
     a: usize,
 ) -> State
     requires { ⌜ Sized (now table) rules contexts
         × (a < rules)
         × (states ≤ mostStates)
-        × (length (now places) ≡ mostStates)
-        × ((i : ℕ) → i < states → getD (now places) i 0 < rules) ⌝ }
-    ensures { λ r. ⌜ r .0 ≡ stateAt (now (table .entry)) contexts (take states (now (places .entry))) a ⌝ }
+        × (length (now s_in_t) ≡ mostStates)
+        × ((i : ℕ) → i < states → getD (now s_in_t) i 0 < rules) ⌝ }
+    ensures { λ r. ⌜ r .0 ≡ stateAt (now (table .entry)) contexts (take states (now (s_in_t .entry))) a ⌝ }
 {
     let mut q = 0;
     while q < states {
-        if same_rows(table, contexts, a, places[q] as usize) {
+        if same_answers(table, contexts, a, s_in_t[q] as usize) {
             return State(q as u16);
         }
         q += 1;
@@ -144,7 +146,7 @@ pub fn state_of(
 pub struct Growth {
     pub ok: bool,
     pub states: u16,
-    pub places: [u16; MOST_STATES],
+    pub s: [u16; MOST_STATES],
 }
 
 // T in order: each transition whose row no representative has becomes one (§4.3).
@@ -152,16 +154,16 @@ pub fn grow(
     table: &[u8],
     rules: usize,
     contexts: usize,
-    places: [u16; MOST_STATES],
+    s_in_t: [u16; MOST_STATES],
     states: u16,
 ) -> Growth
     requires { ⌜ Sized (now table) rules contexts
         × (states ≤ mostStates)
-        × ((i : ℕ) → i < states → getD places i 0 < rules) ⌝ }
-    ensures { λ r. ⌜ grownBy (growAt (now (table .entry)) contexts rules (take states places)) r ⌝ }
-    ensures below { λ r. ⌜ ((i : ℕ) → i < r .states → getD (r .places) i 0 < rules) ⌝ }
+        × ((i : ℕ) → i < states → getD s_in_t i 0 < rules) ⌝ }
+    ensures { λ r. ⌜ grownBy (growAt (now (table .entry)) contexts rules (take states s_in_t)) r ⌝ }
+    ensures below { λ r. ⌜ ((i : ℕ) → i < r .states → getD (r .s) i 0 < rules) ⌝ }
 {
-    let mut ps = places;
+    let mut ps = s_in_t;
     let mut n = states;
     let mut k = 0;
     while k < rules {
@@ -171,7 +173,7 @@ pub fn grow(
                 return Growth {
                     ok: false,
                     states: n,
-                    places: ps,
+                    s: ps,
                 };
             }
             ps[n as usize] = k as u16;
@@ -182,6 +184,37 @@ pub fn grow(
     Growth {
         ok: true,
         states: n,
-        places: ps,
+        s: ps,
+    }
+}
+
+// S by its places in T.
+pub fn find_s_in_t(s: &[u16], t: &[u16], s_in_t: &mut [u16; MOST_STATES])
+    requires { ⌜ (length (now s) ≤ mostStates)
+        × (length (now t) ≤ mostRules)
+        × (length (now s_in_t) ≡ mostStates)
+        × (allAmong (now s) (now t) ≡ true) ⌝ }
+    ensures { λ _.
+        let states = length (now (s .entry)) in
+        let rules = length (now (t .entry)) in
+        ⌜ Placing (now (s_in_t .exit)) states rules
+        × Placed (now (t .entry)) rules (now (s .entry)) states (now (s_in_t .exit)) ⌝ }
+{
+    let mut i = 0;
+    while i < s.len() {
+        let at = run_lists::place_of(t, Row(s[i]));
+        s_in_t[i] = at as u16;
+        i += 1;
+    }
+}
+
+// Whether an answer of a transition at a context is missing.
+pub fn is_missing(table: &[u8], rules: usize, contexts: usize) -> bool
+    requires { ⌜ Sized (now table) rules contexts ⌝ }
+    ensures { λ r. ⌜ r ≡ isOpen (gapFrom (now (table .entry)) contexts 0 rules) ⌝ }
+{
+    match first_unknown(table, rules, contexts) {
+        Gap::Closed => false,
+        Gap::At(_, _) => true,
     }
 }

@@ -4,7 +4,7 @@ ghost use Prim.Native.Nat.{_*_, _≤_};
 ghost use lib.ListN.{length};
 ghost use Rattle.model.specs.Limits.{mostContexts, mostRules};
 ghost use Rattle.model.specs.Entry.{storeOf, answersIn};
-ghost use Rattle.bank.specs.Ready.{Ready};
+ghost use Rattle.bank.specs.Bank.{Bank};
 ghost use Rattle.bank.specs.Notes.{roomIn};
 ghost use Rattle.table.specs.Answers.{Observed, KnownRows, ToGap};
 ghost use Rattle.table_columns.specs.Columns.{Answered, Contexts, Used};
@@ -23,7 +23,7 @@ pub fn observe(
     notes: &mut [u16],
 )
     requires { let x = storeOf (now words) (now counts) used in
-        ⌜ Ready (now words) (now counts) used (now index)
+        ⌜ Bank (now words) (now counts) used (now index)
         × Answered (now words) used
         × Used used (now t) (length (now t))
         × Contexts x (now c) (length (now c))
@@ -61,7 +61,7 @@ pub fn observe_to_gap(
 ) -> usize
     requires { let x = storeOf (now words) (now counts) used in
         let w = answersIn used (now words) in
-        ⌜ Ready (now words) (now counts) used (now index)
+        ⌜ Bank (now words) (now counts) used (now index)
         × Answered (now words) used
         × Used used (now t) (length (now t))
         × Contexts x (now c) (length (now c))

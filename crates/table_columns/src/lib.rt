@@ -7,7 +7,7 @@ ghost use lib.Seq.{sets};
 ghost use Rattle.model.specs.Limits.{mostContexts, rowWidth};
 ghost use Rattle.model.specs.Store.{nextRow};
 ghost use Rattle.model.specs.Entry.{storeOf};
-ghost use Rattle.bank.specs.Ready.{Ready, frameAt};
+ghost use Rattle.bank.specs.Bank.{Bank, frameAt};
 ghost use Rattle.bank.specs.Index.{holeOf};
 ghost use Rattle.table_columns.specs.Columns.{holeKid, Answered};
 ghost use Rattle.bank.specs.Notes.{roomIn};
@@ -22,7 +22,7 @@ pub mod needed; // needed.rt: the rows that the contexts need, and their positio
 
 // The child of a row that has the hole.
 fn hole_kid(words: &[u32], counts: &[u8], used: u16, index: &[u16], row: Row) -> Row
-    requires { ⌜ Ready (now words) (now counts) used (now index)
+    requires { ⌜ Bank (now words) (now counts) used (now index)
         × (row .0 < used)
         × (getD (now index) (holeOf (row .0)) 0 ≡ 0 → ⊥) ⌝ }
     ensures { λ r.
@@ -36,7 +36,7 @@ fn hole_kid(words: &[u32], counts: &[u8], used: u16, index: &[u16], row: Row) ->
 
 // What a row with a hole fills to, where its hole child fills to `with`; row 0 where that is not stored.
 fn refill(words: &[u32], counts: &[u8], used: u16, index: &[u16], row: Row, with: Row) -> Row
-    requires { ⌜ Ready (now words) (now counts) used (now index)
+    requires { ⌜ Bank (now words) (now counts) used (now index)
         × (row .0 < used)
         × (getD (now index) (holeOf (row .0)) 0 ≡ 0 → ⊥)
         × (with .0 < used) ⌝ }
@@ -81,7 +81,7 @@ fn fill_next(
 ) -> usize
     requires { let x = storeOf (now words) (now counts) used in
         let z = roomIn (now notes) in
-        ⌜ Ready (now words) (now counts) used (now index)
+        ⌜ Bank (now words) (now counts) used (now index)
         × NeededRows x (now index) used z (now notes) n
         × Runs z (now notes) 1 n
         × Column x (filledNote z (now notes) 0) z (now notes) p
@@ -122,7 +122,7 @@ pub fn fill_column(
 )
     requires { let x = storeOf (now words) (now counts) used in
         let z = roomIn (now notes) in
-        ⌜ Ready (now words) (now counts) used (now index)
+        ⌜ Bank (now words) (now counts) used (now index)
         × NeededRows x (now index) used z (now notes) n
         × Runs z (now notes) 1 n
         × (used ≤ z)

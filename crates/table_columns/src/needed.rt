@@ -6,7 +6,7 @@ ghost use lib.ListN.{length, getD};
 ghost use Rattle.model.specs.Limits.{mostRows};
 ghost use Rattle.model.specs.Entry.{storeOf};
 ghost use Rattle.bank.specs.Index.{holeOf};
-ghost use Rattle.bank.specs.Ready.{Ready};
+ghost use Rattle.bank.specs.Bank.{Bank};
 ghost use Rattle.table_columns.specs.Columns.{Contexts};
 ghost use Rattle.bank.specs.Notes.{roomIn};
 ghost use Rattle.table_columns.specs.Notes.{rowNote, markNote, SameNotes, MembersMarked, HoledMarks, KidsMarked, StayMarked, NeedMarks, NeededRows, AllSeated, holeFirst, neededMore, Runs, Tops, AllBelow, TopsRead};
@@ -19,7 +19,7 @@ use model::Row;
 fn mark_from(words: &[u32], counts: &[u8], used: u16, index: &[u16], row: Row, notes: &mut [u16])
     requires { let x = storeOf (now words) (now counts) used in
         let z = roomIn (now notes) in
-        ⌜ Ready (now words) (now counts) used (now index)
+        ⌜ Bank (now words) (now counts) used (now index)
         × HoledMarks (now index) z used (now notes)
         × KidsMarked x (now index) z used 1 (now notes)
         × (row .0 < used)
@@ -56,7 +56,7 @@ fn mark_members(
 )
     requires { let x = storeOf (now words) (now counts) used in
         let z = roomIn (now notes) in
-        ⌜ Ready (now words) (now counts) used (now index)
+        ⌜ Bank (now words) (now counts) used (now index)
         × HoledMarks (now index) z used (now notes)
         × KidsMarked x (now index) z used 1 (now notes)
         × Contexts x (now c) (length (now c))
@@ -88,7 +88,7 @@ fn put_hole(notes: &mut [u16])
 // Marks the members of C and all rows that they lead down to, and puts row 0 at position 0.
 fn mark_needed(words: &[u32], counts: &[u8], used: u16, index: &[u16], c: &[u16], notes: &mut [u16])
     requires { let x = storeOf (now words) (now counts) used in
-        ⌜ Ready (now words) (now counts) used (now index)
+        ⌜ Bank (now words) (now counts) used (now index)
         × Contexts x (now c) (length (now c))
         × (used ≤ roomIn (now notes)) ⌝ }
     ensures { λ _.
@@ -123,7 +123,7 @@ fn put_needed(n: usize, row: Row, kid: Row, notes: &mut [u16])
 fn list_marked(words: &[u32], counts: &[u8], used: u16, index: &[u16], notes: &mut [u16]) -> usize
     requires { let x = storeOf (now words) (now counts) used in
         let z = roomIn (now notes) in
-        ⌜ Ready (now words) (now counts) used (now index)
+        ⌜ Bank (now words) (now counts) used (now index)
         × HoledMarks (now index) z used (now notes)
         × KidsMarked x (now index) z used 1 (now notes)
         × (rowNote (now notes) 0 ≡ 0)
@@ -197,7 +197,7 @@ pub fn needed_rows(
     tops: &mut [u16],
 ) -> usize
     requires { let x = storeOf (now words) (now counts) used in
-        ⌜ Ready (now words) (now counts) used (now index)
+        ⌜ Bank (now words) (now counts) used (now index)
         × Contexts x (now c) (length (now c))
         × (used ≤ roomIn (now notes))
         × (length (now c) ≤ length (now tops)) ⌝ }

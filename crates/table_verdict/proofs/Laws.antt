@@ -1,6 +1,5 @@
 -- The laws, in reading order: a file uses those above it.
 pub mod Reps
-pub mod Words
 pub mod Rows
 pub mod Run
 pub mod Accepts

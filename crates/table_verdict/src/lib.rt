@@ -11,7 +11,7 @@ ghost use Rattle.model.specs.Facts.{Parses};
 ghost use Rattle.model.specs.Entry.{storeOf, answersIn};
 ghost use Rattle.bank.specs.Rows.{answerIn, Within};
 ghost use Rattle.bank.specs.Index.{Finding, findIn};
-ghost use Rattle.bank.specs.Ready.{Ready};
+ghost use Rattle.bank.specs.Bank.{Bank};
 ghost use Rattle.bank.specs.Notes.{roomIn, columnIn, repsIn};
 ghost use Rattle.table.specs.Answers.{Sized};
 ghost use Rattle.table_verdict.specs.Rules.{RepsBy, RepsIn, repRow, ledList, acceptsBy, acceptsListBy};
@@ -40,25 +40,25 @@ fn clear(reps: &mut [u16])
 pub fn find_reps(
     table: &[u8],
     contexts: usize,
-    places: &[u16; MOST_STATES],
+    s_in_t: &[u16; MOST_STATES],
     s: &[u16],
     t: &[u16],
     reps: &mut [u16],
 )
     requires { ⌜ Sized (now table) (length (now t)) contexts
         × (length (now s) ≤ mostStates)
-        × (length (now places) ≡ mostStates)
-        × ((i : ℕ) → i < length (now s) → getD (now places) i 0 < length (now t))
+        × (length (now s_in_t) ≡ mostStates)
+        × ((i : ℕ) → i < length (now s) → getD (now s_in_t) i 0 < length (now t))
         × ((k : ℕ) → k < length (now t) → getD (now t) k 0 < length (now reps))
         × (noRepeats (now t) ≡ true) ⌝ }
     ensures { λ _.
-        let in-t = take (length (now (s .entry))) (now (places .entry)) in
+        let in-t = take (length (now (s .entry))) (now (s_in_t .entry)) in
         ⌜ RepsBy (now (table .entry)) contexts in-t (now (s .entry)) (now (t .entry)) (now (reps .exit)) ⌝ }
 {
     clear(reps);
     let mut k = 0;
     while k < t.len() {
-        let q = table::state_of(table, t.len(), contexts, places, s.len(), k);
+        let q = table::state_of(table, t.len(), contexts, s_in_t, s.len(), k);
         let at = q.0 as usize;
         if at < s.len() {
             let i = t[k] as usize;
@@ -98,7 +98,7 @@ fn row_rep(
     row: Row,
 ) -> Row
     requires { let x = storeOf (now words) (now counts) used in
-        ⌜ Ready (now words) (now counts) used (now index)
+        ⌜ Bank (now words) (now counts) used (now index)
         × (used ≤ length (now reps))
         × (used ≤ length (now led))
         × (0 < row .0)
@@ -126,7 +126,7 @@ fn row_rep(
 
 // The representative of the state of every row up to a row, by one loop from the bottom, into the second column of the notes.
 fn row_reps(words: &[u32], counts: &[u8], used: u16, index: &[u16], upto: Row, notes: &mut [u16])
-    requires { ⌜ Ready (now words) (now counts) used (now index)
+    requires { ⌜ Bank (now words) (now counts) used (now index)
         × (used ≤ roomIn (now notes))
         × (upto .0 < used) ⌝ }
     ensures { λ _.
@@ -156,7 +156,7 @@ pub fn accepts_row(
     notes: &mut [u16],
     row: Row,
 ) -> bool
-    requires { ⌜ Ready (now words) (now counts) used (now index)
+    requires { ⌜ Bank (now words) (now counts) used (now index)
         × RepsIn used (repsIn (now notes))
         × (used ≤ roomIn (now notes))
         × (row .0 < used) ⌝ }
@@ -198,7 +198,7 @@ pub fn run_list(
     reps: &[u16],
     symbols: &[u8],
 ) -> Led
-    requires { ⌜ Ready (now words) (now counts) used (now index)
+    requires { ⌜ Bank (now words) (now counts) used (now index)
         × (used ≤ length (now reps))
         × Parses (now counts) 0 (now symbols)
         × (length (now symbols) ≤ mostListed) ⌝ }
@@ -234,7 +234,7 @@ pub fn accepts_list(
     reps: &[u16],
     symbols: &[u8],
 ) -> bool
-    requires { ⌜ Ready (now words) (now counts) used (now index)
+    requires { ⌜ Bank (now words) (now counts) used (now index)
         × RepsIn used (now reps)
         × Parses (now counts) 0 (now symbols)
         × (length (now symbols) ≤ mostListed) ⌝ }

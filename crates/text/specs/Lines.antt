@@ -9,7 +9,7 @@ use Rattle.model.specs.Base.{same}
 use Rattle.model.specs.Store.{Store}
 use Rattle.model.specs.Calls.{Call, offers, answers, accept}
 use Rattle.model.specs.declared.Seen.{Seen}
-use Rattle.bank_sizes.specs.Sizes.{sizeOf}
+use Rattle.model.specs.Terms.{sizeOf}
 use Rattle.text.specs.Bytes.{newline, space, plus, minus, decimal, acceptedWord, askWord, proposeWord, refusedWord, rowWord, unreadWord, yesWord, noWord, okWord, mostInput}
 use Rattle.text.specs.Written.{rowText}
 use Rattle.text.specs.Reading.{readText}

@@ -5,9 +5,9 @@ ghost use Prim.Native.Nat.{_+_, _≤_, _<_};
 ghost use lib.ListN.{length, getD, drop};
 ghost use Rattle.model.specs.Store.{kidsAt};
 ghost use Rattle.model.specs.Entry.{storeOf};
+ghost use Rattle.bank.specs.Bank.{Stored};
 ghost use Rattle.list.specs.Put.{putAt};
 ghost use Rattle.text.specs.Written.{letterOf, others, rowText};
-ghost use Rattle.bank_sizes.specs.Sizes.{Stored};
 use bank::rows;
 use model::Row;
 

@@ -3,10 +3,11 @@ ghost use mathlib.Core.Path.{_≡_};
 ghost use mathlib.Core.List.{_∷_};
 ghost use Prim.Native.Nat.{_+_, _≤_, _<_};
 ghost use lib.ListN.{length};
+ghost use Rattle.model.specs.Limits.{mostRows};
 ghost use Rattle.model.specs.Base.{over};
 ghost use Rattle.model.specs.Entry.{storeOf};
+ghost use Rattle.bank.specs.Bank.{Stored};
 ghost use Rattle.list.specs.Put.{putAt};
-ghost use Rattle.bank_sizes.specs.Sizes.{Stored};
 ghost use Rattle.text.specs.Bytes.{space, digitAt, decimal, replyRoom, questionRoom};
 ghost use Rattle.text.specs.Lines.{unreadText, refusedText, proposeText, acceptedText, questionText, askText, seenText};
 ghost use Rattle.text_print.specs.Tells.{Tellable};
@@ -111,6 +112,7 @@ fn put_question(
     at: usize,
 ) -> usize
     requires { ⌜ Stored (now words) (now counts) used
+        × (used ≤ mostRows)
         × (row .0 < used)
         × (at + questionRoom ≤ length (now out)) ⌝ }
     ensures { λ r.
@@ -120,7 +122,7 @@ fn put_question(
         let x = storeOf (now (words .entry)) (now (counts .entry)) used in
         ⌜ now (out .exit) ≡ putAt at (questionText (now (letters .entry)) x (row .0)) (now (out .entry)) ⌝ }
 {
-    if bank_sizes::size_of(words, counts, used, row) as usize <= MOST_LISTED {
+    if bank_listed::sizes::size_of(words, counts, used, row) as usize <= MOST_LISTED {
         return print::print_record(words, counts, used, letters, row, out, at);
     }
     let word = [b'r', b'o', b'w'];
@@ -137,7 +139,7 @@ fn tell_question(
     row: Row,
     out: &mut [u8],
 ) -> usize
-    requires { ⌜ Stored (now words) (now counts) used × (row .0 < used) × (replyRoom ≤ length (now out)) ⌝ }
+    requires { ⌜ Stored (now words) (now counts) used × (used ≤ mostRows) × (row .0 < used) × (replyRoom ≤ length (now out)) ⌝ }
     ensures { λ r. ⌜ r ≡ length (askText (now (letters .entry)) (storeOf (now (words .entry)) (now (counts .entry)) used) (row .0)) ⌝ }
     ensures out { λ r.
         let x = storeOf (now (words .entry)) (now (counts .entry)) used in

@@ -13,10 +13,8 @@ ghost use Rattle.text_print.specs.Tells.{Tellable};
 ghost use Rattle.text_reply.specs.Replies.{ReplyAs};
 use model::Lists;
 use model::Seen;
-use model::limits::MOST_CONTEXTS;
-use model::limits::MOST_RULES;
-use model::limits::MOST_STATES;
 use model::limits::MOST_SYMBOLS;
+use run_lists::change;
 use text::MOST_INPUT;
 use text::REPLY_ROOM;
 use text::Script;
@@ -38,20 +36,7 @@ pub fn fresh() -> Script
     Script {
         stage: 0,
         letters: [0; MOST_SYMBOLS],
-        lists: Lists {
-            letters: 0,
-            counts: [0; MOST_SYMBOLS],
-            accepted: 0,
-            used: 0,
-            states: 0,
-            s: [0; MOST_STATES],
-            rules: 0,
-            t: [0; MOST_RULES],
-            contexts: 0,
-            c: [0; MOST_CONTEXTS],
-            hand: 0,
-            asked: 0,
-        },
+        lists: change::zeros(),
     }
 }
 

@@ -14,11 +14,13 @@ use Rattle.model.specs.Base.{Below, none-below, one-below}
 use Rattle.model.specs.Store.{padded, kidsAt}
 use Rattle.model.specs.Facts.{Good}
 use Rattle.model.specs.Entry.{storeOf}
+use Rattle.model.proofs.Laws.Tests.{by-equal}
 use Rattle.bank.specs.Rows.{symbolIn, kidIn, placesIn}
 use Rattle.bank.specs.Index.{linkOf, headOf, bucketFor, keyFor, Leads, here, on, Slot, head, link, Treed, NoTwins, Way, start, step, ShortWalks}
-use Rattle.bank.specs.Ready.{Ready}
+use Rattle.bank.specs.Bank.{Bank}
 use Rattle.bank.proofs.Laws.Words.{used-of, symbol-in, places-in}
-use Rattle.bank.proofs.Laws.Trees.{by-equal, bucket-small, slot-below}
+use Rattle.bank.proofs.Laws.Trees.{bucket-small, slot-below}
+use Rattle.bank.proofs.Laws.Children.{place-at}
 
 -- DIGITS of a key: what is left of it after some steps, and those that were taken, the last first
 unfoldable pub halved : (steps key : ℕ) → ℕ
@@ -176,24 +178,17 @@ padded-below none-below l y c k = rw (zeros c k) y
 padded-below (one-below a b) l y c zero = omega arith
 padded-below (one-below a b) l y c (suc k) = padded-below b l y c k
 
-place-at : (ws : List ℕ) (i k : ℕ) → k < 4 → kidIn ws i k ≡ getD (placesIn ws i) k 0
-place-at ws i zero h = refl
-place-at ws i (suc zero) h = refl
-place-at ws i (suc (suc zero)) h = refl
-place-at ws i (suc (suc (suc zero))) h = refl
-place-at ws i (suc (suc (suc (suc k)))) h = absurd (omega arith)
-
 small-of : {ws ns : List ℕ} {n : ℕ} → Good (storeOf ws ns n) → rowWidth * n ≤ length ws → n ≤ mostRows → Small ws n
 small-of {ws} {ns} {n} g room few =
     record {
       symbols = λ i y l. let r = g .row i y (omega (arith, used-of ws ns n)) in let m = g .letters in omega (arith, r .known, symbol-in ws ns n i l);
       kids = λ i k y l c.
           let r = g .row i y (omega (arith, used-of ws ns n)) in
-          let e : kidIn ws i k ≡ getD (padded (kidsAt (storeOf ws ns n) i)) k 0 = place-at ws i k c ∙ ap (λ (ps : List ℕ). getD ps k 0) (sym (places-in ws ns n i l room) ∙ r .places) in
+          let e : kidIn ws i k ≡ getD (padded (kidsAt (storeOf ws ns n) i)) k 0 = sym (place-at ws i k c) ∙ ap (λ (ps : List ℕ). getD ps k 0) (sym (places-in ws ns n i l room) ∙ r .places) in
           rw e (padded-below (r .below) (omega arith) (omega arith) (mostChildren - length (kidsAt (storeOf ws ns n) i)) k);
     }
 
-pub walks-short : {ws ns : List ℕ} {n : ℕ} {xs : List ℕ} → Ready ws ns n xs → ShortWalks xs
+pub walks-short : {ws ns : List ℕ} {n : ℕ} {xs : List ℕ} → Bank ws ns n xs → ShortWalks xs
 walks-short {ws} {ns} {n} {xs} r h bs s w nz =
     let f = r .finding in
     way-short (f .indexed) (omega (arith, f .room, f .roomy .long)) (f .no-twins) (small-of (r .good) (f .room) (f .few)) w nz

@@ -5,8 +5,8 @@ use Prim.Native.Nat.{ℕ, _+_, _*_, _-_, _/_, _≤_, _<_}
 use native.Mathlib.Omega.{arith}
 use lib.ListN.{length, getD, set, take, drop, length-set, length-drop, length-append}
 use lib.Seq.{getD-take, getD-drop, length-take-le, take-append-seam, take-set-le, take-set-lt, drop-set-lt, drop-set-add}
+use Rattle.model.proofs.Laws.Tests.{by-equal}
 use Rattle.bank.specs.Notes.{noteWidth, roomIn, columnIn, repsIn}
-use Rattle.bank.proofs.Laws.Trees.{by-equal}
 
 -- a column ends within the notes
 by-four : {A : Type 0} (k : ℕ) → k < noteWidth → (k ≡ 0 → A) → (k ≡ 1 → A) → (k ≡ 2 → A) → (k ≡ 3 → A) → A

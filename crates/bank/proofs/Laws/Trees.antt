@@ -1,27 +1,19 @@
 -- The index: a row more at the end of its own walk, rows written beyond the indexed ones, and a search that walks one tree.
 -- A walk looks at links alone, so it is kept where no link that it follows changes; and a row that a walk has passed is not what is asked for.
 use mathlib.Core.Path.{_≡_, refl, sym, ap, subst, _∙_}
-use mathlib.Core.Bool.{Bool, true, false}
+use mathlib.Core.Bool.{Bool}
 use mathlib.Core.List.{List}
 use Prim.Native.Nat.{ℕ, _+_, _*_, _/_, _%_, _≤_, _<_}
 use native.Mathlib.Nat.{mul-lt-mul-of-pos-right}
 use native.Mathlib.Omega.{arith}
-use lib.Dec.{eqb}
-use borrow.Author.Tests.{eqb-true, eqb-false}
 use lib.ListN.{length, getD, set, length-set}
 use lib.Seq.{getD-set-same, getD-set-other}
 use Rattle.model.specs.Limits.{rowWidth, mostRows}
+use Rattle.model.proofs.Laws.Tests.{by-equal}
 use Rattle.bank.specs.Rows.{symbolIn, placesIn, Within}
 use Rattle.bank.specs.Index.{sizeIn, linkOf, holeOf, headOf, headFor, bucketFor, keyFor, Leads, here, on, Met, Slot, head, link, Treed, Indexed, NoTwins, Roomy, Finding, findIn, Seat, Walk, entered}
 use Rattle.bank.proofs.Laws.Words.{SameRows, symbol-kept, places-kept}
 use Rattle.bank.proofs.Laws.Finding.{absent-in, find-none, find-is}
-
-pub by-equal : {A : Type 0} (i j : ℕ) → (i ≡ j → A) → ((i ≡ j → ⊥) → A) → A
-by-equal {A} i j f g = go (eqb i j) refl
-  where
-    go : (b : Bool) → eqb i j ≡ b → A
-    go true e = f (eqb-true i j e)
-    go false e = g (eqb-false i j e)
 
 -- THE BUCKET is one of them
 scaled-small : (m z : ℕ) → 0 < z → m % 2147483648 * z / 2147483648 < z

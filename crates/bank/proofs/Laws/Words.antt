@@ -13,7 +13,7 @@ use Rattle.model.specs.Table.{answerAt}
 use Rattle.model.specs.Entry.{nodesIn, answersIn, rowWords, storeOf}
 use Rattle.model.proofs.Laws.Lent.{FourPlaces, length-rowWords, nodesIn-rowWords, answersIn-rowWords, rowWords-same, length-nodesIn, length-answersIn}
 use Rattle.bank.specs.Rows.{symbolIn, answerIn, kidIn, placesIn, nodeIn, withRow, Within}
-use Rattle.bank.specs.Ready.{withRows}
+use Rattle.bank.specs.Bank.{withRows}
 
 -- ROWS READ
 abbrev front : List ℕ → Node

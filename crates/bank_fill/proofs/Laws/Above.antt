@@ -15,10 +15,10 @@ use Rattle.model.specs.Facts.{Good, GoodRow, FrameFits, RowAsked, None, none-ni
 use Rattle.model.specs.Entry.{storeOf}
 use Rattle.model.proofs.Laws.Fill.{frame-asks}
 use Rattle.model.proofs.Laws.Down.{clear-none}
+use Rattle.model.proofs.Laws.Tests.{by-equal}
 use Rattle.bank.specs.Rows.{symbolIn, placesIn}
-use Rattle.bank.specs.Ready.{placeCode, oneFurther, Ready, frameAt}
+use Rattle.bank.specs.Bank.{placeCode, oneFurther, Bank, frameAt}
 use Rattle.bank.proofs.Laws.Words.{used-of, symbol-in, places-in}
-use Rattle.bank.proofs.Laws.Trees.{by-equal}
 use Rattle.bank_t1.proofs.Laws.T1.{hole-ready}
 use Rattle.bank_fill.specs.declared.add.Grown.{Grown}
 use Rattle.bank_fill.specs.Adding.{kidsOf, PlacesAsked, holeAbove, Put}
@@ -82,7 +82,7 @@ module _ (x : Store) (g : Good x) (i k : ℕ) (u : i < used x) (q : FrameFits x 
       ap (λ (l : ℕ). cond (hasHole x j) (suc l) 0) (length-take-le k (kidsAt x i) (let a = frame-place in omega arith))
 
 -- THE ROW PUT in its place
-module _ {ws ns : List ℕ} {n : ℕ} {xs : List ℕ} (r : Ready ws ns n xs) (i k j : ℕ) (l : i < n) (v : j < n) (q : FrameFits (storeOf ws ns n) (frameAt (storeOf ws ns n) i k)) where
+module _ {ws ns : List ℕ} {n : ℕ} {xs : List ℕ} (r : Bank ws ns n xs) (i k j : ℕ) (l : i < n) (v : j < n) (q : FrameFits (storeOf ws ns n) (frameAt (storeOf ws ns n) i k)) where
   abbrev x : Store
   x = storeOf ws ns n
 

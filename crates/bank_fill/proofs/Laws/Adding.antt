@@ -1,4 +1,4 @@
--- A row put: found, written, or without room for it. It is what `rowFor` builds, and a written row keeps `Ready`.
+-- A row put: found, written, or without room for it. It is what `rowFor` builds, and a written row keeps `Bank`.
 -- The old rows keep their words, so their holes and walks stand; the new one is unlike them, and its hole is where its children have theirs.
 use mathlib.Core.Path.{_≡_, refl, sym, ap, subst, _∙_}
 use mathlib.Core.Logic.{_⊎_, inl, inr}
@@ -20,12 +20,12 @@ use Rattle.model.proofs.Laws.Fold.{earlier}
 use Rattle.model.proofs.Laws.Lists.{wider}
 use Rattle.bank.specs.Rows.{symbolIn, placesIn, withRow, Within}
 use Rattle.bank.specs.Index.{sizeIn, holeOf, Finding, findIn, Seat, entered}
-use Rattle.bank.specs.Ready.{placeCode, Holed, Ready, withRows}
+use Rattle.bank.specs.Bank.{placeCode, Holed, Bank, Lent, withRows}
 use Rattle.bank.proofs.Laws.Words.{used-of, length-withRow, front-withRow, symbol-written, places-written, one-row, store-withRows, nodes-kept}
 use Rattle.bank.proofs.Laws.Trees.{finding-kept, finding-more, holes-kept, hole-entered}
 use Rattle.bank_t1.proofs.Laws.Row.{code-below}
 use Rattle.bank_fill.specs.declared.add.Grown.{Grown}
-use Rattle.bank_fill.specs.Adding.{grownRow, kidsOf, PlacesAsked, Lent, Put, found, no-room, written}
+use Rattle.bank_fill.specs.Adding.{grownRow, kidsOf, PlacesAsked, Put, found, no-room, written}
 use Rattle.bank_fill.proofs.Laws.Coming.{Comes, comes-by, comes-same, store-room}
 
 -- a row's hole stands where it stood in a store with more rows
@@ -34,7 +34,7 @@ place-ext x y g e b =
     code-below (hasHole x) (hasHole y) (used x) (λ k l. fold-ext (λ (j a : ℕ) (bs : List Bool). eqb j 0 || anyTrue bs) false x y g e k l) b
 
 -- what is lent, under any alphabet
-pub lent-of : {ws ns : List ℕ} {n : ℕ} {xs : List ℕ} → Ready ws ns n xs → Lent ws n xs
+pub lent-of : {ws ns : List ℕ} {n : ℕ} {xs : List ℕ} → Bank ws ns n xs → Lent ws n xs
 lent-of r = record { lent = r .lent; finding = r .finding }
 
 -- the index over the words with the row written
@@ -59,7 +59,7 @@ pub mark-nowhere : {b : Bool} {h : ℕ} (k : ℕ) → b ≡ false → h ≡ 0 �
 mark-nowhere k e p = rw e p
 
 -- A ROW ASKED FOR
-module _ {ws ns : List ℕ} {n : ℕ} {xs : List ℕ} (r : Ready ws ns n xs) {a : ℕ} {ps : List ℕ} {hole : ℕ} (q : PlacesAsked (storeOf ws ns n) a ps hole) where
+module _ {ws ns : List ℕ} {n : ℕ} {xs : List ℕ} (r : Bank ws ns n xs) {a : ℕ} {ps : List ℕ} {hole : ℕ} (q : PlacesAsked (storeOf ws ns n) a ps hole) where
   found-same : findIn ws n a ps ≡ findRow (storeOf ws ns n) a (kidsOf ns a ps)
   found-same = ap (findIn ws n a) (q .unused)
 
@@ -139,7 +139,7 @@ module _ {ws ns : List ℕ} {n : ℕ} {xs : List ℕ} (r : Ready ws ns n xs) {a 
           hole-entered (sizeIn xs) (withRow ws n a ps) xs n slot hole (f .indexed) (f .some) room-there (omega arith) (own .leads) free ∙ q .hole-place ∙
           place-ext x y (r .good) ext (q .asked .below) ∙ ap (placeCode (hasHole y)) (sym (new-kids x (r .good) a (kidsOf ns a ps) (q .asked) room) ∙ ap (kidsAt y) (used-of ws ns n))
 
-      ready-more : Ready (withRow ws n a ps) ns (n + 1) (entered xs slot n hole)
+      ready-more : Bank (withRow ws n a ps) ns (n + 1) (entered xs slot n hole)
       ready-more =
           record {
             good = subst (λ (z : Store). Good z) (sym store-is) good;
@@ -162,7 +162,7 @@ module _ {ws ns : List ℕ} {n : ℕ} {xs : List ℕ} (r : Ready ws ns n xs) {a 
             came = (
               (λ k. grownRow (sym (used-of ws ns n) k) (sym used-more k)),
               words-are,
-              subst (λ (k : ℕ). Ready (withRow ws n a ps) ns k (entered xs slot n hole)) (sym used-more) ready-more,
+              subst (λ (k : ℕ). Bank (withRow ws n a ps) ns k (entered xs slot n hole)) (sym used-more) ready-more,
             );
           })
 

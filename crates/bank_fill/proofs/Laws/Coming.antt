@@ -12,7 +12,7 @@ use Rattle.model.specs.Facts.{Good, RowAsked}
 use Rattle.model.specs.Entry.{storeOf, nodesIn, rowWords}
 use Rattle.model.proofs.Laws.Lent.{good-four, rows-within}
 use Rattle.model.proofs.Laws.Fill.{row-is}
-use Rattle.bank.specs.Ready.{Ready, Kept, withRows}
+use Rattle.bank.specs.Bank.{Bank, Kept, withRows}
 use Rattle.bank.proofs.Laws.Words.{used-of, length-withRows, store-withRows, front-withRows, withRows-twice}
 use Rattle.bank_fill.specs.declared.add.Grown.{Grown}
 use Rattle.bank_fill.specs.declared.add.Grown.the-variants.{Full, At}
@@ -46,10 +46,10 @@ withRows-none ws ns n =
     ap (λ (l : List ℕ). l ++ drop (rowWidth * n) ws) (append-nil (take (rowWidth * n) ws)) ∙ take-append-drop (rowWidth * n) ws
 
 -- nothing added
-pub comes-same : {ws ns : List ℕ} {n : ℕ} {xs : List ℕ} → Ready ws ns n xs → (j : ℕ) → Comes ws ns n (built j (storeOf ws ns n)) (grownRow j n) ws xs
+pub comes-same : {ws ns : List ℕ} {n : ℕ} {xs : List ℕ} → Bank ws ns n xs → (j : ℕ) → Comes ws ns n (built j (storeOf ws ns n)) (grownRow j n) ws xs
 comes-same {ws} {ns} {n} {xs} r j =
     let u = used-of ws ns n in
-    record { came = (ap (grownRow j) (sym u), sym (withRows-none ws ns n), subst (λ (k : ℕ). Ready ws ns k xs) (sym u) r) }
+    record { came = (ap (grownRow j) (sym u), sym (withRows-none ws ns n), subst (λ (k : ℕ). Bank ws ns k xs) (sym u) r) }
 
 -- a store over the lent words has room in them
 pub store-room : (ws ns : List ℕ) (n : ℕ) (y : Store) → Extends (storeOf ws ns n) y → Good y → rowWidth * used y ≤ length ws
@@ -60,7 +60,7 @@ pub record Stage (ws ns : List ℕ) (n j : ℕ) (y : Store) (u : ℕ) (ws' xs : 
   pub count : u ≡ used y
   pub words : ws' ≡ withRows ws n y
   pub store : storeOf ws' ns u ≡ y
-  pub ready : Ready ws' ns u xs
+  pub bank : Bank ws' ns u xs
 
 module _ (ws ns : List ℕ) (n : ℕ) (y : Store) (e : Extends (storeOf ws ns n) y) (g : Good y) where
   fit : rowWidth * used y ≤ length ws
@@ -108,7 +108,7 @@ module _ (ws ns : List ℕ) (n : ℕ) (y : Store) (e : Extends (storeOf ws ns n)
           count = b;
           words = w;
           store = (λ t. storeOf (w t) ns (b t)) ∙ store-withRows ws ns n y e (good-four y g) fit;
-          ready = subst (λ (v : ℕ). Ready ws' ns v xs) (sym b) (c .came .2);
+          bank = subst (λ (v : ℕ). Bank ws' ns v xs) (sym b) (c .came .2);
         },
       )
 

@@ -11,10 +11,10 @@ use Rattle.model.specs.Entry.{storeOf}
 use Rattle.model.proofs.Laws.Rows.{kids-ext, symbol-ext}
 use Rattle.model.proofs.Laws.Fill.{fill-is, frame-ext, frame-asks}
 use Rattle.bank.specs.Rows.{symbolIn, kidIn, placesIn}
-use Rattle.bank.specs.Ready.{Ready, frameAt, pathOf}
+use Rattle.bank.specs.Bank.{Bank, Lent, frameAt, pathOf}
 use Rattle.bank.proofs.Laws.Words.{used-of}
 use Rattle.bank_fill.specs.declared.add.Grown.{Grown}
-use Rattle.bank_fill.specs.Adding.{grownRow, Lent, holeAbove, Put, FramesAsked}
+use Rattle.bank_fill.specs.Adding.{grownRow, holeAbove, Put, FramesAsked}
 use Rattle.bank_fill.proofs.Laws.Coming.{Comes, comes-by, comes-same, comes-row, Stage, stage, not-full}
 use Rattle.bank_fill.proofs.Laws.Adding.{lent-of}
 use Rattle.bank_fill.proofs.Laws.Above.{frame-four, above-comes}
@@ -92,7 +92,7 @@ full-on {ws} {ns} {n} {b} {c} {vs} {xs} f d = go b refl d
     go (built i y) e k = let p = k .came .0 in let z : _≡_ {A = ℕ} 0 1 = cc in absurd (omega arith)
 
 -- NO FRAME: a row whose entry names no place
-pub fill-none : {ws ns : List ℕ} {n : ℕ} {xs : List ℕ} → Ready ws ns n xs → (ds : List ℕ) (row i : ℕ) → getD ds row 0 ≡ 0 →
+pub fill-none : {ws ns : List ℕ} {n : ℕ} {xs : List ℕ} → Bank ws ns n xs → (ds : List ℕ) (row i : ℕ) → getD ds row 0 ≡ 0 →
     Comes ws ns n (fill (storeOf ws ns n) (pathOf ds (storeOf ws ns n) row) i) (grownRow i n) ws xs
 unfolding fill
 fill-none {ws} {ns} {n} r ds row i e = comes-by (ap (λ (fs : List Frame). fill (storeOf ws ns n) fs i) (path-none ds (storeOf ws ns n) (r .good) row e)) (comes-same r i)
@@ -103,7 +103,7 @@ module _ {ws ns : List ℕ} {n : ℕ} {xs ds : List ℕ} {row i : ℕ} (q : Fram
   low = omega (arith, used-of ws ns n, q .row-used)
 
   step : pathOf ds (storeOf ws ns n) row ≡ frameAt (storeOf ws ns n) row (getD ds row 0 - 1) ∷ pathOf ds (storeOf ws ns n) (getD (kidsAt (storeOf ws ns n) row) (getD ds row 0 - 1) 0)
-  step = path-step ds (storeOf ws ns n) (q .ready .good) row low (q .named) (q .fits)
+  step = path-step ds (storeOf ws ns n) (q .bank .good) row low (q .named) (q .fits)
 
   both : Fits (storeOf ws ns n) (frameAt (storeOf ws ns n) row (getD ds row 0 - 1) ∷ pathOf ds (storeOf ws ns n) (getD (kidsAt (storeOf ws ns n) row) (getD ds row 0 - 1) 0))
   both = subst (λ (fs : List Frame). Fits (storeOf ws ns n) fs) step (q .fits)
@@ -112,14 +112,14 @@ module _ {ws ns : List ℕ} {n : ℕ} {xs ds : List ℕ} {row i : ℕ} (q : Fram
   frame-fits = fits-head both
 
   pub down-four : getD ds row 0 - 1 < 4
-  down-four = frame-four (storeOf ws ns n) (q .ready .good) row (getD ds row 0 - 1) low frame-fits
+  down-four = frame-four (storeOf ws ns n) (q .bank .good) row (getD ds row 0 - 1) low frame-fits
 
   module _ (kid : ℕ) (e : kid ≡ kidIn ws row (getD ds row 0 - 1)) where
     kid-is : kid ≡ getD (kidsAt (storeOf ws ns n) row) (getD ds row 0 - 1) 0
-    kid-is = e ∙ sym (kid-word ws ns n row (getD ds row 0 - 1) (q .ready .finding .room) (q .row-used) (q .ready .good) frame-fits)
+    kid-is = e ∙ sym (kid-word ws ns n row (getD ds row 0 - 1) (q .bank .finding .room) (q .row-used) (q .bank .good) frame-fits)
 
     pub down-falls : kid < row
-    down-falls = let k = kid-before ds (storeOf ws ns n) (q .ready .good) row (getD ds row 0 - 1) low frame-fits in omega (arith, kid-is)
+    down-falls = let k = kid-before ds (storeOf ws ns n) (q .bank .good) row (getD ds row 0 - 1) low frame-fits in omega (arith, kid-is)
 
     kid-fits : Fits (storeOf ws ns n) (pathOf ds (storeOf ws ns n) kid)
     kid-fits = subst (λ (k : ℕ). Fits (storeOf ws ns n) (pathOf ds (storeOf ws ns n) k)) (sym kid-is) (fits-tail both)
@@ -127,7 +127,7 @@ module _ {ws ns : List ℕ} {n : ℕ} {xs ds : List ℕ} {row i : ℕ} (q : Fram
     pub down-asked : (getD ds kid 0 ≡ 0 → ⊥) → FramesAsked ws ns n xs ds kid i
     down-asked z =
         record {
-          ready = q .ready;
+          bank = q .bank;
           places-long = q .places-long;
           row-used = omega (arith, down-falls, q .row-used);
           with-used = q .with-used;
@@ -152,21 +152,21 @@ module _ {ws ns : List ℕ} {n : ℕ} {xs ds : List ℕ} {row i : ℕ} (q : Fram
     -- what is below gave a row: the row above put
     module _ {j u : ℕ} {ws' xs' : List ℕ} (c : Comes ws ns n (fill (storeOf ws ns n) (pathOf ds (storeOf ws ns n) kid) i) (grownRow j u) ws' xs') where
       inside : Reached ws ns n (pathOf ds (storeOf ws ns n) kid) i j u ws' xs'
-      inside = reached ws ns n (pathOf ds (storeOf ws ns n) kid) i (q .ready .good) kid-fits (q .with-used) c
+      inside = reached ws ns n (pathOf ds (storeOf ws ns n) kid) i (q .bank .good) kid-fits (q .with-used) c
 
       pub up-lent : Lent ws' u xs'
-      up-lent = lent-of (inside .stands .ready)
+      up-lent = lent-of (inside .stands .bank)
 
       pub up-row : row < u
-      up-row = next-row (q .ready .good) inside row (getD ds row 0 - 1) (q .row-used) frame-fits
+      up-row = next-row (q .bank .good) inside row (getD ds row 0 - 1) (q .row-used) frame-fits
 
       pub up-kid : j < u
-      up-kid = next-kid (q .ready .good) inside row (getD ds row 0 - 1) (q .row-used) frame-fits
+      up-kid = next-kid (q .bank .good) inside row (getD ds row 0 - 1) (q .row-used) frame-fits
 
       pub up-comes : {r : Grown} {vs xs'' : List ℕ} →
           Put ws' u xs' (symbolIn ws' row) (set (placesIn ws' row) (getD ds row 0 - 1) j) (holeAbove xs' j (getD ds row 0 - 1)) r vs xs'' →
           Comes ws ns n (fill (storeOf ws ns n) (pathOf ds (storeOf ws ns n) row) i) r vs xs''
       up-comes p =
           comes-by (ap (λ (fs : List Frame). fill (storeOf ws ns n) fs i) path-is)
-          (next-comes (q .ready .good) inside row (getD ds row 0 - 1) (q .row-used) frame-fits
-          (above-comes (inside .stands .ready) row (getD ds row 0 - 1) j up-row up-kid (next-fits (q .ready .good) inside row (getD ds row 0 - 1) (q .row-used) frame-fits) p))
+          (next-comes (q .bank .good) inside row (getD ds row 0 - 1) (q .row-used) frame-fits
+          (above-comes (inside .stands .bank) row (getD ds row 0 - 1) j up-row up-kid (next-fits (q .bank .good) inside row (getD ds row 0 - 1) (q .row-used) frame-fits) p))

@@ -12,9 +12,9 @@ use Rattle.model.specs.Facts.{Good, FrameFits, Fits, fits-cons}
 use Rattle.model.specs.Entry.{storeOf}
 use Rattle.model.proofs.Laws.Fold.{earlier}
 use Rattle.bank.specs.Rows.{symbolIn, kidIn, placesIn}
-use Rattle.bank.specs.Ready.{frameAt, pathBy, pathFrom, pathOf}
+use Rattle.bank.specs.Bank.{frameAt, pathBy, pathFrom, pathOf}
 use Rattle.bank.proofs.Laws.Words.{used-of, symbol-in, kids-in}
-use Rattle.bank_t1.proofs.Laws.Kids.{place-at, below-at}
+use Rattle.bank.proofs.Laws.Children.{place-at, below-at}
 use Rattle.bank_fill.proofs.Laws.Above.{frame-some, frame-place, frame-four}
 
 pub fits-head : {x : Store} {f : Frame} {fs : List Frame} → Fits x (f ∷ fs) → FrameFits x f

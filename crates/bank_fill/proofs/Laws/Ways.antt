@@ -14,7 +14,7 @@ use Rattle.model.proofs.Laws.Fold.{earlier}
 use Rattle.model.proofs.Laws.Down.{Splits, no-one, at-one, split-is, context-fits}
 use Rattle.model.specs.Entry.{storeOf}
 use Rattle.bank.specs.Index.{holeOf}
-use Rattle.bank.specs.Ready.{placeCode, Ready, pathBy, pathFrom, pathOf}
+use Rattle.bank.specs.Bank.{placeCode, Bank, pathBy, pathFrom, pathOf}
 use Rattle.bank.proofs.Laws.Words.{used-of}
 use Rattle.bank_fill.proofs.Laws.Above.{place-none}
 
@@ -58,7 +58,7 @@ module _ (p : ℕ → Bool) (x : Store) (g : Good x) (ds : List ℕ) (h : (i : �
   path-way i u = way-from (suc i) i u
 
 -- A CONTEXT over a record table that is ready, along the marks of holes or a copy of them
-module _ {ws ns : List ℕ} {n : ℕ} {xs : List ℕ} (r : Ready ws ns n xs) (ds : List ℕ) (same : (i : ℕ) → i < n → getD ds i 0 ≡ getD xs (holeOf i) 0) (c : ℕ) (u : c < n) where
+module _ {ws ns : List ℕ} {n : ℕ} {xs : List ℕ} (r : Bank ws ns n xs) (ds : List ℕ) (same : (i : ℕ) → i < n → getD ds i 0 ≡ getD xs (holeOf i) 0) (c : ℕ) (u : c < n) where
   pub path-frames : pathOf ds (storeOf ws ns n) c ≡ framesOf (storeOf ws ns n) c
   path-frames =
       path-way (hasHole (storeOf ws ns n)) (storeOf ws ns n) (r .good) ds (λ i l. let b : i < n = omega (arith, used-of ws ns n) in same i b ∙ r .holed i b) c (omega (arith, used-of ws ns n))

@@ -17,8 +17,8 @@ use Rattle.model.specs.Terms.{storeFrom, knownFrom}
 use Rattle.model.specs.Facts.{Good, IsRecord, Parses, parsed, parses, RowAsked}
 use Rattle.model.proofs.Laws.Stack.{each-backwards, each-take}
 use Rattle.model.proofs.Laws.Rows.{unpad}
-use Rattle.model.proofs.Laws.Listed.{kids-ask, symbol-row, stack-next}
-use Rattle.bank.specs.Ready.{placeCode}
+use Rattle.model.proofs.Laws.Listed.{kids-ask, symbol-row, stack-next, parts}
+use Rattle.bank.specs.Bank.{placeCode}
 use Rattle.bank_fill.specs.Adding.{kidsOf, PlacesAsked}
 use Rattle.bank_listed.specs.Listed.{stackOf}
 use Rattle.bank_listed.proofs.Laws.ArrayStack.{stack-length, stack-push, stack-one}
@@ -41,9 +41,6 @@ countNext x xs at = countOf x (symbolNext xs at)
 
 abbrev pub kidsNext : Store → (xs st : List ℕ) → (height at : ℕ) → List ℕ
 kidsNext x xs st h at = top (countNext x xs at) (stackOf st h)
-
-parts : {ns : List ℕ} {k a : ℕ} {xs : List ℕ} → Parses ns k (a ∷ xs) → (a < length ns) × (getD ns a 0 ≤ k) × Parses ns (k - getD ns a 0 + 1) xs
-parts (parses la ln ps) = (la, ln, ps)
 
 one-left : {ns : List ℕ} {k : ℕ} → Parses ns k [] → k ≡ 1
 one-left parsed = refl

@@ -12,7 +12,7 @@ use Rattle.model.specs.Terms.{storeFrom}
 use Rattle.model.specs.Facts.{Parses}
 use Rattle.model.specs.Entry.{storeOf}
 use Rattle.model.proofs.Laws.Fill.{ext-refl, ext-trans}
-use Rattle.bank.specs.Ready.{Ready, withRows}
+use Rattle.bank.specs.Bank.{Bank, withRows}
 use Rattle.bank.proofs.Laws.Words.{used-of}
 use Rattle.bank_fill.specs.declared.add.Grown.{Grown}
 use Rattle.bank_fill.specs.Adding.{kidsOf, grownRow, PlacesAsked}
@@ -27,12 +27,12 @@ pub record Storing (ws ns : List ℕ) (u : ℕ) (xs ws' ix st : List ℕ) (heigh
   pub reading : Reading (storeOf ws' ns n) xs st height at
   pub same : storeFrom (storeOf ws' ns n) (drop at xs) (stackOf st height) ≡ storeFrom (storeOf ws ns u) xs []
 
-pub storing-start : {ws ns : List ℕ} {u : ℕ} {ix : List ℕ} (xs st : List ℕ) → Ready ws ns u ix → Parses ns 0 xs → length st ≡ mostListed → length xs ≤ mostListed →
+pub storing-start : {ws ns : List ℕ} {u : ℕ} {ix : List ℕ} (xs st : List ℕ) → Bank ws ns u ix → Parses ns 0 xs → length st ≡ mostListed → length xs ≤ mostListed →
     Storing ws ns u xs ws ix st 0 u 0
 unfolding backwards
 storing-start {ws} {ns} {u} xs st r p l f =
     record {
-      stage = record { count = sym (used-of ws ns u); words = sym (withRows-none ws ns u); store = refl; ready = r };
+      stage = record { count = sym (used-of ws ns u); words = sym (withRows-none ws ns u); store = refl; bank = r };
       ext = ext-refl (storeOf ws ns u);
       reading = R.reading-start (storeOf ws ns u) xs st (r .good) p l f;
       same = refl;
@@ -78,7 +78,7 @@ module _ {ws ns : List ℕ} {u : ℕ} {xs ws' ix st : List ℕ} {h n at : ℕ} (
             let o : z ≡ storeOf vs ns v = sym (t .1 .store) in
             let f : rowFor (storeOf ws' ns n) (symbolNext xs at) (kidsNext (storeOf ws' ns n) xs st h at) ≡ built j (storeOf vs ns v) = e ∙ (λ i. built (sym (t .0) i) (o i)) in
             record {
-              stage = record { count = t .1 .count ∙ ap used o; words = t .1 .words ∙ ap (withRows ws u) o; store = refl; ready = t .1 .ready };
+              stage = record { count = t .1 .count ∙ ap used o; words = t .1 .words ∙ ap (withRows ws u) o; store = refl; bank = t .1 .bank };
               ext = subst (Extends (storeOf ws ns u)) o x;
               reading = R.pushed (s .reading) more j (storeOf vs ns v) f .1;
               same = sym (R.store-built (s .reading) more j (storeOf vs ns v) f) ∙ s .same;
@@ -89,4 +89,4 @@ module _ {ws ns : List ℕ} {u : ℕ} {xs ws' ix st : List ℕ} {h n at : ℕ} (
   stored done =
       let e = used-of ws' ns n in
       comes-by (sym (s .same) ∙ R.store-end (s .reading) done)
-      (record { came = (ap (grownRow (getD st 0 0)) (sym e), s .stage .words, subst (λ (k : ℕ). Ready ws' ns k ix) (sym e) (s .stage .ready)) })
+      (record { came = (ap (grownRow (getD st 0 0)) (sym e), s .stage .words, subst (λ (k : ℕ). Bank ws' ns k ix) (sym e) (s .stage .bank)) })

@@ -89,7 +89,7 @@ top-places-requires c κs =
 row-for-requires : tie.Need-row-for-requires Inv-loop μ-loop
 row-for-requires c κs =
     let t : Turn = c .before .before .before .before .before .before in
-    (storing t .stage .ready, S.row-asked (storing t) (t .loop-test .taken) (c .before .before .top-places .ensures))
+    (storing t .stage .bank, S.row-asked (storing t) (t .loop-test .taken) (c .before .before .top-places .ensures))
 
 enum-told : tie.Need-enum-told Inv-loop μ-loop
 enum-told c = search needs

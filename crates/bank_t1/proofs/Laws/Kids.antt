@@ -11,26 +11,14 @@ use lib.Dec.{ltb, leb, eqb}
 use borrow.Author.Tests.{leb-true, leb-false, lt-ltb, le-ltb, le-leb, lt-leb, eq-eqb, ne-eqb}
 use lib.ListN.{length, getD, take, drop, drop-of-length-le}
 use lib.Seq.{drop-cons, getD-take, length-take-le}
-use Rattle.model.specs.Base.{all, same, countTrue, Below, none-below, one-below}
+use Rattle.model.specs.Base.{all, same, countTrue}
 use Rattle.model.specs.Store.{padded}
 use Rattle.model.proofs.Laws.Members.{all-fails, all-passes, all-ends}
 use Rattle.bank.specs.Rows.{kidIn, placesIn}
-use Rattle.bank.specs.Ready.{oneFurther, placeCode}
+use Rattle.bank.specs.Bank.{oneFurther, placeCode}
+use Rattle.bank.proofs.Laws.Children.{place-at}
 use Rattle.bank_t1.specs.Pass.{holeBy, unusedZero, kidsSay, kidsIn}
 use Rattle.bank_t1.specs.declared.Kids.{Kids}
-
-pub place-at : (ws : List ℕ) (i k : ℕ) → k < 4 → getD (placesIn ws i) k 0 ≡ kidIn ws i k
-place-at ws i zero h = refl
-place-at ws i (suc zero) h = refl
-place-at ws i (suc (suc zero)) h = refl
-place-at ws i (suc (suc (suc zero))) h = refl
-place-at ws i (suc (suc (suc (suc k)))) h = absurd (omega arith)
-
--- a member of a list below a bound
-pub below-at : {n : ℕ} {ks : List ℕ} → Below n ks → (k : ℕ) → k < length ks → getD ks k 0 < n
-below-at none-below k h = absurd (omega arith)
-below-at (one-below l b) zero h = l
-below-at (one-below l b) (suc k) h = below-at b k (omega arith)
 
 -- UNUSED PLACES, from k on
 abbrev pub isZero : ℕ → Bool

@@ -16,14 +16,14 @@ use Rattle.model.specs.Sound.{nodeFits, answerFits, hasTwin, rowsFit}
 use Rattle.model.specs.Entry.{storeOf, answersIn}
 use Rattle.model.proofs.Laws.FirstRows.{nodes-first}
 use Rattle.model.proofs.Laws.ReflectRows.{counts-at, hole-of}
-use Rattle.model.proofs.Laws.Tests.{both-true}
+use Rattle.model.proofs.Laws.Tests.{both-true, by-equal}
 use Rattle.bank.specs.Rows.{symbolIn, answerIn, placesIn, nodeIn}
 use Rattle.bank.specs.Index.{sizeIn, headOf, Roomy, Finding, findIn, Seat, entered}
-use Rattle.bank.specs.Ready.{placeCode}
+use Rattle.bank.specs.Bank.{placeCode}
 use Rattle.bank_t1.specs.Pass.{Cleared, Reached, Begun, rowSays, rowsPass, Marked}
 use Rattle.bank_t1.specs.declared.Kids.{Kids}
 use Rattle.bank.proofs.Laws.Words.{symbol-in, places-in}
-use Rattle.bank.proofs.Laws.Trees.{by-equal, indexed-none, finding-more, length-entered, holes-kept, hole-entered}
+use Rattle.bank.proofs.Laws.Trees.{indexed-none, finding-more, length-entered, holes-kept, hole-entered}
 use Rattle.bank_t1.proofs.Laws.Row.{told-broken, told-hole, earlier-more}
 
 -- ROOM goes by the length

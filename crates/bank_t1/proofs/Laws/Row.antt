@@ -16,13 +16,12 @@ use Rattle.model.specs.Entry.{storeOf, answersIn}
 use Rattle.model.proofs.Laws.Lists.{map-below}
 use Rattle.model.proofs.Laws.FirstRows.{FirstEarlier, hole-first}
 use Rattle.model.proofs.Laws.ReflectRows.{below-of}
-use Rattle.model.proofs.Laws.Tests.{both-true}
+use Rattle.model.proofs.Laws.Tests.{both-true, by-equal}
 use Rattle.bank.specs.Rows.{symbolIn, answerIn, placesIn}
-use Rattle.bank.specs.Ready.{oneFurther, placeCode, Holed}
+use Rattle.bank.specs.Bank.{oneFurther, placeCode, Holed}
 use Rattle.bank_t1.specs.Pass.{holeBy, unusedZero, kidsSay, kidsIn, rowSays, Reached}
 use Rattle.bank_t1.specs.declared.Kids.{Kids}
 use Rattle.bank.proofs.Laws.Words.{symbol-in, places-in, kids-in, answer-in}
-use Rattle.bank.proofs.Laws.Trees.{by-equal}
 use Rattle.bank_t1.proofs.Laws.Kids.{pads, and-false, kids-say}
 
 -- MARKS: one other than 0 says that a child has a hole

@@ -18,7 +18,7 @@ use Rattle.model.proofs.Laws.Lent.{length-answersIn, sizeFits-facts}
 use Rattle.model.proofs.Laws.Fold.{earlier}
 use Rattle.model.proofs.Laws.ReflectRows.{rows-of}
 use Rattle.bank.specs.Rows.{answerIn, nodeIn}
-use Rattle.bank.specs.Ready.{Ready}
+use Rattle.bank.specs.Bank.{Bank}
 use Rattle.bank_t1.specs.Pass.{holeBy, rowsPass, Marked}
 use Rattle.bank.proofs.Laws.Words.{used-of, node-in, answer-in}
 use Rattle.bank_t1.proofs.Laws.Row.{mark-is}
@@ -81,8 +81,8 @@ module _ (ws ns : List ℕ) (n : ℕ) where
         rows-decide e = sym (left ∙ ap (λ (b : Bool). b && rowsPass ws ns n) e)
 
 -- READY, where T1 holds and all rows are marked
-pub ready : (ws ns : List ℕ) (n : ℕ) {xs : List ℕ} → sizeFits ws ≡ true → isT1 (stored ws ns n) ≡ true → Marked ws ns n xs → Ready ws ns n xs
-ready ws ns n z e m =
+pub bank : (ws ns : List ℕ) (n : ℕ) {xs : List ℕ} → sizeFits ws ≡ true → isT1 (stored ws ns n) ≡ true → Marked ws ns n xs → Bank ws ns n xs
+bank ws ns n z e m =
     record {
       good = rows-of (stored ws ns n) e .good;
       lent = sizeFits-facts ws z .most;
@@ -91,5 +91,5 @@ ready ws ns n z e m =
     }
 
 -- and then a mark says whether a row has a hole
-pub hole-ready : {ws ns : List ℕ} {n : ℕ} {xs : List ℕ} → Ready ws ns n xs → (i : ℕ) → i < n → holeBy xs i ≡ hasHole (storeOf ws ns n) i
+pub hole-ready : {ws ns : List ℕ} {n : ℕ} {xs : List ℕ} → Bank ws ns n xs → (i : ℕ) → i < n → holeBy xs i ≡ hasHole (storeOf ws ns n) i
 hole-ready {ws} {ns} {n} {xs} r i l = mark-is (storeOf ws ns n) xs n (λ j u. earlier (storeOf ws ns n) (r .good) j (rw (used-of ws ns n) u)) (r .holed) i l

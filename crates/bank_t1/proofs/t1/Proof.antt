@@ -10,7 +10,7 @@ use Rattle.model.specs.Sound.{alphabetFits, isHole}
 use Rattle.model.proofs.Laws.Lent.{sizeFits-facts}
 use Rattle.bank.specs.Rows.{nodeIn, answerIn}
 use Rattle.bank_t1.specs.Pass.{Begun}
-use Rattle.bank_t1.proofs.Laws.T1.{no-alphabet, no-rows, few-rows, no-hole, rows-decide, ready}
+use Rattle.bank_t1.proofs.Laws.T1.{no-alphabet, no-rows, few-rows, no-hole, rows-decide, bank}
 use borrow.Author.Needs.{needs}
 use Rattle.bank_t1.proofs.t1.Statement.{statement}
 use Rattle.bank_t1.proofs.t1.Tie as tie
@@ -82,7 +82,7 @@ returns-5 c =
     let s = start t in
     let e = rows-decide (s .args .words .now) (s .args .counts .now) (s .args .used) (alphabet (t .before .before)) (some (t .before)) (room t) (hole d) in
     let m = c .before .before .rows-pass .ensures in
-    (m .0 ∙ e, λ f. ready (s .args .words .now) (s .args .counts .now) (s .args .used) (s .pre .0) (sym e ∙ sym (m .0) ∙ f) (m .1 f))
+    (m .0 ∙ e, λ f. bank (s .args .words .now) (s .args .counts .now) (s .args .used) (s .pre .0) (sym e ∙ sym (m .0) ∙ f) (m .1 f))
 
 pub t1-spec : {M : Type 1} → statement M
 t1-spec =

@@ -9,10 +9,11 @@ use lib.Dec.{eqb}
 use Rattle.model.specs.Table.{Tables}
 use Rattle.model.specs.Sound.{isSound}
 use Rattle.model.specs.Calls.{Call, Outcome, refuses, leaves, faultOf, doneBy, look}
-use Rattle.model.specs.Entry.{sizeFits, listsFit, tablesOf, listsOf, wordsOf, seenOf, refused, seenBy, listsBy, wordsBy, callBy}
+use Rattle.model.specs.Entry.{sizeFits, listsFit, lentFault, tablesOf, listsOf, wordsOf, seenOf, refused, seenBy, listsBy, wordsBy, callBy}
 use Rattle.model.specs.declared.Lists.{Lists}
 use Rattle.call.specs.declared.Done.{Done}
 use Rattle.call.specs.Calls.{CallAs}
+use Rattle.call.proofs.Laws.LentFault.{lent-refused}
 
 module _ (ws : List ℕ) (l : Lists) (k : Call) (r : Done) where
   by-outcome : (o : Outcome) → callBy ws l k ≡ o → r .seen ≡ seenBy o → r .lists ≡ listsBy l o → (us : List ℕ) → us ≡ wordsBy ws o → CallAs ws l k r us
@@ -26,6 +27,9 @@ module _ (ws : List ℕ) (l : Lists) (k : Call) (r : Done) where
 
   refused-by : (n : ℕ) → callBy ws l k ≡ refuses n → r .seen ≡ refused n → r .lists ≡ l → CallAs ws l k r ws
   refused-by n e p q = by-outcome (refuses n) e p q ws refl
+
+  pub called-lent : (n : ℕ) → n ≡ lentFault ws l → (n ≡ 0 → ⊥) → r .seen ≡ refused n → r .lists ≡ l → CallAs ws l k r ws
+  called-lent n e z = refused-by n (lent-refused ws l k n e z)
 
   pub called-size : sizeFits ws ≡ false → r .seen ≡ refused 18 → r .lists ≡ l → CallAs ws l k r ws
   called-size a = refused-by 18 (ap (λ (b : Bool). lines b (listsFit l) (isSound X) (faultOf X k) (eqb (faultOf X k) 0)) a)

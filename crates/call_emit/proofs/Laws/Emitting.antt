@@ -11,11 +11,9 @@ use lib.ListN.{length, take}
 use lib.Seq.{length-take-le}
 use Rattle.model.specs.Limits.{mostRules, mostStates, mostSymbols}
 use Rattle.model.specs.Base.{over}
-use Rattle.model.specs.Automata.{Automaton}
-use Rattle.model.specs.Table.{automatonOf}
 use Rattle.model.specs.Sound.{isSound}
-use Rattle.model.specs.Listing.{emitted}
-use Rattle.model.specs.Calls.{Outcome, refuses, leaves, emits, emitFault}
+use Rattle.model.specs.Listing.{Sheet, emitted}
+use Rattle.model.specs.Calls.{Outcome, refuses, leaves, emits, sheetOf, emitFault}
 use Rattle.model.specs.Entry.{sizeFits, listsFit, tablesOf, callBy, emittedBy, outBy, emitSeen, emitOut}
 use Rattle.model.specs.declared.Lists.{Lists}
 use Rattle.model.specs.declared.Emitted.{Emitted}
@@ -29,7 +27,7 @@ parts-short ns fs us q n k f l u m =
     let b = length-take-le (ruleWidth * n) us (omega (arith, u, m)) in
     record { symbols = k; states = omega (arith, a, l); rules = omega (arith, b, m) }
 
-module _ (a : Automaton) (o : List ℕ) where
+module _ (a : Sheet) (o : List ℕ) where
   pub listed-short : (n : ℕ) → n ≡ length (emitted a) → length o < n → (r : Emitted) → (r .number ≡ 20) × (r .size ≡ 0) → (r ≡ listedSeen a o) × (o ≡ listedOut a o)
   listed-short n e l r p =
       let b = lt-leb (length (emitted a)) (length o) (omega (arith, e, l)) in (
@@ -63,7 +61,7 @@ module _ (ws : List ℕ) (l : Lists) (o : List ℕ) where
   line = emitFault (tablesOf ws l) (length o)
 
   abbrev fits : Bool
-  fits = leb (length (emitted (automatonOf (tablesOf ws l)))) (length o)
+  fits = leb (length (emitted (sheetOf (tablesOf ws l)))) (length o)
 
   pub size-refused : sizeFits ws ≡ false → callBy ws l (emits (length o)) ≡ refuses 18
   size-refused e = ap (λ (a : Bool). told a (listsFit l) sound line) e
@@ -84,10 +82,10 @@ module _ (ws : List ℕ) (l : Lists) (o : List ℕ) where
           idle : eqb (l .asked) 0 ≡ true
           idle = eq-eqb (l .asked) 0 e
 
-          pub short-refused : leb (length (emitted (automatonOf (tablesOf ws l)))) (length o) ≡ false → callBy ws l (emits (length o)) ≡ refuses 20
+          pub short-refused : leb (length (emitted (sheetOf (tablesOf ws l)))) (length o) ≡ false → callBy ws l (emits (length o)) ≡ refuses 20
           short-refused b = λ i. told (s i) (f i) (g i) (fault (idle i) (b i))
 
-          pub taken : leb (length (emitted (automatonOf (tablesOf ws l)))) (length o) ≡ true → callBy ws l (emits (length o)) ≡ leaves (tablesOf ws l)
+          pub taken : leb (length (emitted (sheetOf (tablesOf ws l)))) (length o) ≡ true → callBy ws l (emits (length o)) ≡ leaves (tablesOf ws l)
           taken b = λ i. told (s i) (f i) (g i) (fault (idle i) (b i))
 
   -- a refusal tells its number and leaves the output
@@ -96,18 +94,18 @@ module _ (ws : List ℕ) (l : Lists) (o : List ℕ) where
 
   -- the list of the proposal, or 20
   abbrev seen : Bool → Emitted
-  seen b = cond b (record { number = 0; size = length (emitted (automatonOf (tablesOf ws l))) }) (record { number = 20; size = 0 })
+  seen b = cond b (record { number = 0; size = length (emitted (sheetOf (tablesOf ws l))) }) (record { number = 20; size = 0 })
 
   abbrev left : Bool → List ℕ
-  left b = cond b (over (emitted (automatonOf (tablesOf ws l))) o) o
+  left b = cond b (over (emitted (sheetOf (tablesOf ws l))) o) o
 
-  pub listed : sizeFits ws ≡ true → listsFit l ≡ true → isSound (tablesOf ws l) ≡ true → l .asked ≡ 0 → (a : Automaton) → a ≡ automatonOf (tablesOf ws l) →
+  pub listed : sizeFits ws ≡ true → listsFit l ≡ true → isSound (tablesOf ws l) ≡ true → l .asked ≡ 0 → (a : Sheet) → a ≡ sheetOf (tablesOf ws l) →
       (listedSeen a o ≡ emitSeen ws l o) × (listedOut a o ≡ emitOut ws l o)
   listed s f g e a is =
       let p = go fits refl in
-      (ap (λ (b : Automaton). listedSeen b o) is ∙ p .0, ap (λ (b : Automaton). listedOut b o) is ∙ p .1)
+      (ap (λ (b : Sheet). listedSeen b o) is ∙ p .0, ap (λ (b : Sheet). listedOut b o) is ∙ p .1)
     where
-      go : (b : Bool) → leb (length (emitted (automatonOf (tablesOf ws l)))) (length o) ≡ b →
-          (listedSeen (automatonOf (tablesOf ws l)) o ≡ emitSeen ws l o) × (listedOut (automatonOf (tablesOf ws l)) o ≡ emitOut ws l o)
+      go : (b : Bool) → leb (length (emitted (sheetOf (tablesOf ws l)))) (length o) ≡ b →
+          (listedSeen (sheetOf (tablesOf ws l)) o ≡ emitSeen ws l o) × (listedOut (sheetOf (tablesOf ws l)) o ≡ emitOut ws l o)
       go true b = (ap seen b ∙ sym (ap emittedBy (taken s f g e b)), ap left b ∙ sym (ap (outBy o) (taken s f g e b)))
       go false b = (ap seen b ∙ sym (ap emittedBy (short-refused s f g e b)), ap left b ∙ sym (ap (outBy o) (short-refused s f g e b)))

@@ -8,7 +8,7 @@ use lib.ListN.{length, getD, set, take, drop, length-append, length-drop, List·
 use lib.Seq.{sets, sets-eq, length-sets, length-take-le, getD-take, getD-drop, getD-append-add}
 use Rattle.model.specs.Limits.{mostRules}
 use Rattle.model.specs.Store.{Store}
-use Rattle.bank.proofs.Laws.Trees.{by-equal}
+use Rattle.model.proofs.Laws.Tests.{by-equal}
 use Rattle.table_verdict.specs.Rules.{ruleBy}
 use Rattle.list.specs.Flat.{flatRule, ruleWidth}
 use Rattle.call_emit.specs.Proposal.{Flat, SixAt}

@@ -7,15 +7,16 @@ use native.Mathlib.Omega.{arith}
 use lib.ListN.{length, getD, take}
 use lib.Seq.{length-take-le}
 use Rattle.model.specs.Limits.{mostRules}
-use Rattle.model.specs.Automata.{Rule}
-use Rattle.model.specs.Table.{finalsOf, automatonOf}
+use Rattle.model.specs.Automata.{Rule, Automaton}
+use Rattle.model.specs.Table.{finalsOf}
+use Rattle.model.specs.Calls.{sheetOf}
 use Rattle.model.specs.Entry.{storeOf, answersIn, tablesOf}
 use Rattle.model.specs.declared.Lists.{Lists}
 use Rattle.model.proofs.Laws.Lists.{at-place}
 use Rattle.bank.proofs.Laws.Words.{used-of}
 use Rattle.run_lists.specs.Members.{countsIn, statesIn, rulesIn}
 use Rattle.table_verdict.specs.Rules.{ruleBy, rulesBy}
-use Rattle.list.specs.Flat.{flatRulesIn, flatRules, flatAutomaton, ruleWidth}
+use Rattle.list.specs.Flat.{flatRulesIn, flatRules, flatSheet, ruleWidth}
 use Rattle.list.proofs.Flat.{flat-part, flat-each}
 use Rattle.sound.specs.Proposal.{Proposal}
 use Rattle.call_emit.specs.Proposal.{Flat}
@@ -39,8 +40,9 @@ module _ {ws : List ℕ} (l : Lists) {reps : List ℕ} (p : Proposal ws l reps) 
 
     pub proposal-is : (fs us : List ℕ) → take (length (statesIn l)) fs ≡ finalsOf (answersIn (l .used) ws) (statesIn l) →
         Flat (storeOf ws (countsIn l) (l .used)) (statesIn l) (rulesIn l) reps (length (rulesIn l)) us →
-        flatAutomaton (countsIn l) (take (l .states) fs) (take (ruleWidth * l .rules) us) ≡ automatonOf (tablesOf ws l)
+        flatSheet (countsIn l) (take (l .states) fs) (take (ruleWidth * l .rules) us) ≡ sheetOf (tablesOf ws l)
     proposal-is fs us e f =
         let r = rules-are us f in
         let n = length-take-le (l .states) (l .s) few-s in
-        (λ i. record { counts = countsIn l; finals = (ap (λ (q : ℕ). take q fs) (sym n) ∙ e) i; rules = r i }) ∙ p .is
+        let finals : take (l .states) fs ≡ finalsOf (answersIn (l .used) ws) (statesIn l) = ap (λ (q : ℕ). take q fs) (sym n) ∙ e in
+        (λ i. record { automaton = record { counts = countsIn l; finals = finals i; rules = r i } }) ∙ ap (λ (d : Automaton). record { automaton = d }) (p .is)

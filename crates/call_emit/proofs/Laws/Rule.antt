@@ -2,20 +2,16 @@
 -- The first six bytes alone decide the rule, and a row's children are as many as its symbol has.
 use mathlib.Core.Path.{_≡_, refl, sym, ap, _∙_}
 use mathlib.Core.List.{List, [], _∷_, map}
-use Prim.Native.Nat.{ℕ, zero, suc, _+_, _≤_, _<_}
+use Prim.Native.Nat.{ℕ, _+_, _≤_, _<_}
 use native.Mathlib.Omega.{arith}
 use lib.ListN.{length, getD, set, take, drop, length-set, length-drop, length-map}
 use lib.Seq.{length-take-le, getD-take, getD-drop, getD-set-same, getD-set-other, ext-getD}
 use Rattle.model.specs.Base.{placeOf}
 use Rattle.model.specs.Store.{Store, symbolAt, kidsAt}
-use Rattle.bank.proofs.Laws.Trees.{by-equal}
+use Rattle.model.proofs.Laws.Tests.{by-equal}
+use Rattle.model.proofs.Laws.Lists.{map-at}
 use Rattle.table_verdict.specs.Rules.{ruleBy}
 use Rattle.list.specs.Flat.{flatWidth, flatRule, ruleWidth}
-
-mapped-at : (f : ℕ → ℕ) (ks : List ℕ) (j : ℕ) → j < length ks → getD (map f ks) j 0 ≡ f (getD ks j 0)
-mapped-at f [] j l = absurd (omega arith)
-mapped-at f (k ∷ ks) zero l = refl
-mapped-at f (k ∷ ks) (suc j) l = mapped-at f ks j (omega arith)
 
 -- THE CHILD STATES are four bytes at most, from the second on
 module _ (us : List ℕ) (long : ruleWidth ≤ length us) (n : ℕ) (few : n ≤ 4) where
@@ -72,6 +68,6 @@ module _ (x : Store) (s : List ℕ) (i : ℕ) where
       let states : take (length ks) (drop 1 us) ≡ map f ks =
       ext-getD 0 (take (length ks) (drop 1 us)) (map f ks) (p ∙ sym (length-map ks f))
       (λ j h. let k : j < length ks = omega (arith, p, h) in
-      states-at us six (length ks) few j k ∙ getD-set-other bs 5 (1 + j) v 0 (λ z. omega (arith, few, k, z)) ∙ r .kids j (omega (arith, k, whole)) ∙ sym (mapped-at f ks j k)) in
+      states-at us six (length ks) few j k ∙ getD-set-other bs 5 (1 + j) v 0 (λ z. omega (arith, few, k, z)) ∙ r .kids j (omega (arith, k, whole)) ∙ sym (map-at f ks j k)) in
       let t : getD us 5 0 ≡ placeOf (getD reps i 0) 0 s = getD-set-same bs 5 v 0 (omega (arith, r .long)) ∙ e in
       λ z. record { symbol = a z; states = (ap (λ (b : ℕ). take b (drop 1 us)) w ∙ states) z; target = t z }

@@ -13,9 +13,9 @@ use Rattle.model.specs.Entry.{storeOf}
 use Rattle.model.proofs.Laws.Lists.{at-place, each-at, place-within}
 use Rattle.bank.specs.Rows.{symbolIn}
 use Rattle.bank.proofs.Laws.Words.{used-of}
-use Rattle.table_verdict.specs.Rows.{RowsIn}
+use Rattle.bank.specs.Bank.{Stored}
 use Rattle.table_verdict.specs.Rules.{Ruled}
-use Rattle.table_verdict.proofs.Laws.Words.{row-known}
+use Rattle.bank.proofs.Laws.Children.{row-known}
 use Rattle.call_emit.specs.Proposal.{Transition}
 
 -- a place is within the list or just behind it
@@ -35,7 +35,7 @@ transition-of {t = t} d k h =
     let m = at-place t k h in
     record { some = d .row i m .0; within = d .row i m .1; kids = d .kids i m; target = d .covered i m }
 
-module _ {ws ns : List ℕ} {u : ℕ} (r : RowsIn ws ns u) {s reps : List ℕ} (few : length s ≤ mostStates) {i : ℕ} (d : Transition (storeOf ws ns u) s reps i) where
+module _ {ws ns : List ℕ} {u : ℕ} (r : Stored ws ns u) {s reps : List ℕ} (few : length s ≤ mostStates) {i : ℕ} (d : Transition (storeOf ws ns u) s reps i) where
   pub row-used : i < u
   row-used = omega (arith, d .within, used-of ws ns u)
 

@@ -9,7 +9,7 @@ use lib.ListN.{length, getD, length-set}
 use Rattle.model.specs.Base.{placeOf}
 use Rattle.model.specs.Store.{Store, kidsAt}
 use Rattle.model.specs.Entry.{storeOf}
-use Rattle.table_verdict.proofs.Laws.Words.{row-within, row-symbol, row-known, row-count, row-few, row-early, row-kid}
+use Rattle.bank.proofs.Laws.Children.{row-within, row-symbol, row-known, row-count, row-few, row-early, row-kid}
 use Rattle.call_emit.proofs.Laws.Transition.{row-used, symbol-small, kid-place, target-place}
 use Rattle.call_emit.proofs.Laws.Rule.{RuleTo, rule-start, rule-more, rule-end}
 use Rattle.call_emit.proofs.rule_bytes.Statement.{statement}

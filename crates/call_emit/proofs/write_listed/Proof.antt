@@ -1,7 +1,7 @@
 -- `call_emit::write_listed` meets its contract: the size decides.
 -- The bytes are those that the writer puts.
 use borrow.Author.Needs.{needs}
-use Rattle.list.specs.Flat.{flatAutomaton}
+use Rattle.list.specs.Flat.{flatSheet}
 use Rattle.call_emit.proofs.Laws.Emitting.{listed-short, listed-whole}
 use Rattle.call_emit.proofs.write_listed.Statement.{statement}
 use Rattle.call_emit.proofs.write_listed.Tie as tie
@@ -19,7 +19,7 @@ returns : tie.Need-returns
 returns c =
     let s = c .before .before .before .before .before .before .before in
     let n = c .before .before .list-size in
-    listed-short (flatAutomaton (s .args .counts .now) (s .args .finals .now) (s .args .rules .now)) (s .args .out .now) (n .result) (n .ensures)
+    listed-short (flatSheet (s .args .counts .now) (s .args .finals .now) (s .args .rules .now)) (s .args .out .now) (n .result) (n .ensures)
     (c .before .if1 .taken) (c .refuse .result) (c .refuse .ensures)
 
 write-list-requires : tie.Need-write-list-requires
@@ -33,7 +33,7 @@ returns-2 c =
     let s = c .before .before .before .before .before .before .before .before .before .before in
     let n = c .before .before .before .before .before .list-size in
     let w = c .before .before .write-list in
-    listed-whole (flatAutomaton (s .args .counts .now) (s .args .finals .now) (s .args .rules .now)) (s .args .out .now) (n .result) (n .ensures)
+    listed-whole (flatSheet (s .args .counts .now) (s .args .finals .now) (s .args .rules .now)) (s .args .out .now) (n .result) (n .ensures)
     (c .before .before .before .before .if1 .left) (w .result) (w .ensures .0) (w .ensures .1)
 
 pub write-listed-spec : {M : Type 1} → statement M

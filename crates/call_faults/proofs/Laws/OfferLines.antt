@@ -18,12 +18,12 @@ use Rattle.model.specs.Facts.{Parses}
 use Rattle.model.specs.Entry.{storeOf, answersIn, tablesOf}
 use Rattle.model.specs.declared.Lists.{Lists}
 use Rattle.model.proofs.Laws.Rows.{found}
-use Rattle.bank.specs.Ready.{Ready}
-use Rattle.bank.proofs.Laws.Trees.{by-equal}
+use Rattle.model.proofs.Laws.Tests.{by-equal}
+use Rattle.bank.specs.Bank.{Bank}
 use Rattle.bank.proofs.Laws.Words.{used-of}
 use Rattle.run_lists.specs.Members.{countsIn}
 use Rattle.table_verdict.specs.Rules.{RepsIn, acceptsListBy}
-use Rattle.table_verdict.proofs.Laws.Words.{few-rows}
+use Rattle.bank.proofs.Laws.Children.{few-rows}
 use Rattle.table_verdict.proofs.Laws.States.{reps-ruled}
 use Rattle.table_verdict.proofs.Laws.Verdict.{accepts-list-is}
 use Rattle.sound.specs.Proposal.{Proposal}
@@ -119,11 +119,11 @@ known-within x s (a ∷ xs) is h =
     either-within (eqb (findRow x a ks) 0) 0 (knownFrom x xs (findRow x a ks ∷ drop (countOf x a) is)) (used x) s
     (known-within x s xs (findRow x a ks ∷ drop (countOf x a) is) (find-within x s a ks))
 
-pub known-row-within : (ws ns : List ℕ) (n : ℕ) {ix : List ℕ} → Ready ws ns n ix → (xs : List ℕ) → knownRow (storeOf ws ns n) xs < n
+pub known-row-within : (ws ns : List ℕ) (n : ℕ) {ix : List ℕ} → Bank ws ns n ix → (xs : List ℕ) → knownRow (storeOf ws ns n) xs < n
 known-row-within ws ns n r xs = omega (arith, known-within (storeOf ws ns n) (r .good .start) xs [] (r .good .start), used-of ws ns n)
 
 -- THE PROPOSAL: its representatives can be read, and its verdict is the automaton's
-module _ (ws : List ℕ) (l : Lists) {index reps : List ℕ} (r : Ready ws (countsIn l) (l .used) index) (d : Proposal ws l reps) where
+module _ (ws : List ℕ) (l : Lists) {index reps : List ℕ} (r : Bank ws (countsIn l) (l .used) index) (d : Proposal ws l reps) where
   pub offer-reps : RepsIn (l .used) reps
   offer-reps = reps-ruled r (d .ruled)
 

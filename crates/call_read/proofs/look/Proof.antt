@@ -1,23 +1,27 @@
--- `call_read::look` meets its contract: 18 and 30 line by line; a number other than 0 is 30, and 0 leaves what looking tells.
-use mathlib.Core.Path.{_≡_, sym, _∙_}
+-- `call_read::look` meets its contract: 18 and 30 by what is lent; a number other than 0 is 30, and 0 leaves what looking tells.
+use mathlib.Core.Path.{_≡_, sym, ap, _∙_}
 use mathlib.Core.Bool.{true}
-use borrow.Author.Tests.{not-true, not-false}
-use Rattle.model.specs.Entry.{sizeFits, listsFit}
-use Rattle.call.proofs.Laws.Looked.{size-refused, lists-refused}
+use Rattle.model.specs.Calls.{looks}
+use Rattle.model.specs.Entry.{sizeFits, lentFits, seenBy}
+use Rattle.call.proofs.Laws.LentFault.{size-lent, lists-lent, lent-refused}
 use Rattle.call_read.proofs.Laws.Reads.{number-other, number-none}
 use borrow.Author.Needs.{needs}
 use Rattle.call_read.proofs.look.Statement.{statement}
 use Rattle.call_read.proofs.look.Tie as tie
 
--- past the first two lines
+-- past the first line
 size-true : (c : tie.Else1) → sizeFits (c .before .before .before .args .words .now) ≡ true
-size-true c = sym (c .before .size-fits .ensures) ∙ not-false (c .before .size-fits .result) (c .if1 .left)
+size-true c =
+    let s = c .before .before .before in
+    size-lent (s .args .words .now) (s .args .lists) (sym (c .before .lent-fault .ensures) ∙ c .if1 .left)
 
-lists-true : (c : tie.Else2) → listsFit (c .before .before .before .before .before .args .lists) ≡ true
-lists-true c = sym (c .before .lists-fit .ensures) ∙ not-false (c .before .lists-fit .result) (c .if2 .left)
+lists-true : (c : tie.Else1) → lentFits (c .before .before .before .args .words .now) (c .before .before .before .args .lists) ≡ true
+lists-true c =
+    let s = c .before .before .before in
+    lists-lent (s .args .words .now) (s .args .lists) (sym (c .before .lent-fault .ensures) ∙ c .if1 .left)
 
-size-fits-requires : tie.Need-size-fits-requires
-size-fits-requires c κs = search needs
+lent-fault-requires : tie.Need-lent-fault-requires
+lent-fault-requires c κs = search needs
 
 refusal-requires : tie.Need-refusal-requires
 refusal-requires c κs = search needs
@@ -25,56 +29,41 @@ refusal-requires c κs = search needs
 returns : tie.Need-returns
 returns c =
     let s = c .before .before .before .before in
-    let n = c .before .before .size-fits in
-    c .refusal .ensures ∙ size-refused (s .args .words .now) (s .args .lists) (sym (n .ensures) ∙ not-true (n .result) (c .before .if1 .taken))
+    let n = c .before .before .lent-fault in
+    c .refusal .ensures ∙ sym (ap seenBy (lent-refused (s .args .words .now) (s .args .lists) looks (n .result) (n .ensures) (c .before .if1 .taken)))
 
-lists-fit-requires : tie.Need-lists-fit-requires
-lists-fit-requires c κs = search needs
+look-number-requires : tie.Need-look-number-requires
+look-number-requires c κs = (size-true c, lists-true c)
 
 refusal-requires-2 : tie.Need-refusal-requires-2
 refusal-requires-2 c κs = search needs
 
 returns-2 : tie.Need-returns-2
 returns-2 c =
-    let s = c .before .before .before .before .before .before in
-    let n = c .before .before .lists-fit in
-    c .refusal2 .ensures ∙ lists-refused (s .args .words .now) (s .args .lists) (size-true (c .before .before .before)) (sym (n .ensures) ∙ not-true (n .result) (c .before .if2 .taken))
-
-look-number-requires : tie.Need-look-number-requires
-look-number-requires c κs = (size-true (c .before .before), lists-true c)
-
-refusal-requires-3 : tie.Need-refusal-requires-3
-refusal-requires-3 c κs = search needs
-
-returns-3 : tie.Need-returns-3
-returns-3 c =
-    let e : tie.Else2 = c .before .before .before in
-    let s = e .before .before .before .before .before in
+    let e : tie.Else1 = c .before .before .before in
+    let s = e .before .before .before in
     let n = c .before .before .look-number in
-    c .refusal3 .ensures ∙ number-other (s .args .words .now) (s .args .lists) (size-true (e .before .before)) (lists-true e) (λ z. c .before .if3 .taken (n .ensures ∙ z))
+    c .refusal2 .ensures ∙ number-other (s .args .words .now) (s .args .lists) (size-true e) (lists-true e) (λ z. c .before .if2 .taken (n .ensures ∙ z))
 
 told-requires : tie.Need-told-requires
 told-requires c κs = lists-true (c .before .before)
 
-returns-4 : tie.Need-returns-4
-returns-4 c =
-    let e : tie.Else2 = c .before .before .before in
-    let s = e .before .before .before .before .before in
+returns-3 : tie.Need-returns-3
+returns-3 c =
+    let e : tie.Else1 = c .before .before .before in
+    let s = e .before .before .before in
     let n = c .before .before .look-number in
-    c .told .ensures (s .args .words .now) ∙ number-none (s .args .words .now) (s .args .lists) (size-true (e .before .before)) (lists-true e) (sym (n .ensures) ∙ c .before .if3 .left)
+    c .told .ensures (s .args .words .now) ∙ number-none (s .args .words .now) (s .args .lists) (size-true e) (lists-true e) (sym (n .ensures) ∙ c .before .if2 .left)
 
 pub look-spec : {M : Type 1} → statement M
 look-spec =
     tie.close
     (tie.spec
-    size-fits-requires
+    lent-fault-requires
     refusal-requires
     returns
-    lists-fit-requires
+    look-number-requires
     refusal-requires-2
     returns-2
-    look-number-requires
-    refusal-requires-3
-    returns-3
     told-requires
-    returns-4)
+    returns-3)

@@ -1,16 +1,24 @@
 -- `call_room::accept` meets its contract: what looking tells decides.
 use mathlib.Core.Path.{_≡_, sym, ap, subst, _∙_}
 use mathlib.Core.Bool.{true}
-use Prim.Native.Nat.{ℕ}
 use lib.ListN.{length}
-use borrow.Author.Needs.{needs, length-unmapped}
+use borrow.Author.Needs.{needs}
 use Rattle.model.specs.Limits.{mostContexts, mostRules, mostStates, mostSymbols}
 use Rattle.model.specs.Calls.{look}
 use Rattle.model.specs.Entry.{tablesOf, listsFit, seenOf}
 use Rattle.model.specs.declared.Lists.{Lists}
-use Rattle.call_take.proofs.Laws.Accepted.{in-arrays, accepting-fit, look-refused, look-taken, accept-refused, accept-taken}
+use Rattle.run_lists.proofs.Laws.Arrays.{Arrays}
+use Rattle.call_room.proofs.Laws.Accepted.{accepting-fit, look-refused, look-taken, accept-refused, accept-taken}
 use Rattle.call_room.proofs.accept.Statement.{statement}
 use Rattle.call_room.proofs.accept.Tie as tie
+
+arrays : (s : tie.Start) → Arrays (s .args .lists)
+arrays s =
+    let a : length (s .args .lists .counts) ≡ mostSymbols = search needs in
+    let b : length (s .args .lists .s) ≡ mostStates = search needs in
+    let d : length (s .args .lists .t) ≡ mostRules = search needs in
+    let e : length (s .args .lists .c) ≡ mostContexts = search needs in
+    record { counts = a; s = b; t = d; c = e }
 
 look-requires : tie.Need-look-requires
 look-requires c κs = search needs
@@ -34,7 +42,8 @@ returns-2 : tie.Need-returns-2
 returns-2 c =
     let s = c .before .before .before .before .before .before .before .before in
     let k = c .before .before .before .before .before .look in
-    accept-refused (s .args .words .now) (s .args .lists) (k .result) (k .ensures) (c .before .before .before .if1 .left) (c .refuse .result) (c .before .if2 .taken) (c .refuse .ensures .0) (c .refuse .ensures .1)
+    accept-refused (s .args .words .now) (s .args .lists) (k .result) (k .ensures) (c .before .before .before .if1 .left)
+    (c .refuse .result) (c .before .if2 .taken) (c .refuse .ensures .0) (c .refuse .ensures .1)
 
 accepting-requires : tie.Need-accepting-requires
 accepting-requires c κs = search needs
@@ -55,12 +64,7 @@ returns-3 c =
     let k = c .before .before .before .before .before .before .look in
     let n = c .before .before .before .before .if1 .left in
     let l = s .args .lists in
-    let t = look-taken (s .args .words .now) l (k .result) (k .ensures) n in
-    let a : length (l .counts) ≡ mostSymbols = search needs in
-    let d : length (l .s) ≡ mostStates = length-unmapped ℕ (l .s) mostStates (s .good .1 .0 .1 .1 .1 .1 .1 .1 .1 .0 .1 .0 .1) in
-    let e : length (l .t) ≡ mostRules = length-unmapped ℕ (l .t) mostRules (s .good .1 .0 .1 .1 .1 .1 .1 .1 .1 .1 .1 .0 .1 .0 .1) in
-    let f : length (l .c) ≡ mostContexts = length-unmapped ℕ (l .c) mostContexts (s .good .1 .0 .1 .1 .1 .1 .1 .1 .1 .1 .1 .1 .1 .0 .1 .0 .1) in
-    accept-taken (s .args .words .now) l (k .result) (k .ensures) n _ (in-arrays l (t .1) a d e f) (c .before .before .if2 .left)
+    accept-taken (s .args .words .now) l (k .result) (k .ensures) n _ (arrays s) (c .before .before .if2 .left)
     (c .told .ensures (s .args .words .now) ∙ ap (λ (m : Lists). seenOf (look (tablesOf (s .args .words .now) m))) (c .before .accepting .ensures)) (c .before .accepting .ensures)
 
 pub accept-spec : {M : Type 1} → statement M

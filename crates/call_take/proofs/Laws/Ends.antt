@@ -13,20 +13,16 @@ use Rattle.model.specs.Steps.{Shortage, ofRows, ofStates, ofTransitions, ofTurn
 use Rattle.model.specs.Calls.{refuses, leaves, endOf}
 use Rattle.model.specs.Entry.{listsOf}
 use Rattle.model.specs.declared.Lists.{Lists}
+use Rattle.model.proofs.Laws.Tests.{by-equal}
 use Rattle.model.proofs.Laws.Step as step
 use Rattle.model.proofs.Laws.Step.{StepOk, step-left}
 use Rattle.bank.specs.Rows.{answerIn, withAnswer}
-use Rattle.bank.specs.Ready.{Kept}
-use Rattle.bank.proofs.Laws.Trees.{by-equal}
+use Rattle.bank.specs.Bank.{Kept}
 use Rattle.bank.proofs.Laws.Words.{word-kept}
 use Rattle.run_lists.specs.Members.{countsIn}
-use Rattle.bank_undo.specs.Left.{Left}
-use Rattle.step_end.specs.declared.finish.Stepped.{Stepped}
-use Rattle.step_end.specs.Stepping.{EndedAs}
-
--- how a step ended, as a record: its parts are known from it
-pub record Ends (ws : List ℕ) (l : Lists) (e : Ended) (r : Stepped) (ws' : List ℕ) : Type 0 where
-  pub ended : EndedAs ws l e r ws'
+use Rattle.bank_fill.specs.Left.{Left}
+use Rattle.step_settle.specs.declared.Stepped.{Stepped}
+use Rattle.step_settle.proofs.Laws.Ends.{Ends}
 
 number-some : (k : Shortage) → shortageNumber k ≡ 0 → ⊥
 number-some ofRows e = omega arith
@@ -87,5 +83,7 @@ kept-back ws us vs n v j a old k h b room t e =
     at : (i : ℕ) → i < rowWidth * n → getD (withAnswer vs j old) i 0 ≡ getD ws i 0
     at i q =
         by-equal i (rowWidth * j + 1)
-        (λ p. ap (λ (c : ℕ). getD (withAnswer vs j old) c 0) p ∙ getD-set-same vs (rowWidth * j + 1) old 0 (omega (arith, long)) ∙ e ∙ ap (λ (c : ℕ). getD us c 0) (sym p) ∙ word-kept ws us n (k .same-rows) i q)
-        (λ d. getD-set-other vs (rowWidth * j + 1) i old 0 d ∙ word-kept (withAnswer us j a) vs v (t .same-rows) i (omega arith) ∙ getD-set-other us (rowWidth * j + 1) i a 0 d ∙ word-kept ws us n (k .same-rows) i q)
+        (λ p. ap (λ (c : ℕ). getD (withAnswer vs j old) c 0) p ∙ getD-set-same vs (rowWidth * j + 1) old 0 (omega (arith, long)) ∙ e ∙
+        ap (λ (c : ℕ). getD us c 0) (sym p) ∙ word-kept ws us n (k .same-rows) i q)
+        (λ d. getD-set-other vs (rowWidth * j + 1) i old 0 d ∙ word-kept (withAnswer us j a) vs v (t .same-rows) i (omega arith) ∙
+        getD-set-other us (rowWidth * j + 1) i a 0 d ∙ word-kept ws us n (k .same-rows) i q)

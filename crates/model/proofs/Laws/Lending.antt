@@ -154,7 +154,7 @@ module _ (r : ℕ) where
   fault-room x (answers m) = refl
   fault-room x accept = refl
   fault-room x looks = refl
-  fault-room x (emits n) = λ i. orElse (unless (not (isAsking x)) 31) (unless (leb (length (emitted (automaton-room r x i))) n) 20)
+  fault-room x (emits n) = λ i. orElse (unless (not (isAsking x)) 31) (unless (leb (length (emitted (record { automaton = automaton-room r x i }))) n) 20)
 
   module _ (x : Tables) (h : x .store .room ≤ r) where
     done-room : (k : Call) → numberOf (doneBy x k) ≢ 34 → doneBy (withRoom r x) k ≡ leftWithRoom r (doneBy x k)

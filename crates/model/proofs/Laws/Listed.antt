@@ -8,7 +8,7 @@ use Prim.Native.Nat.{ℕ, suc, _+_, _-_, _≤_, _<_}
 use native.Mathlib.Omega.{arith}
 use lib.Dec.{ltb, eqb}
 use borrow.Author.Tests.{ne-eqb}
-use lib.ListN.{length, take, drop, length-drop}
+use lib.ListN.{length, getD, take, drop, length-drop}
 use lib.Seq.{length-take-le}
 use Rattle.model.specs.Base.{Below, Each, In, anyTrue, countTrue, each-cons, each-nil, here, later, none-below, one-below, top}
 use Rattle.model.specs.Store.{fold, thenBuild, Built, Extends, Store, added, built, countOf, findRow, full, hasHole, holesIn, kidsAt, rowFor, used}
@@ -20,6 +20,10 @@ use Rattle.model.proofs.Laws.Stack.{length-backwards, map-drop, map-top
 use Rattle.model.proofs.Laws.Fold.{fold-eq, earlier, hole-eq}
 use Rattle.model.proofs.Laws.Rows.{fold-ext, record-ext}
 use Rattle.model.proofs.Laws.Fill.{row-is, ext-refl, ext-trans}
+
+-- a list that parses with k trees ready, by its first symbol
+pub parts : {ns : List ℕ} {k a : ℕ} {xs : List ℕ} → Parses ns k (a ∷ xs) → (a < length ns) × (getD ns a 0 ≤ k) × Parses ns (k - getD ns a 0 + 1) xs
+parts (parses la ln ps) = (la, ln, ps)
 
 -- RECORDS as children
 records-below : (x : Store) {ks : List ℕ} → Each (IsRecord x) ks → Below (used x) ks

@@ -15,7 +15,7 @@ use Rattle.model.specs.Terms.{Tree, Over, treeAt, symbolsOf, recordFault
 use Rattle.model.specs.Automata.{accepts, acceptsList}
 use Rattle.model.specs.Table.{Tables, answerAt, automatonOf}
 use Rattle.model.specs.TableFacts.{Core}
-use Rattle.model.specs.Calls.{offers, answers, isAsking, isProposing, phaseOf, contradicts, verdictIs, faultOf}
+use Rattle.model.specs.Calls.{offers, answers, isAsking, isProposing, phaseOf, contradicts, verdictIs, sheetOf, faultOf}
 use Rattle.model.specs.Listing.{emitted}
 use Rattle.model.specs.Promise.{OffersTaken, OthersTaken}
 use Rattle.model.proofs.Laws.Trees.{recordFault-parses}
@@ -85,5 +85,5 @@ others-taken =
       answer = λ x m e p l. (let f : faultOf x (answers m) ≡ 0 = rw (asking x p, le-leb m 1 l) in taken-when-due x (answers m) e .taken-or-short f);
       acceptance = λ x e p. rw (e, proposing x p);
       look = λ x e. rw e;
-      emission = λ x r e p l. rw (e, eq-eqb (x .asked) 0 p, le-leb (length (emitted (automatonOf x))) r l);
+      emission = λ x r e p l. rw (e, eq-eqb (x .asked) 0 p, le-leb (length (emitted (sheetOf x))) r l);
     }

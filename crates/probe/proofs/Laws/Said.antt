@@ -9,7 +9,7 @@ use borrow.Author.Tests.{lt-ltb, le-ltb, eq-eqb, ne-eqb}
 use Rattle.model.specs.Store.{Built, full, built, used, hasHole, fill, framesOf}
 use Rattle.model.specs.Terms.{recordFault, storeFrom}
 use Rattle.model.specs.Entry.{storeOf}
-use Rattle.bank.specs.Ready.{Ready}
+use Rattle.bank.specs.Bank.{Bank}
 use Rattle.bank.proofs.Laws.Words.{used-of}
 use Rattle.bank_fill.specs.declared.add.Grown.{Grown}
 use Rattle.bank_fill.proofs.Laws.Coming.{Comes}

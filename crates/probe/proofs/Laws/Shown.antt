@@ -5,8 +5,8 @@ use Prim.Native.Nat.{ℕ, _+_, _<_}
 use native.Mathlib.Omega.{arith}
 use lib.ListN.{length, getD, set}
 use lib.Seq.{getD-set-same, getD-set-other}
+use Rattle.model.proofs.Laws.Tests.{by-equal}
 use Rattle.bank.specs.Index.{holeOf}
-use Rattle.bank.proofs.Laws.Trees.{by-equal}
 use Rattle.probe.specs.Probed.{Shown}
 
 pub shown-none : (ix out : List ℕ) → Shown ix 0 out

@@ -3,7 +3,7 @@ use mathlib.Core.Path.{_≡_, sym, _∙_}
 use mathlib.Core.Bool.{true, false}
 use borrow.Author.Tests.{not-true, not-false}
 use borrow.Author.Needs.{needs}
-use Rattle.bank.specs.Ready.{Ready}
+use Rattle.bank.specs.Bank.{Bank}
 use Rattle.probe.specs.Probed.{isPassed}
 use Rattle.probe.proofs.Laws.Said.{number-not, number-so}
 use Rattle.probe.proofs.probe_find.Statement.{statement}
@@ -16,9 +16,9 @@ start c = c .before .before .before .before
 passed : (c : tie.Else1) → isPassed (start (c .before .before) .args .words .now) (start (c .before .before) .args .counts .now) (start (c .before .before) .args .used) ≡ true
 passed c = sym (c .before .before .passes .ensures .0) ∙ not-false _ (c .if1 .left)
 
-ready : (c : tie.Else1) →
-    Ready (start (c .before .before) .args .words .now) (start (c .before .before) .args .counts .now) (start (c .before .before) .args .used) (c .before .before .passes .last .1 .1 .1 .0)
-ready c = c .before .before .passes .ensures .1 (not-false _ (c .if1 .left))
+bank : (c : tie.Else1) →
+    Bank (start (c .before .before) .args .words .now) (start (c .before .before) .args .counts .now) (start (c .before .before) .args .used) (c .before .before .passes .last .1 .1 .1 .0)
+bank c = c .before .before .passes .ensures .1 (not-false _ (c .if1 .left))
 
 failed : (c : tie.Then1) → isPassed (start (c .before .before) .args .words .now) (start (c .before .before) .args .counts .now) (start (c .before .before) .args .used) ≡ false
 failed c = sym (c .before .before .passes .ensures .0) ∙ not-true _ (c .if1 .taken)
@@ -36,7 +36,7 @@ slice-aggregate-find : tie.Need-slice-aggregate-find
 slice-aggregate-find c = search needs
 
 find-requires : tie.Need-find-requires
-find-requires c κs = ready (c .before) .finding
+find-requires c κs = bank (c .before) .finding
 
 returns-2 : tie.Need-returns-2
 returns-2 c =

@@ -6,7 +6,7 @@ use borrow.Author.Needs.{needs}
 use borrow.Author.Tests.{eq-eqb, ne-eqb}
 use Rattle.model.specs.Terms.{recordFault}
 use Rattle.model.proofs.Laws.Trees.{recordFault-parses}
-use Rattle.bank.specs.Ready.{Ready}
+use Rattle.bank.specs.Bank.{Bank}
 use Rattle.probe.specs.Probed.{isPassed, isListed}
 use Rattle.probe.proofs.Laws.Said.{number-before, number-between, number-behind}
 use Rattle.probe.proofs.probe_known.Statement.{statement}
@@ -19,9 +19,9 @@ start c = c .before .before .before .before .before
 passed : (c : tie.Else1) → isPassed (start (c .before .before) .args .words .now) (start (c .before .before) .args .counts .now) (start (c .before .before) .args .used) ≡ true
 passed c = sym (c .before .before .passes .ensures .0) ∙ not-false _ (c .if1 .left)
 
-ready : (c : tie.Else1) →
-    Ready (start (c .before .before) .args .words .now) (start (c .before .before) .args .counts .now) (start (c .before .before) .args .used) (c .before .before .passes .last .1 .1 .1 .0)
-ready c = c .before .before .passes .ensures .1 (not-false _ (c .if1 .left))
+bank : (c : tie.Else1) →
+    Bank (start (c .before .before) .args .words .now) (start (c .before .before) .args .counts .now) (start (c .before .before) .args .used) (c .before .before .passes .last .1 .1 .1 .0)
+bank c = c .before .before .passes .ensures .1 (not-false _ (c .if1 .left))
 
 failed : (c : tie.Then1) → isPassed (start (c .before .before) .args .words .now) (start (c .before .before) .args .counts .now) (start (c .before .before) .args .used) ≡ false
 failed c = sym (c .before .before .passes .ensures .0) ∙ not-true _ (c .if1 .taken)
@@ -60,7 +60,7 @@ known-row-requires c κs =
     let d = e .before .before in
     let s = start (d .before .before) in
     let p = recordFault-parses (s .args .counts .now) (s .args .symbols .now) (faultless e) in
-    (ready d, p .0, p .2)
+    (bank d, p .0, p .2)
 
 returns-3 : tie.Need-returns-3
 returns-3 c =

@@ -5,7 +5,7 @@ use borrow.Author.Tests.{not-true, not-false}
 use borrow.Author.Needs.{needs}
 use mathlib.Core.Bool.{true≢false}
 use native.Mathlib.Omega.{arith}
-use Rattle.bank.specs.Ready.{Ready}
+use Rattle.bank.specs.Bank.{Bank}
 use Rattle.probe.specs.Probed.{isPassed}
 use Rattle.probe.proofs.probe_pass.Statement.{statement}
 use Rattle.probe.proofs.probe_pass.Tie as tie
@@ -17,9 +17,9 @@ start c = c .before .before .before .before .before
 passed : (c : tie.Else1) → isPassed (start (c .before .before) .args .words .now) (start (c .before .before) .args .counts .now) (start (c .before .before) .args .used) ≡ true
 passed c = sym (c .before .before .passes .ensures .0) ∙ not-false _ (c .if1 .left)
 
-ready : (c : tie.Else1) →
-    Ready (start (c .before .before) .args .words .now) (start (c .before .before) .args .counts .now) (start (c .before .before) .args .used) (c .before .before .passes .last .1 .1 .1 .0)
-ready c = c .before .before .passes .ensures .1 (not-false _ (c .if1 .left))
+bank : (c : tie.Else1) →
+    Bank (start (c .before .before) .args .words .now) (start (c .before .before) .args .counts .now) (start (c .before .before) .args .used) (c .before .before .passes .last .1 .1 .1 .0)
+bank c = c .before .before .passes .ensures .1 (not-false _ (c .if1 .left))
 
 failed : (c : tie.Then1) → isPassed (start (c .before .before) .args .words .now) (start (c .before .before) .args .counts .now) (start (c .before .before) .args .used) ≡ false
 failed c = sym (c .before .before .passes .ensures .0) ∙ not-true _ (c .if1 .taken)
@@ -42,7 +42,7 @@ slice-aggregate-show c = search needs
 show-requires : tie.Need-show-requires
 show-requires c κs =
     let e = c .before .before in
-    let r = ready (e .before) in
+    let r = bank (e .before) in
     (omega (arith, r .finding .roomy .long, r .finding .room), e .if2 .left)
 
 same-length : tie.Need-same-length
@@ -52,7 +52,7 @@ returns-3 : tie.Need-returns-3
 returns-3 c =
     let m = c .before .before in
     let d = m .before .before .before .before in
-    (sym (passed d), λ f l i u. m .show .ensures .same i u ∙ ready d .holed i u)
+    (sym (passed d), λ f l i u. m .show .ensures .same i u ∙ bank d .holed i u)
 
 pub probe-pass-spec : {M : Type 1} → statement M
 probe-pass-spec =

@@ -7,7 +7,7 @@ use borrow.Author.Needs.{needs}
 use borrow.Author.Tests.{not-true, not-false}
 use lib.ListN.{length, getD, drop}
 use Rattle.model.specs.Base.{among, allAmong}
-use Rattle.run_lists.proofs.Laws.{all-cons, all-end}
+use Rattle.run_lists.proofs.Laws.Tests.{all-cons, all-end}
 use Rattle.run_lists.proofs.all_among.Statement.{statement}
 use Rattle.run_lists.proofs.all_among.Tie as tie
 

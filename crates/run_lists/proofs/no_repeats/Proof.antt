@@ -5,7 +5,7 @@ use native.Mathlib.Omega.{arith}
 use borrow.Author.Needs.{needs}
 use lib.ListN.{length, getD, drop}
 use Rattle.model.specs.Base.{among, noRepeats}
-use Rattle.run_lists.proofs.Laws.{part-is-rest, repeats-cons, repeats-end, and-false, and-rest}
+use Rattle.run_lists.proofs.Laws.Tests.{part-is-rest, repeats-cons, repeats-end, and-false, and-rest}
 use Rattle.run_lists.proofs.no_repeats.Statement.{statement}
 use Rattle.run_lists.proofs.no_repeats.Tie as tie
 

@@ -5,7 +5,7 @@ use native.Mathlib.Omega.{arith}
 use borrow.Author.Needs.{needs}
 use lib.ListN.{length, drop}
 use Rattle.model.specs.Base.{placeOf}
-use Rattle.run_lists.proofs.Laws.{place-here, place-later, place-end}
+use Rattle.run_lists.proofs.Laws.Tests.{place-here, place-later, place-end}
 use Rattle.run_lists.proofs.place_of.Statement.{statement}
 use Rattle.run_lists.proofs.place_of.Tie as tie
 

@@ -73,7 +73,7 @@ round : (c : tie.After-whole Inv-loop μ-loop) →
     Round (began c .loop .input) (input' c) (began c .loop .read) (came c .read-more .result) (began c .loop .at) (c .whole .result)
 round c =
     let i = began c .loop .inv in
-    record { came = came c .read-more .ensures; read-within = i .0; known = i .4; ready = c .whole .ensures }
+    record { came = came c .read-more .ensures; read-within = i .0; known = i .4; bank = c .whole .ensures }
 
 end-within : (c : tie.After-whole Inv-loop μ-loop) → c .whole .result ≤ length (input' c)
 end-within c = let r = round c in omega (arith, round-far r .1, r .came .within, r .came .room)

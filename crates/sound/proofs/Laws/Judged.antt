@@ -31,8 +31,8 @@ use Rattle.table_verdict.proofs.Laws.States.{reps-ruled}
 use Rattle.table_verdict.proofs.Laws.Verdict.{accepts-row-is}
 use Rattle.table_verdict.proofs.Laws.Tied.{Covers, covers-shaped, RepsOf, reps-tied, ruled-tied, hypothesis-tied}
 use Rattle.bank_t1.specs.Pass.{holeBy}
-use Rattle.sound_parts.proofs.Laws.Parts.{and-assoc}
-use Rattle.sound_parts.specs.Given.{given, rolesFit, fewFit, tableFits, questionFits}
+use Rattle.sound.proofs.Laws.Parts.{and-assoc}
+use Rattle.sound.specs.Given.{given, rolesFit, fewFit, tableFits, questionFits}
 use Rattle.sound.specs.Working.{Arrays, Working, preparedFit, judgedFit, handFits}
 use Rattle.sound.proofs.Laws.Prepared.{two, three, four}
 use Rattle.sound.proofs.Laws.Hand.{and-false}
@@ -40,7 +40,7 @@ use Rattle.sound.proofs.Laws.Hand.{and-false}
 module _ {ws ns : List ℕ} {u : ℕ} {s : List ℕ} {q : ℕ} {t : List ℕ} {n : ℕ} {c : List ℕ} {m : ℕ} {index table notes : List ℕ} (a : Arrays s q t n c m)
     (w : Working ws ns u s q t n c m index table notes) where
   small : used (storeOf ws ns u) ≤ mostRows
-  small = omega (arith, used-of ws ns u, w .ready .finding .few)
+  small = omega (arith, used-of ws ns u, w .bank .finding .few)
 
   pub missing-is : (h o : ℕ) (z : Bool) → isOpen (gapFrom table m 0 n) ≡ isMissing (given ws ns u s q t n c m h o z)
   missing-is h o z = missing-tied (w .observed) (a .few-t)
@@ -69,10 +69,10 @@ module _ {ws ns : List ℕ} {u : ℕ} {s : List ℕ} {q : ℕ} {t : List ℕ} {n
       go true r =
           let l = ltb-true o u (and-left (ltb o u) (not (holeBy index o)) r) in
           let v = answer-in u o ws l in
-          (λ i. cond (eqb o 0) (eqb h 0 && not (e i)) (record-ready (w .ready) o i && (eqb (sym v i) 0 && not (eqb z 1)))) ∙
+          (λ i. cond (eqb o 0) (eqb h 0 && not (e i)) (record-ready (w .bank) o i && (eqb (sym v i) 0 && not (eqb z 1)))) ∙
           ap (cond (eqb o 0) (eqb h 0 && not (isMissing (given ws ns u s q t n c m h o (eqb z 1))))) (and-assoc (isRecord (storeOf ws ns u) o) (eqb (answerAt (answersIn u ws) o) 0) (not (eqb z 1)))
       go false r =
-          let f : isRecord (storeOf ws ns u) o ≡ false = sym (record-ready (w .ready) o) ∙ r in
+          let f : isRecord (storeOf ws ns u) o ≡ false = sym (record-ready (w .bank) o) ∙ r in
           (λ i. cond (eqb o 0) (eqb h 0 && not (e i)) (r i && (eqb (answerIn ws o) 0 && not (eqb z 1)))) ∙
           sym (λ i. cond (eqb o 0) (eqb h 0 && not (isMissing (given ws ns u s q t n c m h o (eqb z 1)))) ((f i && eqb (answerAt (answersIn u ws) o) 0) && not (eqb z 1)))
 
@@ -93,7 +93,7 @@ module _ {ws ns : List ℕ} {u : ℕ} {s : List ℕ} {q : ℕ} {t : List ℕ} {n
           let ts = take n t in
           let cs = take m c in
           let held = held-of X (two ws ns u ss ts cs roles) (three ws ns u ss ts cs roles) (four ws ns u ss ts cs roles) (and-left (isT5 X) (isT6 X) five-six) in
-          covers-shaped (w .ready .good) (shaped-of X (held .0) (known-of X e) (and-right (isT5 X) (isT6 X) five-six)) (held .0 .one) (held .1 .few-s)
+          covers-shaped (w .bank .good) (shaped-of X (held .0) (known-of X e) (and-right (isT5 X) (isT6 X) five-six)) (held .0 .one) (held .1 .few-s)
 
       reps-are : RepsOf (answersOf (storeOf ws ns u) (answersIn u ws) (take m c)) (take q s) (take n t) (repsIn notes)
       reps-are =
@@ -104,13 +104,13 @@ module _ {ws ns : List ℕ} {u : ℕ} {s : List ℕ} {q : ℕ} {t : List ℕ} {n
       ruled = ruled-tied covers reps-are small (omega (arith, w .notes-long, column-long notes 0 (omega arith)))
 
       pub reps-read : RepsIn u (repsIn notes)
-      reps-read = reps-ruled (w .ready) ruled
+      reps-read = reps-ruled (w .bank) ruled
 
       pub hypothesis-is : hypothesis ws ns u s q t n (repsIn notes) ≡ automatonOf (given ws ns u s q t n c m h o z)
       hypothesis-is = hypothesis-tied ws ns u s q t n (take m c) covers reps-are small h o z
 
       verdict-is : h < used (storeOf ws ns u) → acceptsBy (storeOf ws ns u) (answersIn u ws) (repsIn notes) h ≡ acceptsRow (automatonOf (given ws ns u s q t n c m h o z)) (storeOf ws ns u) h
-      verdict-is l = accepts-row-is (w .ready .good) ruled small (answersIn u ws) h l ∙ ap (λ (d : Automaton). acceptsRow d (storeOf ws ns u) h) hypothesis-is
+      verdict-is l = accepts-row-is (w .bank .good) ruled small (answersIn u ws) h l ∙ ap (λ (d : Automaton). acceptsRow d (storeOf ws ns u) h) hypothesis-is
 
     abbrev verdict : Bool → Bool
     verdict y = eqb h 0 || y
@@ -127,10 +127,10 @@ module _ {ws ns : List ℕ} {u : ℕ} {s : List ℕ} {q : ℕ} {t : List ℕ} {n
             let l = ltb-true h u (and-left (ltb h u) (not (holeBy index h)) r) in
             let v = answer-in u h ws l in
             let y = verdict-is (sym e) (omega (arith, used-of ws ns u)) in
-            (λ i. verdict (record-ready (w .ready) h i && (eqb (sym v i) (cond (y i) 1 2) && not (e i)))) ∙
+            (λ i. verdict (record-ready (w .bank) h i && (eqb (sym v i) (cond (y i) 1 2) && not (e i)))) ∙
             ap verdict (and-assoc (isRecord (storeOf ws ns u) h) (verdictDiffers X h) (not (isMissing X)))
         go false r =
-            let g : isRecord (storeOf ws ns u) h ≡ false = sym (record-ready (w .ready) h) ∙ r in
+            let g : isRecord (storeOf ws ns u) h ≡ false = sym (record-ready (w .bank) h) ∙ r in
             ap (λ (y : Bool). verdict (y && (eqb (answerIn ws h) (cond (acceptsBy (storeOf ws ns u) (answersIn u ws) (repsIn notes) h) 1 2) && not false))) r ∙
             sym (ap (λ (y : Bool). verdict ((y && verdictDiffers X h) && not (isMissing X))) g)
 

@@ -15,7 +15,7 @@ use Rattle.bank.specs.Notes.{repsIn}
 use Rattle.table.specs.Answers.{Placing, Placed, gapFrom, isOpen}
 use Rattle.table_verdict.specs.Rules.{RepsIn}
 use Rattle.sound_roles.proofs.Laws.Scan.{stops, goes-on}
-use Rattle.sound_parts.specs.Given.{given, tableFits}
+use Rattle.sound.specs.Given.{given, tableFits}
 use Rattle.sound.specs.Working.{Arrays, Working, preparedFit, judgedFit, standingFits}
 use Rattle.sound.specs.declared.Standing.{Standing}
 use Rattle.sound.proofs.Laws.Judged.{missing-is, table-is, question-is, reps-read, hand-is, sound-parts}

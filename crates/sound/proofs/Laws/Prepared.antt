@@ -18,7 +18,7 @@ use Rattle.model.proofs.Laws.ReflectRows.{rows-of}
 use Rattle.model.proofs.Laws.ReflectLists.{record-of}
 use Rattle.bank.proofs.Laws.Words.{used-of, answer-in}
 use Rattle.table_columns.specs.Columns.{Answered, Contexts, Used}
-use Rattle.sound_parts.specs.Given.{rolesFit}
+use Rattle.sound.specs.Given.{rolesFit}
 
 -- the second and the third of four or of five tests
 middle : (a b c d : Bool) → ((a && b) && c) && d ≡ true → (b ≡ true) × (c ≡ true)

@@ -11,7 +11,7 @@ use Rattle.model.specs.declared.Lists.{Lists}
 use Rattle.model.proofs.Laws.Tests.{and-left, and-right}
 use Rattle.model.proofs.Laws.ReflectTable.{idle-of, known-back}
 use Rattle.bank.specs.Notes.{repsIn}
-use Rattle.table_verdict.proofs.Laws.Words.{rows-ready}
+use Rattle.bank.proofs.Laws.Children.{bank-stored}
 use Rattle.sound.specs.Working.{Arrays, WorkingOn, preparedFit, judgedFit}
 use Rattle.sound.specs.Proposal.{Proposal}
 use Rattle.sound.proofs.Laws.Judged.{ruled, hypothesis-is, sound-parts}
@@ -42,7 +42,7 @@ module _ {ws : List ℕ} (l : Lists) {index table notes : List ℕ} (a : Arrays 
   pub proposal : Proposal ws l (repsIn notes)
   proposal =
       record {
-        rows = rows-ready (w .ready);
+        rows = bank-stored (w .bank);
         ruled = ruled a w prepared (l .hand) (l .asked) (eqb (l .accepted) 1) table-fits known;
         is = hypothesis-is a w prepared (l .hand) (l .asked) (eqb (l .accepted) 1) table-fits known;
       }

@@ -10,12 +10,12 @@ use lib.Seq.{take-length, length-take-le}
 use Rattle.model.specs.Limits.{rowWidth}
 use Rattle.model.specs.Base.{among, placeOf}
 use Rattle.model.specs.Entry.{storeOf, answersIn}
-use Rattle.bank.specs.Ready.{Ready}
+use Rattle.bank.specs.Bank.{Bank}
 use Rattle.bank.specs.Notes.{roomIn, repsIn}
 use Rattle.table.specs.Answers.{Observed, Placing, Placed, gapFrom, isOpen, stateAt}
 use Rattle.table_answers.proofs.Laws.Cut.{observed-whole}
 use Rattle.table_verdict.specs.Rules.{RepsBy}
-use Rattle.sound_parts.proofs.Laws.Parts.{places-cut}
+use Rattle.table.proofs.Laws.InT.{places-cut}
 use Rattle.sound.specs.Working.{Arrays, Working}
 
 -- representatives by equal numbers and lists
@@ -24,12 +24,12 @@ reps-as {table} a b c d e h =
     record { right = λ i l. ap (λ (xs : List ℕ). getD xs i 0) e ∙ h .right i l ∙ λ j. cond (among i (d j)) (getD (c j) (stateAt table (a j) (b j) (placeOf i 0 (d j))) 0) 0 }
 
 -- MADE over lists of members
-pub working-made : {ws ns : List ℕ} {u : ℕ} {s t c index table places notes : List ℕ} → Ready ws ns u index → Observed (storeOf ws ns u) (answersIn u ws) t (length t) c (length c) table →
+pub working-made : {ws ns : List ℕ} {u : ℕ} {s t c index table places notes : List ℕ} → Bank ws ns u index → Observed (storeOf ws ns u) (answersIn u ws) t (length t) c (length c) table →
     Placing places (length s) (length t) → Placed t (length t) s (length s) places →
     (isOpen (gapFrom table (length c) 0 (length t)) ≡ false → RepsBy table (length c) (take (length s) places) s t (repsIn notes)) → length ws ≤ rowWidth * roomIn notes →
     Working ws ns u s (length s) t (length t) c (length c) index table notes
 working-made {s = s} {t = t} {places = ps} r o p d f l =
-    record { ready = r; observed = o; s-in-t = ps; placing = p; placed = d; reps-by = λ e. reps-as refl refl (sym (take-length s)) (sym (take-length t)) refl (f e); notes-long = l }
+    record { bank = r; observed = o; s-in-t = ps; placing = p; placed = d; reps-by = λ e. reps-as refl refl (sym (take-length s)) (sym (take-length t)) refl (f e); notes-long = l }
 
 module _ {ws ns : List ℕ} {u : ℕ} {s : List ℕ} {q : ℕ} {t : List ℕ} {n : ℕ} {c : List ℕ} {m : ℕ} {index table notes : List ℕ} where
   -- OF ARRAYS
@@ -44,7 +44,7 @@ module _ {ws ns : List ℕ} {u : ℕ} {s : List ℕ} {q : ℕ} {t : List ℕ} {n
       let o = subst (λ (r : ℕ). Observed x v (take n t) r (take m c) (length (take m c)) table) en (w .observed) in
       let p = places-cut s q t n (a .few-s) (a .few-t) (w .placing) (w .placed) in
       record {
-        ready = w .ready;
+        bank = w .bank;
         observed = observed-whole x v t n c m (a .few-t) (a .few-c) table n (omega arith) o;
         s-in-t = w .s-in-t;
         placing = p .0;
@@ -59,7 +59,7 @@ module _ {ws ns : List ℕ} {u : ℕ} {s : List ℕ} {q : ℕ} {t : List ℕ} {n
   pub working-kept : {after : List ℕ} → repsIn after ≡ repsIn notes → length after ≡ length notes → Working ws ns u s q t n c m index table notes → Working ws ns u s q t n c m index table after
   working-kept e l w =
       record {
-        ready = w .ready;
+        bank = w .bank;
         observed = w .observed;
         s-in-t = w .s-in-t;
         placing = w .placing;

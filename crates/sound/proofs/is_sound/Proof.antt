@@ -13,7 +13,7 @@ use Rattle.model.specs.Table.{Tables, tables}
 use Rattle.model.specs.Sound.{isT1}
 use Rattle.model.specs.Entry.{storeOf, answersIn}
 use Rattle.model.proofs.Laws.Tests.{and-right}
-use Rattle.sound_parts.specs.Given.{rolesFit, tableFits}
+use Rattle.sound.specs.Given.{rolesFit, tableFits}
 use Rattle.sound.specs.Working.{Working, preparedFit}
 use Rattle.sound.proofs.Laws.Prepared.{t-one, s-in-t, t-used}
 use Rattle.sound.proofs.Laws.Members.{roles-settle, table-settles, members-read, standing-decides}
@@ -145,7 +145,7 @@ standing-fits-requires c κs =
     let d = found (e .before) in
     let r = d .represent .ensures in
     let w = works d in
-    (w .ready, omega (arith, w .ready .finding .room, w .notes-long), members-read w (r .1) (r .2) (begun d .args .standing) (d .represent .result) (r .0) (fits (past d)) (table-true e))
+    (w .bank, omega (arith, w .bank .finding .room, w .notes-long), members-read w (r .1) (r .2) (begun d .args .standing) (d .represent .result) (r .0) (fits (past d)) (table-true e))
 
 same-length-7 : tie.Need-same-length-7
 same-length-7 c = search needs

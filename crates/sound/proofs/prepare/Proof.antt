@@ -8,9 +8,9 @@ use Rattle.model.specs.Table.{Tables, tables}
 use Rattle.model.specs.Sound.{isT1}
 use Rattle.model.specs.Entry.{storeOf, answersIn}
 use Rattle.model.proofs.Laws.Tests.{true-both}
-use Rattle.bank.specs.Ready.{Ready}
+use Rattle.bank.specs.Bank.{Bank}
 use Rattle.sound_roles.proofs.Laws.Scan.{stops, goes-on}
-use Rattle.sound_parts.specs.Given.{rolesFit}
+use Rattle.sound.specs.Given.{rolesFit}
 use Rattle.sound.proofs.Laws.Prepared.{t1-answered, t-used, c-contexts}
 use Rattle.sound.proofs.prepare.Statement.{statement}
 use Rattle.sound.proofs.prepare.Tie as tie
@@ -33,8 +33,8 @@ past c = c .before .before .before
 t1-true : (c : tie.Else1) → isT1 (idle (start (tested c))) ≡ true
 t1-true c = sym (tested c .t1 .ensures .0) ∙ not-false (tested c .t1 .result) (c .if1 .left)
 
-ready : (c : tie.Else1) → Ready (start (tested c) .args .words .now) (start (tested c) .args .counts .now) (start (tested c) .args .used) (tested c .t1 .last .1 .1 .1 .0)
-ready c = tested c .t1 .ensures .1 (not-false (tested c .t1 .result) (c .if1 .left))
+bank : (c : tie.Else1) → Bank (start (tested c) .args .words .now) (start (tested c) .args .counts .now) (start (tested c) .args .used) (tested c .t1 .last .1 .1 .1 .0)
+bank c = tested c .t1 .ensures .1 (not-false (tested c .t1 .result) (c .if1 .left))
 
 roles-true : (c : tie.Else2) → rolesFit (idle (start (tested (past c)))) ≡ true
 roles-true c = sym (c .before .roles-fit .ensures) ∙ not-false (c .before .roles-fit .result) (c .if2 .left)
@@ -51,7 +51,7 @@ returns c =
     (stops _ _ (sym (t .t1 .ensures .0) ∙ not-true (t .t1 .result) (c .if1 .taken)), λ e. absurd (true≢false (sym e)))
 
 roles-fit-requires : tie.Need-roles-fit-requires
-roles-fit-requires c κs = let f = start (tested (c .before)) .pre .1 in (ready (c .before), f .few-s, f .few-t)
+roles-fit-requires c κs = let f = start (tested (c .before)) .pre .1 in (bank (c .before), f .few-s, f .few-t)
 
 same-length-2 : tie.Need-same-length-2
 same-length-2 c = search needs
@@ -67,7 +67,7 @@ observe-requires c κs =
     let s = start (tested (past d)) in
     let f = s .pre .1 in
     let room = s .pre .2 in
-    let ok = ready (past d) in (
+    let ok = bank (past d) in (
       ok,
       t1-answered (s .args .words .now) (s .args .counts .now) (s .args .used) (s .args .s .now) (s .args .t .now) (s .args .c .now) (t1-true (past d)),
       t-used (s .args .words .now) (s .args .counts .now) (s .args .used) (s .args .s .now) (s .args .t .now) (s .args .c .now) (roles-true d),
@@ -91,7 +91,7 @@ returns-3 : tie.Need-returns-3
 returns-3 c =
     let o = c .before .before .before .before in
     let d = o .before .before .before .before in
-    (sym (true-both _ _ (t1-true (past d)) (roles-true d)), λ e. (ready (past d), o .observe .ensures))
+    (sym (true-both _ _ (t1-true (past d)) (roles-true d)), λ e. (bank (past d), o .observe .ensures))
 
 pub prepare-spec : {M : Type 1} → statement M
 prepare-spec =

@@ -15,13 +15,13 @@ use Rattle.model.specs.Sound.{contextsFit}
 use Rattle.model.specs.Entry.{storeOf}
 use Rattle.model.proofs.Laws.Tests.{all-getD}
 use Rattle.model.proofs.Laws.ReflectLists.{record-of}
-use Rattle.bank.specs.Ready.{Ready}
+use Rattle.bank.specs.Bank.{Bank}
 use Rattle.bank_t1.specs.Pass.{holeBy}
 use Rattle.bank.proofs.Laws.Words.{used-of}
 use Rattle.bank_t1.proofs.Laws.T1.{hole-ready}
 use Rattle.sound_roles.specs.Marked.{recordBy, contextBy, recordsBy, contextsBy, contextsFitBy}
 
-module _ {ws ns : List ℕ} {n : ℕ} {ix : List ℕ} (r : Ready ws ns n ix) where
+module _ {ws ns : List ℕ} {n : ℕ} {ix : List ℕ} (r : Bank ws ns n ix) where
   -- a test of a row's hole, behind the test that it is used
   guarded : (f : Bool → Bool) (i : ℕ) → ltb i n && f (holeBy ix i) ≡ ltb i (used (storeOf ws ns n)) && f (hasHole (storeOf ws ns n) i)
   guarded f i = go (ltb i n) refl ∙ ap (λ (m : ℕ). ltb i m && f (hasHole (storeOf ws ns n) i)) (sym (used-of ws ns n))

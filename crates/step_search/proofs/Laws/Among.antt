@@ -14,9 +14,9 @@ use Rattle.model.specs.Entry.{storeOf}
 use Rattle.model.proofs.Laws.Lists.{map-below, below-split}
 use Rattle.model.proofs.Laws.Fold.{earlier}
 use Rattle.model.proofs.Laws.Down.{Splits, no-one, at-one, split-is}
-use Rattle.bank.specs.Ready.{placeCode, oneFurther}
+use Rattle.bank.specs.Bank.{placeCode, oneFurther}
 use Rattle.bank.proofs.Laws.Words.{used-of}
-use Rattle.step_search.specs.Spots.{Handling, ownRep, notOwn, spotBy, TurnsBy, DescendedBy, Descended}
+use Rattle.step_search.specs.Spots.{Noted, ownRep, notOwn, spotBy, TurnsBy, DescendedBy, Descended}
 use Rattle.step_search.proofs.Laws.Reps.{own-among}
 
 -- TWO PROPERTIES that agree on the rows below m
@@ -59,7 +59,7 @@ abbrev pub outsideOwn : (reps : List ℕ) → Store → (row : ℕ) → ℕ
 outsideOwn reps x i = fold (λ (j a : ℕ) (ns : List ℕ). cond (ownRep reps j) 0 1 + sum ns) 0 x i
 
 -- BY S
-module _ {x : Store} {w s t cs reps : List ℕ} (f : Handling x w s t cs reps) (l : used x ≤ mostRows) where
+module _ {x : Store} {w s t cs reps : List ℕ} (f : Noted x w s t cs reps) (l : used x ≤ mostRows) where
   strange : (k : ℕ) → k < mostRows → notOwn reps k ≡ not (among k s)
   strange k u = ap not (own-among f k u)
 
@@ -88,6 +88,6 @@ module _ {x : Store} {w s t cs reps : List ℕ} (f : Handling x w s t cs reps) (
         }
 
 -- by the words
-pub descended-rows : (ws ns : List ℕ) (n : ℕ) {w s t cs reps ds at ex : List ℕ} → n ≤ mostRows → Handling (storeOf ws ns n) w s t cs reps →
+pub descended-rows : (ws ns : List ℕ) (n : ℕ) {w s t cs reps ds at ex : List ℕ} → n ≤ mostRows → Noted (storeOf ws ns n) w s t cs reps →
     DescendedBy (notOwn reps) reps (storeOf ws ns n) ds at ex n → Descended s reps (storeOf ws ns n) ds at ex n
 descended-rows ws ns n l f d = let u = used-of ws ns n in descended-among f (omega arith) (omega arith) d

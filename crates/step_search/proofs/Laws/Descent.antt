@@ -14,11 +14,11 @@ use Rattle.model.specs.Facts.{Good}
 use Rattle.model.specs.Entry.{storeOf}
 use Rattle.model.proofs.Laws.Fold.{earlier}
 use Rattle.bank.specs.Rows.{kidIn}
-use Rattle.bank.specs.Ready.{Ready, placeCode, frameAt}
+use Rattle.bank.specs.Bank.{Bank, placeCode, frameAt}
 use Rattle.bank.proofs.Laws.Words.{used-of}
+use Rattle.bank.proofs.Laws.Children.{bank-stored, row-used, row-kid, word-early}
 use Rattle.step_search.specs.Spots.{exchangedBy, TurnsBy, DescendedBy}
 use Rattle.step_search.proofs.Laws.Steps.{step-none, step-some}
-use Rattle.step_search.proofs.Laws.Children.{ready-rows, row-used, kid-is, kid-earlier}
 
 -- ONE ROW
 pub record TurnIs (p : ℕ → Bool) (reps : List ℕ) (x : Store) (i spot row : ℕ) : Type 0 where
@@ -42,21 +42,22 @@ module _ (p : ℕ → Bool) (reps : List ℕ) (x : Store) (g : Good x) (i : ℕ)
       record { spot-is = t .spot-is ∙ ap (λ (s : Spot). s .row) (sym d); row-is = ap (nextRow x (frameAt x i k)) (t .row-is) ∙ ap became (sym d) }
 
 -- by the words: the code, other than 0, names a place that the row has, and the child there has its turn already
-module _ {ws ns : List ℕ} {n : ℕ} {ix : List ℕ} (r : Ready ws ns n ix) (p : ℕ → Bool) (i : ℕ) (u : 0 < i) (l : i < n)
+module _ {ws ns : List ℕ} {n : ℕ} {ix : List ℕ} (r : Bank ws ns n ix) (p : ℕ → Bool) (i : ℕ) (u : 0 < i) (l : i < n)
     (code : ℕ) (e : code ≡ placeCode p (kidsAt (storeOf ws ns n) i)) (z : code ≡ 0 → ⊥) where
   names : placeCode p (kidsAt (storeOf ws ns n) i) ≡ suc (code - 1)
   names = omega arith
 
   pub place-has : code - 1 < length (kidsAt (storeOf ws ns n) i)
-  place-has = step-some p (storeOf ws ns n) (r .good) i (code - 1) (row-used (ready-rows r) i l) names .within
+  place-has = step-some p (storeOf ws ns n) (r .good) i (code - 1) (row-used (bank-stored r) i l) names .within
 
   pub turn-above : {reps at ex : List ℕ} → TurnsBy p reps (storeOf ws ns n) at ex i → (kid : ℕ) → kid ≡ kidIn ws i (code - 1) → (row : ℕ) →
       row ≡ nextRow (storeOf ws ns n) (frameAt (storeOf ws ns n) i (code - 1)) (getD ex kid 0) → TurnIs p reps (storeOf ws ns n) i (getD at kid 0) row
   turn-above {reps} {at} {ex} d kid q row v =
-      let b = kid-earlier (ready-rows r) i l u (code - 1) place-has in
-      let w : kid ≡ getD (kidsAt (storeOf ws ns n) i) (code - 1) 0 = q ∙ sym (kid-is (ready-rows r) i l u (code - 1) place-has) in
+      let b = word-early (bank-stored r) i l u (code - 1) place-has in
+      let w : kid ≡ getD (kidsAt (storeOf ws ns n) i) (code - 1) 0 = q ∙ row-kid (bank-stored r) i l u (code - 1) place-has in
       let t : TurnIs p reps (storeOf ws ns n) kid (getD at kid 0) (getD ex kid 0) = record { spot-is = d .at-is kid (omega arith); row-is = d .exchanged-is kid (omega arith) } in
-      let c = turn-inner p reps (storeOf ws ns n) (r .good) i (code - 1) (row-used (ready-rows r) i l) names (getD at kid 0) (getD ex kid 0) (subst (λ (j : ℕ). TurnIs p reps (storeOf ws ns n) j (getD at kid 0) (getD ex kid 0)) w t) in
+      let c = turn-inner p reps (storeOf ws ns n) (r .good) i (code - 1) (row-used (bank-stored r) i l) names (getD at kid 0) (getD ex kid 0)
+      (subst (λ (j : ℕ). TurnIs p reps (storeOf ws ns n) j (getD at kid 0) (getD ex kid 0)) w t) in
       record { spot-is = c .spot-is; row-is = v ∙ c .row-is }
 
 -- ALL ROWS: an entry for each

@@ -9,7 +9,7 @@ use native.Mathlib.Numerals.{add-one}
 use lib.ListN.{length, getD, take, drop, drop-of-length-le}
 use lib.Seq.{drop-cons}
 use Rattle.model.specs.Store.{nowhere, there, push, splitAt}
-use Rattle.bank.specs.Ready.{placeCode, oneFurther}
+use Rattle.bank.specs.Bank.{placeCode, oneFurther}
 
 -- THE SPLIT at a place
 pub split-none : (p : ℕ → Bool) (ks : List ℕ) → placeCode p ks ≡ 0 → splitAt p ks ≡ nowhere

@@ -17,9 +17,9 @@ use Rattle.model.specs.Entry.{storeOf}
 use Rattle.model.proofs.Laws.Lists.{member-in, not-in, in-not}
 use Rattle.model.proofs.Laws.Search.{rep-is}
 use Rattle.bank.proofs.Laws.Words.{used-of}
-use Rattle.step_search.specs.Spots.{Handling, ownRep}
+use Rattle.step_search.specs.Spots.{Noted, ownRep}
 
-module _ {x : Store} {w s t cs reps : List ℕ} (f : Handling x w s t cs reps) where
+module _ {x : Store} {w s t cs reps : List ℕ} (f : Noted x w s t cs reps) where
   -- an entry for each used row
   pub reps-long : used x ≤ length reps
   reps-long = let l = f .full .good .fits in omega (arith, f .long)
@@ -76,5 +76,5 @@ module _ {x : Store} {w s t cs reps : List ℕ} (f : Handling x w s t cs reps) w
       go (no e) = ap (λ (b : Bool). not b && eqb (getD reps i 0) i) (ne-eqb i 0 e) ∙ own-rep i (omega arith) l
 
 -- by the words
-pub reps-rows : (ws ns : List ℕ) (n : ℕ) {w s t cs reps : List ℕ} → Handling (storeOf ws ns n) w s t cs reps → n ≤ length reps
+pub reps-rows : (ws ns : List ℕ) (n : ℕ) {w s t cs reps : List ℕ} → Noted (storeOf ws ns n) w s t cs reps → n ≤ length reps
 reps-rows ws ns n f = let l = reps-long f in omega (arith, used-of ws ns n)

@@ -6,7 +6,7 @@ use Prim.Native.Nat.{ℕ, _+_, _≤_, _<_}
 use native.Mathlib.Omega.{arith}
 use lib.ListN.{length, getD, drop}
 use Rattle.model.specs.Store.{Store, kidsAt}
-use Rattle.bank.specs.Ready.{placeCode}
+use Rattle.bank.specs.Bank.{placeCode}
 use Rattle.step_search.proofs.Laws.Place.{shifted, shifted-none, place-here, place-behind, place-nowhere}
 
 pub record Scanning (p : ℕ → Bool) (x : Store) (i count k : ℕ) : Type 0 where

@@ -10,8 +10,8 @@ use Rattle.model.specs.Store.{Store, Spot, Frame, used, symbolAt, kidsAt, under
 use Rattle.model.specs.Facts.{Good, IsRecord, Fits}
 use Rattle.model.proofs.Laws.Fold.{earlier}
 use Rattle.model.proofs.Laws.Down.{down-fuel, fits-record}
-use Rattle.bank.specs.Ready.{placeCode, frameAt, pathBy, pathFrom, pathOf}
-use Rattle.bank_t1.proofs.Laws.Kids.{below-at}
+use Rattle.bank.specs.Bank.{placeCode, frameAt, pathBy, pathFrom, pathOf}
+use Rattle.bank.proofs.Laws.Children.{below-at}
 use Rattle.step_search.specs.Spots.{DescendedBy}
 use Rattle.step_search.proofs.Laws.Place.{split-none, split-some}
 

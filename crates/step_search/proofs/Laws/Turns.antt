@@ -18,7 +18,7 @@ use Rattle.model.proofs.Laws.Lists.{in-member}
 use Rattle.model.proofs.Laws.Frames.{leads-within}
 use Rattle.model.proofs.Laws.Filled.{filled-leads}
 use Rattle.model.proofs.Laws.Search.{hand-outside, spot-is}
-use Rattle.step_search.specs.Spots.{Handling, exchangedRow}
+use Rattle.step_search.specs.Spots.{Noted, exchangedRow}
 use Rattle.step_search.proofs.Laws.Reps.{rep-of, no-transition}
 use Rattle.step_search.proofs.Laws.Search.{after, Turned, turns, search-turn}
 
@@ -36,7 +36,7 @@ pub record InHand (x : Store) (w s t cs : List ℕ) (first h : ℕ) : Type 0 whe
 pub starts : {x : Store} {w s t cs : List ℕ} {h : ℕ} → HandFits x w s t cs h → InHand x w s t cs h h
 starts f = record { fits = f; same = refl }
 
-module _ {x : Store} {w s t cs reps : List ℕ} (f : Handling x w s t cs reps) (first h : ℕ) (q : InHand x w s t cs first h) where
+module _ {x : Store} {w s t cs reps : List ℕ} (f : Noted x w s t cs reps) (first h : ℕ) (q : InHand x w s t cs first h) where
   abbrev u : ℕ
   u = spotOf s x h .row
 

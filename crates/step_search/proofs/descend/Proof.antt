@@ -9,8 +9,8 @@ use Rattle.model.specs.Entry.{storeOf}
 use Rattle.bank.specs.Notes.{roomIn, repsIn, downIn, spotsIn, exchangedIn}
 use Rattle.bank.proofs.Laws.Notes.{column-long}
 use Rattle.bank.proofs.Laws.Words.{used-of}
+use Rattle.bank.proofs.Laws.Children.{bank-stored, row-used}
 use Rattle.step_search.specs.Spots.{DescendedBy, notOwn}
-use Rattle.step_search.proofs.Laws.Children.{ready-rows, row-used}
 use Rattle.step_search.proofs.Laws.Descent.{descended-more, descended-hole, descended-fewer}
 use Rattle.step_search.proofs.descend.Statement.{statement}
 use Rattle.step_search.proofs.descend.Tie as tie
@@ -110,7 +110,7 @@ loop-again c =
       omega arith,
       c .before .before .note-turn2 .kept .0 ∙ v .1,
       e .0 ∙ v .2,
-      rw (e .1, e .2, e .3) (descended-more (r .place) (r .spot .0) (r .row .0) (row-used (ready-rows (start (first d) .pre .0)) (i d) (d .loop-test .taken)) (v .3)
+      rw (e .1, e .2, e .3) (descended-more (r .place) (r .spot .0) (r .row .0) (row-used (bank-stored (start (first d) .pre .0)) (i d) (d .loop-test .taken)) (v .3)
           (rw own (t .turn-of .ensures .0)) (record { spot-is = rw own (t .turn-of .ensures .1); row-is = rw own (t .turn-of .ensures .2) })),
     )
 

@@ -13,7 +13,7 @@ abbrev noted : tie.After-column3 → tie.After-descend
 noted c = c .before .before .before .before .before .before
 
 descend-requires : tie.Need-descend-requires
-descend-requires c κs = let s = c .before .before .before .before .before in (s .pre .0, s .pre .2, hole-rep (s .pre .1 .handling))
+descend-requires c κs = let s = c .before .before .before .before .before in (s .pre .0, s .pre .2, hole-rep (s .pre .1 .noted))
 
 column-requires : tie.Need-column-requires
 column-requires c κs = search needs

@@ -8,8 +8,9 @@ use borrow.Author.Needs.{needs}
 use lib.ListN.{length, getD}
 use Rattle.model.specs.Store.{kidsAt}
 use Rattle.model.specs.Entry.{storeOf}
+use Rattle.bank.specs.Bank.{Stored}
+use Rattle.bank.proofs.Laws.Children.{row-within, row-known, row-count, row-kid, word-early}
 use Rattle.step_search.specs.Spots.{notOwn}
-use Rattle.step_search.proofs.Laws.Children.{GoodRows, row-within, symbol-known, kids-long, kid-is, kid-earlier}
 use Rattle.step_search.proofs.Laws.Scan.{Scanning, scan-starts, scan-hits, scan-passes, scan-ends}
 use Rattle.step_search.proofs.first_outside.Statement.{statement}
 use Rattle.step_search.proofs.first_outside.Tie as tie
@@ -26,7 +27,7 @@ In = tie.In-loop Inv-loop μ-loop
 abbrev start : In → tie.Start Inv-loop μ-loop
 start c = c .before .before .before .before .before .before .before
 
-rows : (s : tie.Start Inv-loop μ-loop) → GoodRows (s .args .words .now) (s .args .counts .now) (s .args .used)
+rows : (s : tie.Start Inv-loop μ-loop) → Stored (s .args .words .now) (s .args .counts .now) (s .args .used)
 rows s = record { good = s .pre .0; room = s .pre .1 }
 
 -- the child's place is one that the row has
@@ -42,14 +43,14 @@ cast-count c = search needs
 shared-slice-read-count : tie.Need-shared-slice-read-count Inv-loop μ-loop
 shared-slice-read-count c =
     let s = c .before .before .before .before .before in
-    omega (arith, symbol-known (rows s) (s .args .row .0) (s .pre .4) (s .pre .3), c .before .symbol-of .ensures)
+    omega (arith, row-known (rows s) (s .args .row .0) (s .pre .4) (s .pre .3), c .before .symbol-of .ensures)
 
 loop-holds : tie.Need-loop-holds Inv-loop μ-loop
 loop-holds c =
     let s = c .before .before .before .before .before in
     let a = c .before .symbol-of in
     scan-starts (notOwn (s .args .reps .now)) (storeOf (s .args .words .now) (s .args .counts .now) (s .args .used)) (s .args .row .0) (getD (s .args .counts .now) (a .result) 0)
-    (ap (λ (v : ℕ). getD (s .args .counts .now) v 0) (a .ensures) ∙ sym (kids-long (rows s) (s .args .row .0) (s .pre .4) (s .pre .3))) (s .pre .0 .wide (a .result))
+    (ap (λ (v : ℕ). getD (s .args .counts .now) v 0) (a .ensures) ∙ row-count (rows s) (s .args .row .0) (s .pre .4) (s .pre .3)) (s .pre .0 .wide (a .result))
 
 cast-kid-of : tie.Need-cast-kid-of Inv-loop μ-loop
 cast-kid-of c = search needs
@@ -62,7 +63,7 @@ kid-of-requires c κs =
 earlier : (c : tie.After-kid-of Inv-loop μ-loop) → c .kid-of .result < start (c .before) .args .used
 earlier c =
     let s = start (c .before) in
-    let a = kid-earlier (rows s) (s .args .row .0) (s .pre .4) (s .pre .3) (c .before .before .loop .k) (place (c .before)) in
+    let a = word-early (rows s) (s .args .row .0) (s .pre .4) (s .pre .3) (c .before .before .loop .k) (place (c .before)) in
     omega (arith, c .kid-of .ensures, s .pre .4)
 
 cast-kid : tie.Need-cast-kid Inv-loop μ-loop
@@ -80,7 +81,7 @@ returns c =
     let s = start d in
     let l = d .before .loop in
     let k = c .before .before .kid-of in
-    scan-hits (l .inv) (d .loop-test .taken) (k .result) (kid-is (rows s) (s .args .row .0) (s .pre .4) (s .pre .3) (l .k) (place d) ∙ sym (k .ensures))
+    scan-hits (l .inv) (d .loop-test .taken) (k .result) (sym (k .ensures ∙ row-kid (rows s) (s .args .row .0) (s .pre .4) (s .pre .3) (l .k) (place d)))
     (not (c .before .is-rep .result)) (ap not (sym (c .before .is-rep .ensures))) (c .if1 .taken)
 
 add-k : tie.Need-add-k Inv-loop μ-loop
@@ -95,7 +96,7 @@ loop-again c =
     let s = start d in
     let l = d .before .loop in
     let k = c .before .before .kid-of in
-    scan-passes (l .inv) (d .loop-test .taken) (k .result) (kid-is (rows s) (s .args .row .0) (s .pre .4) (s .pre .3) (l .k) (place d) ∙ sym (k .ensures))
+    scan-passes (l .inv) (d .loop-test .taken) (k .result) (sym (k .ensures ∙ row-kid (rows s) (s .args .row .0) (s .pre .4) (s .pre .3) (l .k) (place d)))
     (not (c .before .is-rep .result)) (ap not (sym (c .before .is-rep .ensures))) (c .if1 .left)
 
 returns-2 : tie.Need-returns-2 Inv-loop μ-loop

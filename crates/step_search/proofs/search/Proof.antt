@@ -8,7 +8,7 @@ use Rattle.model.specs.Store.{Store}
 use Rattle.model.specs.TableFacts.{HandFits}
 use Rattle.model.specs.Entry.{storeOf, answersIn}
 use Rattle.bank.specs.Rows.{Within}
-use Rattle.step_search.specs.Spots.{Handling}
+use Rattle.step_search.specs.Spots.{Noted}
 use Rattle.step_search.proofs.Laws.Among.{outsideOwn}
 use Rattle.step_search.proofs.Laws.Turns.{InHand, starts}
 use Rattle.step_search.proofs.Laws.Walk.{Walking, in-hand, spot-few, within-at, within-exchanged, within-reps, stops-new, next-used, stops-unknown, stops-different, steps, steps-less}
@@ -19,7 +19,7 @@ abbrev Inv-loop : tie.InvT-loop
 Inv-loop words counts used reps at exchanged h₀ h =
     let x = storeOf words counts used in
     let w = answersIn used words in
-    (s t cs : List ℕ) → Handling x w s t cs reps → HandFits x w s t cs h₀ → InHand x w s t cs h₀ h
+    (s t cs : List ℕ) → Noted x w s t cs reps → HandFits x w s t cs h₀ → InHand x w s t cs h₀ h
 
 abbrev μ-loop : tie.MeasureT-loop
 μ-loop words counts used reps at exchanged h₀ h = outsideOwn reps (storeOf words counts used) h
@@ -44,12 +44,12 @@ module _ (c : Turn) where
       Walking (start c .args .words .now) (start c .args .counts .now) (start c .args .used) s t cs (start c .args .reps .now) (start c .args .at .now) (start c .args .exchanged .now)
       (start c .args .hand .0) (c .loop .h)
 
-  walking : (s t cs : List ℕ) → Handling x w s t cs (start c .args .reps .now) → HandFits x w s t cs (start c .args .hand .0) → By s t cs
-  walking s t cs f q = record { few = start c .pre .1; turns = start c .pre .2; handling = f; hand = c .loop .inv s t cs f q }
+  walking : (s t cs : List ℕ) → Noted x w s t cs (start c .args .reps .now) → HandFits x w s t cs (start c .args .hand .0) → By s t cs
+  walking s t cs f q = record { few = start c .pre .1; turns = start c .pre .2; noted = f; hand = c .loop .inv s t cs f q }
 
   -- there are some
   some : By (start c .pre .3 .s) (start c .pre .3 .t) (start c .pre .3 .cs)
-  some = let e = start c .pre .3 in walking (e .s) (e .t) (e .cs) (e .handling) (e .fits)
+  some = let e = start c .pre .3 in walking (e .s) (e .t) (e .cs) (e .noted) (e .fits)
 
   within : (i : ℕ) → i < start c .args .used → Within (start c .args .words .now) i
   within i l = omega (arith, start c .pre .0)

@@ -7,8 +7,9 @@ use borrow.Author.Needs.{needs}
 use lib.ListN.{length}
 use Rattle.model.specs.Store.{kidsAt}
 use Rattle.model.specs.Entry.{storeOf}
+use Rattle.bank.proofs.Laws.Children.{bank-stored, row-within, word-early}
 use Rattle.step_search.specs.Spots.{notOwn}
-use Rattle.step_search.proofs.Laws.Children.{ready-rows, row-within, place-four, kid-earlier}
+use Rattle.step_search.proofs.Laws.Children.{place-four}
 use Rattle.step_search.proofs.Laws.Descent.{turn-itself, place-has, turn-above, at-rows, exchanged-rows}
 use Rattle.step_search.proofs.turn_of.Statement.{statement}
 use Rattle.step_search.proofs.turn_of.Tie as tie
@@ -31,7 +32,7 @@ has c =
 earlier : (c : tie.After-kid-of) → c .kid-of .result < start (c .before) .args .used
 earlier c =
     let s = start (c .before) in
-    let a = kid-earlier (ready-rows (s .pre .0)) (s .args .row .0) (s .pre .4) (s .pre .3) (code (c .before) - 1) (has (c .before)) in
+    let a = word-early (bank-stored (s .pre .0)) (s .args .row .0) (s .pre .4) (s .pre .3) (code (c .before) - 1) (has (c .before)) in
     omega (arith, c .kid-of .ensures, s .pre .4)
 
 within-at : (c : tie.After-kid-of) → c .kid-of .result < length (start (c .before) .args .at .now)
@@ -68,7 +69,7 @@ sub-place c = search needs
 kid-of-requires : tie.Need-kid-of-requires
 kid-of-requires c κs =
     let s = start c in
-    (row-within (ready-rows (s .pre .0)) (s .args .row .0) (s .pre .4), place-four (ready-rows (s .pre .0)) (s .args .row .0) (s .pre .4) (s .pre .3) (code c - 1) (has c))
+    (row-within (bank-stored (s .pre .0)) (s .args .row .0) (s .pre .4), place-four (bank-stored (s .pre .0)) (s .args .row .0) (s .pre .4) (s .pre .3) (code c - 1) (has c))
 
 cast-kid : tie.Need-cast-kid
 cast-kid c = search needs

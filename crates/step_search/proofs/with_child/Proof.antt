@@ -5,13 +5,14 @@ use Prim.Native.Nat.{_<_}
 use native.Mathlib.Omega.{arith}
 use borrow.Author.Needs.{needs}
 use Rattle.model.specs.Entry.{storeOf}
-use Rattle.bank.specs.Ready.{frameAt}
-use Rattle.step_search.proofs.Laws.Children.{ready-rows, place-four, next-none, child-set}
+use Rattle.bank.specs.Bank.{frameAt}
+use Rattle.bank.proofs.Laws.Children.{bank-stored}
+use Rattle.step_search.proofs.Laws.Children.{place-four, next-none, child-set}
 use Rattle.step_search.proofs.with_child.Statement.{statement}
 use Rattle.step_search.proofs.with_child.Tie as tie
 
 small : (s : tie.Start) → s .args .place < 4
-small s = place-four (ready-rows (s .pre .0)) (s .args .row .0) (s .pre .2) (s .pre .1) (s .args .place) (s .pre .3)
+small s = place-four (bank-stored (s .pre .0)) (s .args .row .0) (s .pre .2) (s .pre .1) (s .args .place) (s .pre .3)
 
 returns : tie.Need-returns
 returns c =

@@ -5,7 +5,7 @@ use mathlib.Core.Option.{Option, none, some}
 use mathlib.Core.List.{List}
 use Prim.Native.Nat.{ℕ, zero, suc, _+_, _≤_, _<_}
 use native.Mathlib.Omega.{arith}
-use Rattle.table.specs.Answers.{rowAt, Sized, unknownIn, gapBy, gapFrom}
+use Rattle.table.specs.Answers.{answersAt, Sized, unknownIn, gapBy, gapFrom}
 use Rattle.table.specs.declared.Gap.{Gap}
 use Rattle.table.specs.declared.Gap.the-variants.{Closed, At}
 use Rattle.table.proofs.Laws.Gap.{unknown-within}
@@ -27,10 +27,10 @@ module _ (tb : List ℕ) (n m : ℕ) (z : Sized tb n m) (k j : ℕ) where
   within-from : (i count : ℕ) → i + count ≤ n → gapFrom tb m i count ≡ Gap.At k (record { 0 = j }) → Within n m k j
   unfolding gapFrom
   within-from i zero l e = absurd (let d : _≡_ {A = ℕ} 0 1 = cc in omega arith)
-  within-from i (suc count) l e = go (within-from (suc i) count (omega arith)) (unknownIn (rowAt tb m i) 0) refl e
+  within-from i (suc count) l e = go (within-from (suc i) count (omega arith)) (unknownIn (answersAt tb m i) 0) refl e
     where
-      go : (gapFrom tb m (suc i) count ≡ Gap.At k (record { 0 = j }) → Within n m k j) → (o : Option ℕ) → unknownIn (rowAt tb m i) 0 ≡ o → gapBy i o (gapFrom tb m (suc i) count) ≡ Gap.At k (record { 0 = j }) →
-          Within n m k j
+      go : (gapFrom tb m (suc i) count ≡ Gap.At k (record { 0 = j }) → Within n m k j) → (o : Option ℕ) → unknownIn (answersAt tb m i) 0 ≡ o →
+          gapBy i o (gapFrom tb m (suc i) count) ≡ Gap.At k (record { 0 = j }) → Within n m k j
       go ih none u p = ih p
       go ih (some v) u p =
           let a : i ≡ k = ap ruleIn p in

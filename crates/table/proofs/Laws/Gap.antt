@@ -10,7 +10,7 @@ use native.Mathlib.Omega.{arith}
 use lib.Dec.{eqb}
 use lib.ListN.{length}
 use Rattle.table.specs.declared.Gap.{Gap}
-use Rattle.table.specs.Answers.{rowAt, Sized, unknownIn, placeBy, gapBy, gapFrom}
+use Rattle.table.specs.Answers.{answersAt, Sized, unknownIn, placeBy, gapBy, gapFrom}
 use Rattle.table.proofs.Laws.Rows.{row-length, row-fits}
 
 -- a place that is found is one of the row
@@ -33,24 +33,24 @@ place-none none m r h e l = refl
 place-none (some j) m r h e l = absurd (let b = h j refl in omega arith)
 
 -- of a row of the table
-pub unknown-within : (tb : List ℕ) (n m k : ℕ) → Sized tb n m → k < n → (j : ℕ) → unknownIn (rowAt tb m k) 0 ≡ some j → j < m
+pub unknown-within : (tb : List ℕ) (n m k : ℕ) → Sized tb n m → k < n → (j : ℕ) → unknownIn (answersAt tb m k) 0 ≡ some j → j < m
 unknown-within tb n m k z l j e =
-    let b = unknown-below (rowAt tb m k) 0 j e in
+    let b = unknown-below (answersAt tb m k) 0 j e in
     let h = row-length tb m k (row-fits tb n m k z l) in
     omega arith
 
 -- T from k on
 module _ (tb : List ℕ) (m n k : ℕ) where
-  pub gap-step : k < n → gapFrom tb m k (n - k) ≡ gapBy k (unknownIn (rowAt tb m k) 0) (gapFrom tb m (k + 1) (n - (k + 1)))
+  pub gap-step : k < n → gapFrom tb m k (n - k) ≡ gapBy k (unknownIn (answersAt tb m k) 0) (gapFrom tb m (k + 1) (n - (k + 1)))
   unfolding gapFrom
   gap-step l =
       let e : n - k ≡ suc (n - (k + 1)) = omega arith in
-      ap (gapFrom tb m k) e ∙ ap (λ (i : ℕ). gapBy k (unknownIn (rowAt tb m k) 0) (gapFrom tb m i (n - (k + 1)))) (sym (add-one k))
+      ap (gapFrom tb m k) e ∙ ap (λ (i : ℕ). gapBy k (unknownIn (answersAt tb m k) 0) (gapFrom tb m i (n - (k + 1)))) (sym (add-one k))
 
-  pub gap-hit : (j : ℕ) → k < n → unknownIn (rowAt tb m k) 0 ≡ some j → gapFrom tb m k (n - k) ≡ Gap.At k (record { 0 = j })
+  pub gap-hit : (j : ℕ) → k < n → unknownIn (answersAt tb m k) 0 ≡ some j → gapFrom tb m k (n - k) ≡ Gap.At k (record { 0 = j })
   gap-hit j l e = gap-step l ∙ ap (λ (o : Option ℕ). gapBy k o (gapFrom tb m (k + 1) (n - (k + 1)))) e
 
-  pub gap-pass : k < n → unknownIn (rowAt tb m k) 0 ≡ none → gapFrom tb m k (n - k) ≡ gapFrom tb m (k + 1) (n - (k + 1))
+  pub gap-pass : k < n → unknownIn (answersAt tb m k) 0 ≡ none → gapFrom tb m k (n - k) ≡ gapFrom tb m (k + 1) (n - (k + 1))
   gap-pass l e = gap-step l ∙ ap (λ (o : Option ℕ). gapBy k o (gapFrom tb m (k + 1) (n - (k + 1)))) e
 
   pub gap-end : n ≤ k → gapFrom tb m k (n - k) ≡ Gap.Closed

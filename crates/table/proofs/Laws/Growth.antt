@@ -77,7 +77,7 @@ module _ (r : ℕ → List ℕ) (s : List ℕ) (n k : ℕ) where
 pub grown-none : {o : Option (List ℕ)} (g : Growth) → none ≡ o → g .ok ≡ false → grownBy o g
 grown-none g e f = rw (← e) f
 
-pub grown-some : {o : Option (List ℕ)} (s : List ℕ) (g : Growth) → some s ≡ o → g .ok ≡ true → take (g .states) (g .places) ≡ s → g .states ≡ length s → grownBy o g
+pub grown-some : {o : Option (List ℕ)} (s : List ℕ) (g : Growth) → some s ≡ o → g .ok ≡ true → take (g .states) (g .s) ≡ s → g .states ≡ length s → grownBy o g
 grown-some s g e f p n = rw (← e) (f, p, n)
 
 -- ON THE WAY: S stands in the first n of 32 places, and what is left of T from k on decides what it becomes

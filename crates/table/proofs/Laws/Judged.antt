@@ -13,7 +13,7 @@ use Rattle.model.specs.Sound.{allDiffer, countSame}
 use Rattle.model.specs.Store.{Store}
 use Rattle.model.specs.Table.{answersOf}
 use Rattle.model.proofs.Laws.Lists.{map-below}
-use Rattle.table.specs.Answers.{rowAt, placesFrom, Observed, Placed}
+use Rattle.table.specs.Answers.{answersAt, placesFrom, Observed, Placed}
 use Rattle.table.proofs.Laws.Tied.{placed-below, placed-rows}
 
 -- a test of every place is one of every member of T
@@ -27,20 +27,20 @@ map-twice f g [] = refl
 map-twice f g (k ∷ ks) = ap (λ (vs : List (List ℕ)). f (g k) ∷ vs) (map-twice f g ks)
 
 module _ {x : Store} {w t : List ℕ} {n : ℕ} {c : List ℕ} {m : ℕ} {tb : List ℕ} (o : Observed x w t n c m tb) (h : n ≤ length t) where
-  pub yes-tied : all (λ (k : ℕ). among 2 (rowAt tb m k)) (placesFrom 0 n) ≡ all (λ (i : ℕ). among 2 (answersOf x w (take m c) i)) (take n t)
-  yes-tied = all-places (λ (k : ℕ). among 2 (rowAt tb m k)) (λ (i : ℕ). among 2 (answersOf x w (take m c) i)) t n h (λ k l. ap (among 2) (o .rows k l)) 0 n (omega arith)
+  pub yes-tied : all (λ (k : ℕ). among 2 (answersAt tb m k)) (placesFrom 0 n) ≡ all (λ (i : ℕ). among 2 (answersOf x w (take m c) i)) (take n t)
+  yes-tied = all-places (λ (k : ℕ). among 2 (answersAt tb m k)) (λ (i : ℕ). among 2 (answersOf x w (take m c) i)) t n h (λ k l. ap (among 2) (o .rows k l)) 0 n (omega arith)
 
   module _ (s : List ℕ) (q : ℕ) (ps : List ℕ) (placed : Placed t n s q ps) (l : q ≤ length s) (b : q ≤ length ps) where
-    reps-rows : map (rowAt tb m) (take q ps) ≡ map (answersOf x w (take m c)) (take q s)
+    reps-rows : map (answersAt tb m) (take q ps) ≡ map (answersOf x w (take m c)) (take q s)
     reps-rows =
-        map-below (rowAt tb m) (λ (p : ℕ). answersOf x w (take m c) (getD t p 0)) n (o .rows) (placed-below o s q ps placed l b) ∙
+        map-below (answersAt tb m) (λ (p : ℕ). answersOf x w (take m c) (getD t p 0)) n (o .rows) (placed-below o s q ps placed l b) ∙
         sym (map-twice (answersOf x w (take m c)) (λ (p : ℕ). getD t p 0) (take q ps)) ∙ ap (map (answersOf x w (take m c))) (placed-rows o s q ps placed l b)
 
-    pub differ-tied : allDiffer (map (rowAt tb m) (take q ps)) ≡ allDiffer (map (answersOf x w (take m c)) (take q s))
+    pub differ-tied : allDiffer (map (answersAt tb m) (take q ps)) ≡ allDiffer (map (answersOf x w (take m c)) (take q s))
     differ-tied = ap allDiffer reps-rows
 
-    pub once-tied : all (λ (k : ℕ). eqb (countSame (rowAt tb m k) (map (rowAt tb m) (take q ps))) 1) (placesFrom 0 n) ≡
+    pub once-tied : all (λ (k : ℕ). eqb (countSame (answersAt tb m k) (map (answersAt tb m) (take q ps))) 1) (placesFrom 0 n) ≡
         all (λ (i : ℕ). eqb (countSame (answersOf x w (take m c) i) (map (answersOf x w (take m c)) (take q s))) 1) (take n t)
     once-tied =
-        all-places (λ (k : ℕ). eqb (countSame (rowAt tb m k) (map (rowAt tb m) (take q ps))) 1)
+        all-places (λ (k : ℕ). eqb (countSame (answersAt tb m k) (map (answersAt tb m) (take q ps))) 1)
         (λ (i : ℕ). eqb (countSame (answersOf x w (take m c) i) (map (answersOf x w (take m c)) (take q s))) 1) t n h (λ k z. rw (o .rows k z, reps-rows)) 0 n (omega arith)

@@ -14,7 +14,7 @@ use Rattle.model.specs.Store.{Store, filledRow, framesOf}
 use Rattle.model.specs.Table.{answerAt, answersOf}
 use Rattle.model.proofs.Laws.Turn.{answers-same}
 use Rattle.model.proofs.Laws.ReflectLists.{has-back}
-use Rattle.table.specs.Answers.{rowAt, Sized, Observed, KnownRows, Forgotten}
+use Rattle.table.specs.Answers.{answersAt, Sized, Observed, KnownRows, Forgotten}
 use Rattle.table.proofs.Laws.Rows.{sized-to}
 use Rattle.table.proofs.Laws.Left.{among-hit}
 
@@ -39,20 +39,20 @@ forgotten-known x w t n c m {tb} f z a b = record { sized = sized m b; right = r
     sized : (j : ℕ) → j ≤ mostContexts → Sized tb n j
     sized j h = record { long = z; few-t = a; few-c = h }
 
-    right : (j : ℕ) → j ≤ mostContexts → (k : ℕ) → k < n → among 0 (rowAt tb j k) ≡ false → rowAt tb j k ≡ answersOf x w (take j c) (getD t k 0)
+    right : (j : ℕ) → j ≤ mostContexts → (k : ℕ) → k < n → among 0 (answersAt tb j k) ≡ false → answersAt tb j k ≡ answersOf x w (take j c) (getD t k 0)
     right zero h k l e = refl
     right (suc j) h k l e =
         let y : mostContexts * k + 0 ≡ mostContexts * k = omega arith in
         absurd (true≢false (sym (among-hit k (sized-to (sized (suc j) h) k l) 0 0 (omega arith) (ap (λ (i : ℕ). getD tb i 0) y ∙ f .first k l)) ∙ e))
 
 -- A KNOWN ROW is one more of those that are right
-pub observed-known : {x : Store} {w t : List ℕ} {n : ℕ} {c : List ℕ} {m : ℕ} {tb : List ℕ} → KnownRows x w t n c m tb → (k : ℕ) → k < n → among 0 (rowAt tb m k) ≡ false →
+pub observed-known : {x : Store} {w t : List ℕ} {n : ℕ} {c : List ℕ} {m : ℕ} {tb : List ℕ} → KnownRows x w t n c m tb → (k : ℕ) → k < n → among 0 (answersAt tb m k) ≡ false →
     Observed x w t k c m tb → Observed x w t (k + 1) c m tb
 observed-known {x} {w} {t} {n} {c} {m} {tb} h k l e o =
     record { sized = sized-to (h .sized) k l; rows = λ i a. at i a (ℕ-discrete i k) }
   where
-    at : (i : ℕ) → i < k + 1 → Dec (i ≡ k) → rowAt tb m i ≡ answersOf x w (take m c) (getD t i 0)
-    at i a (yes p) = ap (rowAt tb m) p ∙ h .right k l e ∙ ap (λ (j : ℕ). answersOf x w (take m c) (getD t j 0)) (sym p)
+    at : (i : ℕ) → i < k + 1 → Dec (i ≡ k) → answersAt tb m i ≡ answersOf x w (take m c) (getD t i 0)
+    at i a (yes p) = ap (answersAt tb m) p ∙ h .right k l e ∙ ap (λ (j : ℕ). answersOf x w (take m c) (getD t j 0)) (sym p)
     at i a (no d) = o .rows i (omega arith)
 
 -- AN ANSWER MORE, where there was none: rows without an unknown answer stay right

@@ -8,24 +8,24 @@ use native.Mathlib.Omega.{arith}
 use lib.ListN.{length, getD, drop, length-drop, drop-of-length-le}
 use lib.Seq.{getD-take, getD-drop, length-take-le, drop-cons}
 use Rattle.model.specs.Limits.{mostContexts}
-use Rattle.table.specs.Answers.{rowAt, Sized}
+use Rattle.table.specs.Answers.{answersAt, Sized}
 
-pub row-at : (tb : List ℕ) (m k j : ℕ) → j < m → getD (rowAt tb m k) j 0 ≡ getD tb (mostContexts * k + j) 0
+pub row-at : (tb : List ℕ) (m k j : ℕ) → j < m → getD (answersAt tb m k) j 0 ≡ getD tb (mostContexts * k + j) 0
 row-at tb m k j l = getD-take m (drop (mostContexts * k) tb) j 0 l ∙ getD-drop (mostContexts * k) tb j 0
 
-pub row-length : (tb : List ℕ) (m k : ℕ) → mostContexts * k + m ≤ length tb → length (rowAt tb m k) ≡ m
+pub row-length : (tb : List ℕ) (m k : ℕ) → mostContexts * k + m ≤ length tb → length (answersAt tb m k) ≡ m
 row-length tb m k h =
     length-take-le m (drop (mostContexts * k) tb) (let e = length-drop (mostContexts * k) tb in omega arith)
 
 -- after the first j answers of a row
-pub row-more : (tb : List ℕ) (m k j : ℕ) → mostContexts * k + m ≤ length tb → j < m → drop j (rowAt tb m k) ≡ getD tb (mostContexts * k + j) 0 ∷ drop (j + 1) (rowAt tb m k)
+pub row-more : (tb : List ℕ) (m k j : ℕ) → mostContexts * k + m ≤ length tb → j < m → drop j (answersAt tb m k) ≡ getD tb (mostContexts * k + j) 0 ∷ drop (j + 1) (answersAt tb m k)
 row-more tb m k j h l =
-    drop-cons (rowAt tb m k) j 0 (let e = row-length tb m k h in omega arith) ∙
-    ap (λ (v : ℕ). v ∷ drop (suc j) (rowAt tb m k)) (row-at tb m k j l) ∙
-    ap (λ (i : ℕ). getD tb (mostContexts * k + j) 0 ∷ drop i (rowAt tb m k)) (sym (add-one j))
+    drop-cons (answersAt tb m k) j 0 (let e = row-length tb m k h in omega arith) ∙
+    ap (λ (v : ℕ). v ∷ drop (suc j) (answersAt tb m k)) (row-at tb m k j l) ∙
+    ap (λ (i : ℕ). getD tb (mostContexts * k + j) 0 ∷ drop i (answersAt tb m k)) (sym (add-one j))
 
-pub row-end : (tb : List ℕ) (m k j : ℕ) → mostContexts * k + m ≤ length tb → m ≤ j → drop j (rowAt tb m k) ≡ []
-row-end tb m k j h l = drop-of-length-le (rowAt tb m k) {i = j} (let e = row-length tb m k h in omega arith)
+pub row-end : (tb : List ℕ) (m k j : ℕ) → mostContexts * k + m ≤ length tb → m ≤ j → drop j (answersAt tb m k) ≡ []
+row-end tb m k j h l = drop-of-length-le (answersAt tb m k) {i = j} (let e = row-length tb m k h in omega arith)
 
 -- each row stands within the table; one that has room for n rows has room up to each of them
 pub sized-to : {tb : List ℕ} {n m : ℕ} → Sized tb n m → (k : ℕ) → k < n → Sized tb (k + 1) m

@@ -11,20 +11,16 @@ use borrow.Author.Tests.{eqb-true, eqb-false, eq-eqb, ne-eqb}
 use lib.Dec.{eqb}
 use lib.ListN.{length, getD, take, drop, length-map}
 use lib.Seq.{drop-cons, getD-take, length-take-le, ext-getD}
-use Rattle.model.specs.Base.{same, among, Below, none-below, one-below}
+use Rattle.model.specs.Base.{among, Below, none-below, one-below}
 use Rattle.model.specs.Sound.{differKnown}
 use Rattle.model.specs.Store.{Store}
 use Rattle.model.specs.Table.{answerIn, answersOf, anyMissing, stateFrom}
 use Rattle.model.specs.Steps.{unknown, seekIn, seek, grow}
-use Rattle.model.proofs.Laws.Renamed.{below-at, at-below, state-renamed, grow-below, grow-renamed}
+use Rattle.model.proofs.Laws.Renamed.{at-below, state-renamed, grow-renamed}
+use Rattle.model.proofs.Laws.Lists.{map-at}
 use Rattle.table.specs.declared.Gap.{Gap}
 use Rattle.table.specs.declared.Growth.{Growth}
-use Rattle.table.specs.Answers.{rowAt, unknownIn, gapBy, gapFrom, stateAt, placesFrom, growAt, grownBy, Observed, Placed, soughtBy, isOpen, rowsAt}
-
-map-at : (f : ℕ → ℕ) (ks : List ℕ) (i : ℕ) → i < length ks → getD (map f ks) i 0 ≡ f (getD ks i 0)
-map-at f [] i l = absurd (omega arith)
-map-at f (k ∷ ks) zero l = refl
-map-at f (k ∷ ks) (suc i) l = map-at f ks i (omega arith)
+use Rattle.table.specs.Answers.{answersAt, unknownIn, gapBy, gapFrom, stateAt, placesFrom, growAt, grownBy, Observed, Placed, soughtBy, isOpen, rowsAt}
 
 -- PLACES FROM k ON are below their end, and name what is left of T
 places-below : (n k count : ℕ) → k + count ≤ n → Below n (placesFrom k count)
@@ -71,20 +67,20 @@ or-true : (b : Bool) → b || true ≡ true
 or-true true = refl
 or-true false = refl
 
-open-at-last : (tb : List ℕ) (m i count : ℕ) → among 0 (rowAt tb m (i + count)) ≡ true → isOpen (gapFrom tb m i (suc count)) ≡ true
+open-at-last : (tb : List ℕ) (m i count : ℕ) → among 0 (answersAt tb m (i + count)) ≡ true → isOpen (gapFrom tb m i (suc count)) ≡ true
 unfolding gapFrom
 open-at-last tb m i zero e =
     let z : i + 0 ≡ i = omega arith in
-    row-open (rowAt tb m i) i 0 Gap.Closed ∙ ap (λ (b : Bool). b || false) (ap (λ (k : ℕ). among 0 (rowAt tb m k)) (sym z) ∙ e)
+    row-open (answersAt tb m i) i 0 Gap.Closed ∙ ap (λ (b : Bool). b || false) (ap (λ (k : ℕ). among 0 (answersAt tb m k)) (sym z) ∙ e)
 open-at-last tb m i (suc count) e =
     let z : suc i + count ≡ i + suc count = omega arith in
-    row-open (rowAt tb m i) i 0 (gapFrom tb m (suc i) (suc count)) ∙
-    ap (λ (b : Bool). among 0 (rowAt tb m i) || b) (open-at-last tb m (suc i) count (ap (λ (k : ℕ). among 0 (rowAt tb m k)) z ∙ e)) ∙ or-true (among 0 (rowAt tb m i))
+    row-open (answersAt tb m i) i 0 (gapFrom tb m (suc i) (suc count)) ∙
+    ap (λ (b : Bool). among 0 (answersAt tb m i) || b) (open-at-last tb m (suc i) count (ap (λ (k : ℕ). among 0 (answersAt tb m k)) z ∙ e)) ∙ or-true (among 0 (answersAt tb m i))
 
-pub gap-at-last : (tb : List ℕ) (m k : ℕ) → among 0 (rowAt tb m k) ≡ true → gapFrom tb m 0 (k + 1) ≡ Gap.Closed → ⊥
+pub gap-at-last : (tb : List ℕ) (m k : ℕ) → among 0 (answersAt tb m k) ≡ true → gapFrom tb m 0 (k + 1) ≡ Gap.Closed → ⊥
 gap-at-last tb m k e g =
     let z : 0 + k ≡ k = omega arith in
-    let o = open-at-last tb m 0 k (ap (λ (j : ℕ). among 0 (rowAt tb m j)) z ∙ e) in
+    let o = open-at-last tb m 0 k (ap (λ (j : ℕ). among 0 (answersAt tb m j)) z ∙ e) in
     true≢false (sym o ∙ ap (λ (j : ℕ). isOpen (gapFrom tb m 0 j)) (sym (add-one k)) ∙ ap isOpen g)
 
 module _ {x : Store} {w t : List ℕ} {n : ℕ} {c : List ℕ} {m : ℕ} {tb : List ℕ} (o : Observed x w t n c m tb) where
@@ -92,17 +88,14 @@ module _ {x : Store} {w t : List ℕ} {n : ℕ} {c : List ℕ} {m : ℕ} {tb : L
   rows i = answersOf x w (take m c) i
 
   -- TWO ROWS, AND ONE
-  pub same-tied : (a b : ℕ) → a < n → b < n → same (rowAt tb m a) (rowAt tb m b) ≡ same (answersOf x w (take m c) (getD t a 0)) (answersOf x w (take m c) (getD t b 0))
-  same-tied a b p q = rw (o .rows a p, o .rows b q)
-
   pub differ-tied : (a b : ℕ) → a < n → b < n →
-      differKnown (rowAt tb m a) (rowAt tb m b) ≡ differKnown (answersOf x w (take m c) (getD t a 0)) (answersOf x w (take m c) (getD t b 0))
+      differKnown (answersAt tb m a) (answersAt tb m b) ≡ differKnown (answersOf x w (take m c) (getD t a 0)) (answersOf x w (take m c) (getD t b 0))
   differ-tied a b p q = rw (o .rows a p, o .rows b q)
 
-  pub has-tied : (v a : ℕ) → a < n → among v (rowAt tb m a) ≡ among v (answersOf x w (take m c) (getD t a 0))
+  pub has-tied : (v a : ℕ) → a < n → among v (answersAt tb m a) ≡ among v (answersOf x w (take m c) (getD t a 0))
   has-tied v a p = rw (o .rows a p)
 
-  pub yes-tied : (a : ℕ) → a < n → among 2 (rowAt tb m a) ≡ among 2 (answersOf x w (take m c) (getD t a 0))
+  pub yes-tied : (a : ℕ) → a < n → among 2 (answersAt tb m a) ≡ among 2 (answersOf x w (take m c) (getD t a 0))
   yes-tied a p = has-tied 2 a p
 
   -- THE FIRST UNKNOWN
@@ -128,16 +121,6 @@ module _ {x : Store} {w t : List ℕ} {n : ℕ} {c : List ℕ} {m : ℕ} {tb : L
   pub missing-tied : n ≤ length t → isOpen (gapFrom tb m 0 n) ≡ anyMissing (answersOf x w (take m c)) (take n t)
   missing-tied h = open-tied 0 n (omega arith) h
 
-  pub closed-tied : n ≤ length t → gapFrom tb m 0 n ≡ Gap.Closed → anyMissing (answersOf x w (take m c)) (take n t) ≡ false
-  closed-tied h e = sym (missing-tied h) ∙ ap isOpen e
-
-  pub tied-closed : n ≤ length t → anyMissing (answersOf x w (take m c)) (take n t) ≡ false → gapFrom tb m 0 n ≡ Gap.Closed
-  tied-closed h e = go (gapFrom tb m 0 n) (missing-tied h ∙ e)
-    where
-      go : (g : Gap) → isOpen g ≡ false → g ≡ Gap.Closed
-      go Gap.Closed p = refl
-      go (Gap.At k j) p = absurd (true≢false p)
-
   -- STATES AND GROWTH: S by places in T
   module _ (s : List ℕ) (q : ℕ) (ps : List ℕ) (placed : Placed t n s q ps) (l : q ≤ length s) (h : q ≤ length ps) where
     pub placed-below : Below n (take q ps)
@@ -162,14 +145,14 @@ module _ {x : Store} {w t : List ℕ} {n : ℕ} {c : List ℕ} {m : ℕ} {tb : L
 
     pub state-tied : (k : ℕ) → k < n → stateAt tb m (take q ps) k ≡ stateFrom (answersOf x w (take m c)) (answersOf x w (take m c) (getD t k 0)) 0 (take q s)
     state-tied k b =
-        sym (state-renamed (rowAt tb m) rows (λ (p : ℕ). getD t p 0) n (o .rows) (rowAt tb m k) 0 placed-below) ∙
+        sym (state-renamed (answersAt tb m) rows (λ (p : ℕ). getD t p 0) n (o .rows) (answersAt tb m k) 0 placed-below) ∙
         ap (λ (v : List ℕ). stateFrom rows v 0 (rowsAt t (take q ps))) (o .rows k b) ∙ ap (stateFrom rows (rows (getD t k 0)) 0) placed-rows
 
     pub grow-tied : n ≤ length t → grow (answersOf x w (take m c)) (take q s) (take n t) ≡ Option·map (rowsAt t) (growAt tb m n (take q ps))
     grow-tied b =
         ap (λ (u : List ℕ). grow rows u (take n t)) (sym placed-rows) ∙
         ap (grow rows (rowsAt t (take q ps))) (sym (places-rows t 0 n (omega arith))) ∙
-        grow-renamed (rowAt tb m) rows (λ (p : ℕ). getD t p 0) n (o .rows) placed-below (places-below n 0 n (omega arith))
+        grow-renamed (answersAt tb m) rows (λ (p : ℕ). getD t p 0) n (o .rows) placed-below (places-below n 0 n (omega arith))
 
     -- as a caller of grow has it: what it hands back, by rows; and its places name them
     pub grown-full : n ≤ length t → (g : Growth) → grownBy (growAt tb m n (take q ps)) g → g .ok ≡ false → grow (answersOf x w (take m c)) (take q s) (take n t) ≡ none
@@ -180,23 +163,9 @@ module _ {x : Store} {w t : List ℕ} {n : ℕ} {c : List ℕ} {m : ℕ} {tb : L
         go (some v) p = absurd (true≢false (sym (p .0) ∙ f))
 
     pub grown-rows : n ≤ length t → (g : Growth) → grownBy (growAt tb m n (take q ps)) g → g .ok ≡ true →
-        grow (answersOf x w (take m c)) (take q s) (take n t) ≡ some (rowsAt t (take (g .states) (g .places)))
+        grow (answersOf x w (take m c)) (take q s) (take n t) ≡ some (rowsAt t (take (g .states) (g .s)))
     grown-rows b g e f = grow-tied b ∙ go (growAt tb m n (take q ps)) e
       where
-        go : (u : Option (List ℕ)) → grownBy u g → Option·map (rowsAt t) u ≡ some (rowsAt t (take (g .states) (g .places)))
+        go : (u : Option (List ℕ)) → grownBy u g → Option·map (rowsAt t) u ≡ some (rowsAt t (take (g .states) (g .s)))
         go none p = absurd (true≢false (sym f ∙ p))
         go (some v) p = ap (λ (u : List ℕ). some (rowsAt t u)) (sym (p .1))
-
-    pub grown-placed : (g : Growth) → grownBy (growAt tb m n (take q ps)) g → g .ok ≡ true →
-        Placed t n (rowsAt t (take (g .states) (g .places))) (g .states) (g .places)
-    grown-placed g e f = go (growAt tb m n (take q ps)) refl e
-      where
-        go : (u : Option (List ℕ)) → growAt tb m n (take q ps) ≡ u → grownBy u g → Placed t n (rowsAt t (take (g .states) (g .places))) (g .states) (g .places)
-        go none y p = absurd (true≢false (sym f ∙ p))
-        go (some v) y p = λ i z.
-            let a : getD (take (g .states) (g .places)) i 0 ≡ getD (g .places) i 0 = getD-take (g .states) (g .places) i 0 z in
-            let d : length (take (g .states) (g .places)) ≡ g .states = ap length (p .1) ∙ sym (p .2) in
-            let u : Below n (take (g .states) (g .places)) = rw (p .1) (grow-below (rowAt tb m) n placed-below (places-below n 0 n (omega arith)) v y) in (
-              rw (← a) (below-at n u i (omega arith)),
-              ap (λ (p : ℕ). getD t p 0) (sym a) ∙ sym (map-at (λ (p : ℕ). getD t p 0) (take (g .states) (g .places)) i (omega arith)),
-            )

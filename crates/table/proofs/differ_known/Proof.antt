@@ -6,14 +6,14 @@ use Prim.Native.Nat.{_-_, _≤_, _<_}
 use borrow.Author.Needs.{needs}
 use lib.ListN.{drop}
 use Rattle.model.specs.Sound.{differKnown}
-use Rattle.table.specs.Answers.{rowAt}
+use Rattle.table.specs.Answers.{answersAt}
 use Rattle.table.proofs.Laws.Left as L
 use Rattle.table.proofs.differ_known.Statement.{statement}
 use Rattle.table.proofs.differ_known.Tie as tie
 
 abbrev Inv-loop : tie.InvT-loop
 Inv-loop table contexts a b j₀ j =
-    (j ≤ contexts) × (differKnown (drop j (rowAt table contexts a)) (drop j (rowAt table contexts b)) ≡ differKnown (rowAt table contexts a) (rowAt table contexts b))
+    (j ≤ contexts) × (differKnown (drop j (answersAt table contexts a)) (drop j (answersAt table contexts b)) ≡ differKnown (answersAt table contexts a) (answersAt table contexts b))
 
 abbrev μ-loop : tie.MeasureT-loop
 μ-loop table contexts a b j₀ j = contexts - j

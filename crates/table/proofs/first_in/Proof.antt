@@ -4,14 +4,14 @@ use mathlib.Core.Path.{_≡_, refl, sym, ap, _∙_}
 use Prim.Native.Nat.{_-_, _≤_, _<_}
 use borrow.Author.Needs.{needs}
 use lib.ListN.{drop}
-use Rattle.table.specs.Answers.{rowAt, unknownIn, placeBy}
+use Rattle.table.specs.Answers.{answersAt, unknownIn, placeBy}
 use Rattle.table.proofs.Laws.Left as L
 use Rattle.table.proofs.first_in.Statement.{statement}
 use Rattle.table.proofs.first_in.Tie as tie
 
 abbrev Inv-loop : tie.InvT-loop
 Inv-loop table contexts a j₀ j =
-    (j ≤ contexts) × (unknownIn (drop j (rowAt table contexts a)) j ≡ unknownIn (rowAt table contexts a) 0)
+    (j ≤ contexts) × (unknownIn (drop j (answersAt table contexts a)) j ≡ unknownIn (answersAt table contexts a) 0)
 
 abbrev μ-loop : tie.MeasureT-loop
 μ-loop table contexts a j₀ j = contexts - j

@@ -5,7 +5,7 @@ use Prim.Native.Nat.{_-_, _≤_, _<_}
 use native.Mathlib.Nat.{sub-zero}
 use native.Mathlib.Omega.{arith}
 use borrow.Author.Needs.{needs}
-use Rattle.table.specs.Answers.{rowAt, unknownIn, gapFrom}
+use Rattle.table.specs.Answers.{answersAt, unknownIn, gapFrom}
 use Rattle.table.proofs.Laws.Rows.{sized-to}
 use Rattle.table.proofs.Laws.Gap as G
 use Rattle.table.proofs.first_unknown.Statement.{statement}
@@ -35,7 +35,7 @@ returns c =
     let l = c .before .before .before .before .loop in
     let f = c .before .before .first-in in
     let i : l .k < s .args .rules = c .before .before .before .loop-test .taken in
-    sym (G.gap-hit (s .args .table .now) (s .args .contexts) (s .args .rules) (l .k) (f .result .0) i (G.place-some (unknownIn (rowAt (s .args .table .now) (s .args .contexts) (l .k)) 0) (s .args .contexts) (f .result .0) (f .ensures) (c .if1 .taken))) ∙ l .inv .1
+    sym (G.gap-hit (s .args .table .now) (s .args .contexts) (s .args .rules) (l .k) (f .result .0) i (G.place-some (unknownIn (answersAt (s .args .table .now) (s .args .contexts) (l .k)) 0) (s .args .contexts) (f .result .0) (f .ensures) (c .if1 .taken))) ∙ l .inv .1
 
 add-k : tie.Need-add-k Inv-loop μ-loop
 add-k c = search needs
@@ -50,7 +50,7 @@ loop-again c =
     let f = c .before .before .first-in in
     let i : l .k < s .args .rules = c .before .before .before .loop-test .taken in
     let w = G.unknown-within (s .args .table .now) (s .args .rules) (s .args .contexts) (l .k) (s .pre) i in
-    (search needs, sym (G.gap-pass (s .args .table .now) (s .args .contexts) (s .args .rules) (l .k) i (G.place-none (unknownIn (rowAt (s .args .table .now) (s .args .contexts) (l .k)) 0) (s .args .contexts) (f .result .0) w (f .ensures) (c .if1 .left))) ∙ l .inv .1)
+    (search needs, sym (G.gap-pass (s .args .table .now) (s .args .contexts) (s .args .rules) (l .k) i (G.place-none (unknownIn (answersAt (s .args .table .now) (s .args .contexts) (l .k)) 0) (s .args .contexts) (f .result .0) w (f .ensures) (c .if1 .left))) ∙ l .inv .1)
 
 returns-2 : tie.Need-returns-2 Inv-loop μ-loop
 returns-2 c =

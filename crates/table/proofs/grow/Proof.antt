@@ -10,7 +10,7 @@ use borrow.Author.Needs.{needs}
 use lib.ListN.{length, take}
 use Rattle.model.specs.Limits.{mostStates}
 use Rattle.model.specs.Steps.{grow}
-use Rattle.table.specs.Answers.{rowAt, growAt, placesFrom}
+use Rattle.table.specs.Answers.{answersAt, growAt, placesFrom}
 use Rattle.table.proofs.Laws.Growth as G
 use Rattle.table.proofs.grow.Statement.{statement}
 use Rattle.table.proofs.grow.Tie as tie
@@ -20,7 +20,7 @@ use Rattle.table.proofs.state_of.Reads as state-of-reads
 
 abbrev Inv-loop : tie.InvT-loop
 Inv-loop table rules contexts states ps₀ n₀ k₀ ps n k =
-    (k ≤ rules) × G.Growing (rowAt table contexts) rules (growAt table contexts rules (take states ps₀)) n ps k
+    (k ≤ rules) × G.Growing (answersAt table contexts) rules (growAt table contexts rules (take states ps₀)) n ps k
 
 abbrev μ-loop : tie.MeasureT-loop
 μ-loop table rules contexts states ps₀ n₀ k₀ ps n k = rules - k
@@ -30,13 +30,13 @@ Met = lts.After-state-of (state-of-reads.Asked, state-of-reads.Learnt) reads.Pre
 
 loop-holds : tie.Need-loop-holds Inv-loop μ-loop
 loop-holds c =
-    let h : length (c .before .args .places) ≡ mostStates = c .before .good .1 .1 .1 .0 .1 .0 .1 in (
+    let h : length (c .before .args .s-in-t) ≡ mostStates = c .before .good .1 .1 .1 .0 .1 .0 .1 in (
       search needs,
       record {
         few = c .before .pre .1;
         long = h;
         below = c .before .pre .2;
-        left-decides = ap (λ (i : ℕ). grow (rowAt (c .before .args .table .now) (c .before .args .contexts)) (take (c .before .args .states) (c .before .args .places)) (placesFrom 0 i)) (sub-zero (c .before .args .rules));
+        left-decides = ap (λ (i : ℕ). grow (answersAt (c .before .args .table .now) (c .before .args .contexts)) (take (c .before .args .states) (c .before .args .s-in-t)) (placesFrom 0 i)) (sub-zero (c .before .args .rules));
       },
     )
 
@@ -56,7 +56,7 @@ returns c =
     let l = c .before .before .before .before .before .before .loop in
     let m : Met = c .before .before .before in
     let f = G.growing-full (l .inv .1) (m .state-of .result .0) (m .before .before .loop-test .taken) (m .state-of .ensures) (c .before .if1 .taken) (c .if2 .taken) in
-    (G.grown-none (record { ok = false; states = l .n; places = l .ps }) f refl, l .inv .1 .below)
+    (G.grown-none (record { ok = false; states = l .n; s = l .ps }) f refl, l .inv .1 .below)
 
 cast-ps : tie.Need-cast-ps Inv-loop μ-loop
 cast-ps c = search needs
@@ -96,7 +96,7 @@ returns-2 : tie.Need-returns-2 Inv-loop μ-loop
 returns-2 c =
     let l = c .before .loop in
     let f = G.growing-end (l .inv .1) (c .loop-test .left) in
-    (G.grown-some (take (l .n) (l .ps)) (record { ok = true; states = l .n; places = l .ps }) f refl refl (sym (G.many (l .inv .1))), l .inv .1 .below)
+    (G.grown-some (take (l .n) (l .ps)) (record { ok = true; states = l .n; s = l .ps }) f refl refl (sym (G.many (l .inv .1))), l .inv .1 .below)
 
 pub grow-spec : {M : Type 1} → statement M
 grow-spec =

@@ -5,14 +5,14 @@ use Prim.Native.Nat.{_-_, _≤_, _<_}
 use borrow.Author.Needs.{needs}
 use lib.ListN.{drop}
 use Rattle.model.specs.Base.{among}
-use Rattle.table.specs.Answers.{rowAt}
+use Rattle.table.specs.Answers.{answersAt}
 use Rattle.table.proofs.Laws.Left as L
 use Rattle.table.proofs.has_answer.Statement.{statement}
 use Rattle.table.proofs.has_answer.Tie as tie
 
 abbrev Inv-loop : tie.InvT-loop
 Inv-loop table contexts a answer j₀ j =
-    (j ≤ contexts) × (among answer (drop j (rowAt table contexts a)) ≡ among answer (rowAt table contexts a))
+    (j ≤ contexts) × (among answer (drop j (answersAt table contexts a)) ≡ among answer (answersAt table contexts a))
 
 abbrev μ-loop : tie.MeasureT-loop
 μ-loop table contexts a answer j₀ j = contexts - j

@@ -9,15 +9,15 @@ use lib.Seq.{take-length, getD-take, length-take-le}
 use Rattle.model.specs.Base.{among}
 use Rattle.model.specs.Store.{Store}
 use Rattle.model.specs.Table.{answersOf}
-use Rattle.table.specs.Answers.{rowAt, Observed, KnownRows}
+use Rattle.table.specs.Answers.{answersAt, Observed, KnownRows}
 
 module _ (x : Store) (w t : List ℕ) (n : ℕ) (c : List ℕ) (m : ℕ) (enough-t : n ≤ length t) (enough-c : m ≤ length c) (tb : List ℕ) where
   -- a row's answers, either way
   answers-cut : (k : ℕ) → k < n → answersOf x w (take (length (take m c)) (take m c)) (getD (take n t) k 0) ≡ answersOf x w (take m c) (getD t k 0)
   answers-cut k l = (λ i. answersOf x w (take-length (take m c) i) (getD-take n t k 0 l i))
 
-  row-cut : (k : ℕ) → rowAt tb (length (take m c)) k ≡ rowAt tb m k
-  row-cut k = ap (λ (j : ℕ). rowAt tb j k) (length-take-le m c enough-c)
+  row-cut : (k : ℕ) → answersAt tb (length (take m c)) k ≡ answersAt tb m k
+  row-cut k = ap (λ (j : ℕ). answersAt tb j k) (length-take-le m c enough-c)
 
   pub known-cut : KnownRows x w t n c m tb → KnownRows x w (take n t) (length (take n t)) (take m c) (length (take m c)) tb
   known-cut h =

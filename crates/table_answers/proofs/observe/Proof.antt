@@ -217,10 +217,10 @@ loop-again c =
     (omega (arith, taken f), r .read-column .kept .1 .1 .1 .1 .1 .0 ∙ v .1, observed r, kept f, f .fill-column .ensures .1 .size ∙ v .4)
 
 same-length : tie.Need-same-length Inv-loop μ-loop
-same-length c = search needs
+same-length c = let h : Head = c .before in h .loop .inv .1
 
 same-length-2 : tie.Need-same-length-2 Inv-loop μ-loop
-same-length-2 c = search needs
+same-length-2 c = let h : Head = c .before in h .loop .inv .4 ∙ listed h .needed-rows .kept .1 .1 .1 .1 .1 .0
 
 returns : tie.Need-returns Inv-loop μ-loop
 returns c =

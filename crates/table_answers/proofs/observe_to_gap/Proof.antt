@@ -253,10 +253,15 @@ add-result : tie.Need-add-result Inv-loop μ-loop
 add-result c = search needs
 
 same-length : tie.Need-same-length Inv-loop μ-loop
-same-length c = search needs
+same-length c =
+    let r : Read = c .before .before .before .before .before in
+    r .read-column .kept .1 .1 .1 .1 .1 .0 ∙ head (filled r) .loop .inv .1
 
 same-length-2 : tie.Need-same-length-2 Inv-loop μ-loop
-same-length-2 c = search needs
+same-length-2 c =
+    let f = filled (c .before .before .before .before .before) in
+    let h = head f in
+    f .fill-column .ensures .1 .size ∙ h .loop .inv .5 ∙ listed h .needed-rows .kept .1 .1 .1 .1 .1 .0
 
 returns : tie.Need-returns Inv-loop μ-loop
 returns c =
@@ -278,10 +283,10 @@ loop-again-2 c =
     (omega (arith, taken f), r .read-column .kept .1 .1 .1 .1 .1 .0 ∙ v .1, observed r, known r, kept f, f .fill-column .ensures .1 .size ∙ v .5)
 
 same-length-3 : tie.Need-same-length-3 Inv-loop μ-loop
-same-length-3 c = search needs
+same-length-3 c = let h : Head = c .before in h .loop .inv .1
 
 same-length-4 : tie.Need-same-length-4 Inv-loop μ-loop
-same-length-4 c = search needs
+same-length-4 c = let h : Head = c .before in h .loop .inv .5 ∙ listed h .needed-rows .kept .1 .1 .1 .1 .1 .0
 
 returns-2 : tie.Need-returns-2 Inv-loop μ-loop
 returns-2 c =

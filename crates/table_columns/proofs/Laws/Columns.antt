@@ -12,17 +12,18 @@ use lib.Seq.{getD-set-same, getD-set-other, getD-take, length-take-le, ext-getD}
 use Rattle.model.specs.Store.{Store, Frame, nextRow, filledRow, framesOf}
 use Rattle.model.specs.Table.{answerAt, answersOf, answerIn as answerOf}
 use Rattle.model.specs.Entry.{storeOf, answersIn}
+use Rattle.model.proofs.Laws.Tests.{by-equal}
+use Rattle.model.proofs.Laws.Lists.{map-at}
 use Rattle.bank.specs.Rows.{answerIn}
-use Rattle.bank.specs.Ready.{Ready, frameAt}
+use Rattle.bank.specs.Bank.{Bank, frameAt}
 use Rattle.bank.specs.Index.{holeOf}
 use Rattle.bank.proofs.Laws.Words.{used-of, answer-in}
-use Rattle.bank.proofs.Laws.Trees.{by-equal}
 use Rattle.table_columns.specs.Columns.{holeKid}
 use Rattle.table_columns.specs.Notes.{rowNote, belowNote, endNote, filledNote, SameNotes, Cleared, NeededRows, Runs, Tops, RightEntry, Column, columnAnswers}
 use Rattle.table_columns.proofs.Laws.Frames.{frames-none, filled-step, next-none}
-use Rattle.table_columns.proofs.Laws.Rows.{map-at, answers-length, answers-at}
+use Rattle.table_columns.proofs.Laws.Rows.{answers-length, answers-at}
 
-module _ {ws ns : List ℕ} {u : ℕ} {ix : List ℕ} (r : Ready ws ns u ix) {z : ℕ} {us : List ℕ} {n : ℕ} (h : NeededRows (storeOf ws ns u) ix u z us n) where
+module _ {ws ns : List ℕ} {u : ℕ} {ix : List ℕ} (r : Bank ws ns u ix) {z : ℕ} {us : List ℕ} {n : ℕ} (h : NeededRows (storeOf ws ns u) ix u z us n) where
   abbrev x : Store
   x = storeOf ws ns u
 

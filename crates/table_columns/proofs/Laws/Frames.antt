@@ -12,15 +12,14 @@ use Rattle.model.specs.Base.{Below, none-below, one-below}
 use Rattle.model.specs.Store.{Store, Split, there, push, splitAt, Spot, Frame, downBy, downFrom, used, symbolAt, kidsAt, hasHole, isContext, padded, filledKids, findRow, nextRow, filledRow, framesOf}
 use Rattle.model.specs.Facts.{Good, FrameFits, Fits}
 use Rattle.model.specs.Entry.{storeOf}
-use Rattle.model.proofs.Laws.Tests.{both-true, or-right}
+use Rattle.model.proofs.Laws.Tests.{both-true, or-right, by-equal}
 use Rattle.model.proofs.Laws.Fold.{earlier}
 use Rattle.model.proofs.Laws.Down.{down-fuel, context-fits}
 use Rattle.bank.specs.Rows.{symbolIn, kidIn, placesIn}
 use Rattle.bank.specs.Index.{findIn, holeOf}
-use Rattle.bank.specs.Ready.{oneFurther, placeCode, Ready, frameAt}
+use Rattle.bank.specs.Bank.{oneFurther, placeCode, Bank, frameAt}
 use Rattle.bank.proofs.Laws.Words.{used-of, symbol-in}
 use Rattle.bank.proofs.Laws.Finding.{found-in}
-use Rattle.bank.proofs.Laws.Trees.{by-equal}
 use Rattle.bank_t1.proofs.Laws.T1.{hole-ready}
 use Rattle.bank_fill.proofs.Laws.Above.{frame-four, above-kids, above-asks}
 use Rattle.bank_fill.proofs.Laws.Paths.{fits-head, kid-before, kid-word}
@@ -50,7 +49,7 @@ frames-none x g = go (kidsAt x 0) (earlier x g 0 (omega (arith, g .start)))
     go (k ∷ ks) (one-below l b) = absurd (omega arith)
 
 -- A CONTEXT BEYOND ROW 0, over a store that is ready
-module _ {ws ns : List ℕ} {n : ℕ} {ix : List ℕ} (r : Ready ws ns n ix) (i : ℕ) (l : i < n) (z : getD ix (holeOf i) 0 ≡ 0 → ⊥) where
+module _ {ws ns : List ℕ} {n : ℕ} {ix : List ℕ} (r : Bank ws ns n ix) (i : ℕ) (l : i < n) (z : getD ix (holeOf i) 0 ≡ 0 → ⊥) where
   abbrev x : Store
   x = storeOf ws ns n
 
@@ -130,5 +129,5 @@ module _ (x : Store) (i : ℕ) (c : isContext x i ≡ true) where
   pub context-hole : hasHole x i ≡ true
   context-hole = both-true (ltb i (used x)) (hasHole x i) c .1
 
-pub hole-marked : {ws ns : List ℕ} {n : ℕ} {ix : List ℕ} → Ready ws ns n ix → (i : ℕ) → i < n → (i ≡ 0 → ⊥) → hasHole (storeOf ws ns n) i ≡ true → getD ix (holeOf i) 0 ≡ 0 → ⊥
+pub hole-marked : {ws ns : List ℕ} {n : ℕ} {ix : List ℕ} → Bank ws ns n ix → (i : ℕ) → i < n → (i ≡ 0 → ⊥) → hasHole (storeOf ws ns n) i ≡ true → getD ix (holeOf i) 0 ≡ 0 → ⊥
 hole-marked {ix = ix} r i l z h e = true≢false (sym h ∙ sym (hole-ready r i l) ∙ rw (ne-eqb i 0 z, eq-eqb (getD ix (holeOf i) 0) 0 e) refl)

@@ -9,10 +9,10 @@ use lib.ListN.{length, getD, set, length-set}
 use lib.Seq.{getD-set-same, getD-set-other}
 use Rattle.model.specs.Store.{Store, hasHole}
 use Rattle.model.specs.Entry.{storeOf}
+use Rattle.model.proofs.Laws.Tests.{by-equal}
 use Rattle.bank.specs.Index.{holeOf}
-use Rattle.bank.specs.Ready.{Ready}
+use Rattle.bank.specs.Bank.{Bank}
 use Rattle.bank.proofs.Laws.Words.{used-of}
-use Rattle.bank.proofs.Laws.Trees.{by-equal}
 use Rattle.table_columns.specs.Columns.{holeKid, Contexts}
 use Rattle.table_columns.specs.Notes.{rowNote, markNote, Cleared, MembersMarked, HoledMarks, KidsMarked, StayMarked, holeFirst, NeedMarks}
 use Rattle.table_columns.proofs.Laws.Frames.{kid-early, kid-hole, hole-marked, context-within, context-hole}
@@ -82,7 +82,7 @@ module _ (z : ℕ) {u : ℕ} (at : ℕ) {us : List ℕ} (fits : 3 * z + at < len
       }
 
 -- the hole child of a row with a hole is row 0 or has one too
-pub kid-holed : {ws ns : List ℕ} {u : ℕ} {ix : List ℕ} (r : Ready ws ns u ix) (i : ℕ) → i < u → (getD ix (holeOf i) 0 ≡ 0 → ⊥) →
+pub kid-holed : {ws ns : List ℕ} {u : ℕ} {ix : List ℕ} (r : Bank ws ns u ix) (i : ℕ) → i < u → (getD ix (holeOf i) 0 ≡ 0 → ⊥) →
     0 < holeKid (storeOf ws ns u) ix i → getD ix (holeOf (holeKid (storeOf ws ns u) ix i)) 0 ≡ 0 → ⊥
 kid-holed {ws} {ns} {u} {ix} r i l n some =
     hole-marked r (holeKid (storeOf ws ns u) ix i) (omega (arith, kid-early r i l n)) (λ e. omega (arith, some)) (kid-hole r i l n)
@@ -117,7 +117,7 @@ module _ (z : ℕ) (ns : List ℕ) (some : 0 < z) (long : 4 * z ≤ length ns) w
       }
 
 -- THE MEMBERS OF C are contexts: used rows, and beyond row 0 they have a hole
-module _ {ws ns : List ℕ} {u : ℕ} {ix : List ℕ} (r : Ready ws ns u ix) (c : List ℕ) (contexts : Contexts (storeOf ws ns u) c (length c)) where
+module _ {ws ns : List ℕ} {u : ℕ} {ix : List ℕ} (r : Bank ws ns u ix) (c : List ℕ) (contexts : Contexts (storeOf ws ns u) c (length c)) where
   pub members-used : (j : ℕ) → j < length c → getD c j 0 < u
   members-used j l = omega (arith, context-within (storeOf ws ns u) (getD c j 0) (contexts j l), used-of ws ns u)
 

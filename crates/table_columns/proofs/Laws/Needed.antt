@@ -8,9 +8,9 @@ use lib.ListN.{length, getD, set, length-set}
 use lib.Seq.{getD-set-same, getD-set-other}
 use Rattle.model.specs.Store.{Store}
 use Rattle.model.specs.Entry.{storeOf}
+use Rattle.model.proofs.Laws.Tests.{by-equal}
 use Rattle.bank.specs.Index.{holeOf}
-use Rattle.bank.specs.Ready.{Ready}
-use Rattle.bank.proofs.Laws.Trees.{by-equal}
+use Rattle.bank.specs.Bank.{Bank}
 use Rattle.table_columns.specs.Columns.{holeKid}
 use Rattle.bank.specs.Notes.{roomIn}
 use Rattle.table_columns.specs.Notes.{rowNote, belowNote, endNote, markNote, SameNotes, HoledMarks, KidsMarked, NeededRows, Seated, AllSeated, neededMore, Runs, Tops, TopsRead, NeededFor}
@@ -59,7 +59,7 @@ listing-clear {z = z} {us = us} {i = i} h o =
     }
 
 -- A MARKED ROW: it has a hole, and its hole child has its position
-module _ {ws ns : List ℕ} {u : ℕ} {ix : List ℕ} (r : Ready ws ns u ix) {z : ℕ} {ms us : List ℕ} {i n : ℕ} (h : Listing (storeOf ws ns u) ix z ms us i n)
+module _ {ws ns : List ℕ} {u : ℕ} {ix : List ℕ} (r : Bank ws ns u ix) {z : ℕ} {ms us : List ℕ} {i n : ℕ} (h : Listing (storeOf ws ns u) ix z ms us i n)
     (holed : HoledMarks ix z u ms) (kids : KidsMarked (storeOf ws ns u) ix z u 1 ms) (more : i + 1 < u) (own : markNote z us (i + 1) ≡ 0 → ⊥) where
   abbrev x : Store
   x = storeOf ws ns u

@@ -14,14 +14,10 @@ use Rattle.model.specs.Limits.{mostRules, mostContexts}
 use Rattle.model.specs.Base.{among}
 use Rattle.model.specs.Store.{Store}
 use Rattle.model.specs.Table.{answerIn, answersOf}
-use Rattle.table.specs.Answers.{rowAt, Observed, KnownRows}
+use Rattle.model.proofs.Laws.Tests.{by-equal}
+use Rattle.model.proofs.Laws.Lists.{map-at}
+use Rattle.table.specs.Answers.{answersAt, Observed, KnownRows}
 use Rattle.table.proofs.Laws.Rows.{row-at, row-length}
-use Rattle.bank.proofs.Laws.Trees.{by-equal}
-
-pub map-at : (f : ℕ → ℕ) (ks : List ℕ) (j : ℕ) → j < length ks → getD (map f ks) j 0 ≡ f (getD ks j 0)
-map-at f [] j l = absurd (omega arith)
-map-at f (k ∷ ks) zero l = refl
-map-at f (k ∷ ks) (suc j) l = map-at f ks j (omega arith)
 
 -- THE ANSWERS of a record at the first m contexts
 module _ (x : Store) (w c : List ℕ) (m row : ℕ) (enough : m ≤ length c) where
@@ -64,24 +60,24 @@ sets-after tb at (v ∷ vs) j l = sets-after (set tb at v) (suc at) vs j (omega 
 
 -- A ROW WRITTEN leaves the other rows as they were
 module _ (tb : List ℕ) (m k : ℕ) (vs : List ℕ) (long : length vs ≡ m) (few : m ≤ mostContexts) (fits : mostContexts * k + m ≤ length tb) where
-  pub row-before : (i : ℕ) → i < k → rowAt (sets tb (mostContexts * k) vs) m i ≡ rowAt tb m i
+  pub row-before : (i : ℕ) → i < k → answersAt (sets tb (mostContexts * k) vs) m i ≡ answersAt tb m i
   row-before i l =
       let a = row-length tb m i (omega arith) in
       let b = row-length (sets tb (mostContexts * k) vs) m i (rw length-sets (omega arith)) in
-      ext-getD 0 (rowAt (sets tb (mostContexts * k) vs) m i) (rowAt tb m i) (b ∙ sym a)
+      ext-getD 0 (answersAt (sets tb (mostContexts * k) vs) m i) (answersAt tb m i) (b ∙ sym a)
       (λ j q. row-at (sets tb (mostContexts * k) vs) m i j (omega arith) ∙ sets-before tb (mostContexts * k) vs (mostContexts * i + j) (omega arith) ∙ sym (row-at tb m i j (omega arith)))
 
-  pub row-after : (i : ℕ) → k < i → mostContexts * i + m ≤ length tb → rowAt (sets tb (mostContexts * k) vs) m i ≡ rowAt tb m i
+  pub row-after : (i : ℕ) → k < i → mostContexts * i + m ≤ length tb → answersAt (sets tb (mostContexts * k) vs) m i ≡ answersAt tb m i
   row-after i l h =
       let a = row-length tb m i h in
       let b = row-length (sets tb (mostContexts * k) vs) m i (rw length-sets h) in
-      ext-getD 0 (rowAt (sets tb (mostContexts * k) vs) m i) (rowAt tb m i) (b ∙ sym a)
+      ext-getD 0 (answersAt (sets tb (mostContexts * k) vs) m i) (answersAt tb m i) (b ∙ sym a)
       (λ j q. row-at (sets tb (mostContexts * k) vs) m i j (omega arith) ∙ sets-after tb (mostContexts * k) vs (mostContexts * i + j) (omega arith) ∙ sym (row-at tb m i j (omega arith)))
 
-  pub row-written : rowAt (sets tb (mostContexts * k) vs) m k ≡ vs
+  pub row-written : answersAt (sets tb (mostContexts * k) vs) m k ≡ vs
   row-written =
       let b = row-length (sets tb (mostContexts * k) vs) m k (rw length-sets fits) in
-      ext-getD 0 (rowAt (sets tb (mostContexts * k) vs) m k) vs (b ∙ sym long)
+      ext-getD 0 (answersAt (sets tb (mostContexts * k) vs) m k) vs (b ∙ sym long)
       (λ j q. row-at (sets tb (mostContexts * k) vs) m k j (omega arith) ∙ sets-within tb (mostContexts * k) vs j (omega arith) (omega arith))
 
 by-order : {A : Type 0} (i j : ℕ) → (i < j → A) → (i ≡ j → A) → (j < i → A) → A
@@ -109,9 +105,9 @@ observed-more {x} {w} {t} {k} {c} {m} {tb} o l z h =
     fits : mostContexts * k + m ≤ length tb
     fits = let b = o .sized .few-c in omega arith
 
-    rows : (i : ℕ) → i < k + 1 → rowAt (sets tb (mostContexts * k) vs) m i ≡ answersOf x w (take m c) (getD t i 0)
+    rows : (i : ℕ) → i < k + 1 → answersAt (sets tb (mostContexts * k) vs) m i ≡ answersOf x w (take m c) (getD t i 0)
     rows i a =
-        by-equal i k (λ e. ap (rowAt (sets tb (mostContexts * k) vs) m) e ∙ row-written tb m k vs long (o .sized .few-c) fits ∙ ap (λ (j : ℕ). answersOf x w (take m c) (getD t j 0)) (sym e))
+        by-equal i k (λ e. ap (answersAt (sets tb (mostContexts * k) vs) m) e ∙ row-written tb m k vs long (o .sized .few-c) fits ∙ ap (λ (j : ℕ). answersOf x w (take m c) (getD t j 0)) (sym e))
         (λ e. row-before tb m k vs long (o .sized .few-c) fits i (omega arith) ∙ o .rows i (omega arith))
 
 -- A ROW MORE: it is right, and the other rows are as they were, so those without an unknown answer are right as before
@@ -129,12 +125,12 @@ known-more {x} {w} {t} {n} {c} {m} {tb} o k l h =
     fits : (i : ℕ) → i < n → mostContexts * i + m ≤ length tb
     fits i a = let z = o .sized .long in let b = o .sized .few-c in let d = o .sized .few-t in omega arith
 
-    as-before : (i : ℕ) → i < n → rowAt (sets tb (mostContexts * k) vs) m i ≡ rowAt tb m i → among 0 (rowAt (sets tb (mostContexts * k) vs) m i) ≡ false →
-        rowAt (sets tb (mostContexts * k) vs) m i ≡ answersOf x w (take m c) (getD t i 0)
+    as-before : (i : ℕ) → i < n → answersAt (sets tb (mostContexts * k) vs) m i ≡ answersAt tb m i → among 0 (answersAt (sets tb (mostContexts * k) vs) m i) ≡ false →
+        answersAt (sets tb (mostContexts * k) vs) m i ≡ answersOf x w (take m c) (getD t i 0)
     as-before i a p e = p ∙ o .right i a (ap (among 0) (sym p) ∙ e)
 
-    at : (i : ℕ) → i < n → among 0 (rowAt (sets tb (mostContexts * k) vs) m i) ≡ false → rowAt (sets tb (mostContexts * k) vs) m i ≡ answersOf x w (take m c) (getD t i 0)
+    at : (i : ℕ) → i < n → among 0 (answersAt (sets tb (mostContexts * k) vs) m i) ≡ false → answersAt (sets tb (mostContexts * k) vs) m i ≡ answersOf x w (take m c) (getD t i 0)
     at i a e =
         by-order i k (λ b. as-before i a (row-before tb m k vs long (o .sized .few-c) (fits k l) i b) e)
-        (λ q. ap (rowAt (sets tb (mostContexts * k) vs) m) q ∙ row-written tb m k vs long (o .sized .few-c) (fits k l) ∙ ap (λ (j : ℕ). answersOf x w (take m c) (getD t j 0)) (sym q))
+        (λ q. ap (answersAt (sets tb (mostContexts * k) vs) m) q ∙ row-written tb m k vs long (o .sized .few-c) (fits k l) ∙ ap (λ (j : ℕ). answersOf x w (take m c) (getD t j 0)) (sym q))
         (λ b. as-before i a (row-after tb m k vs long (o .sized .few-c) (fits k l) i b (fits i a)) e)

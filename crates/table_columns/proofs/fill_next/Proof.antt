@@ -85,7 +85,7 @@ clear-run-requires : tie.Need-clear-run-requires
 clear-run-requires c κs = let s = start (c .before .before .before .before) in omega (arith, run s, s .pre .1 .few, s .pre .4)
 
 same-length : tie.Need-same-length
-same-length c = search needs
+same-length c = let d : Cleared = c .before .before in d .clear-run .kept .1 .1 .0
 
 returns : tie.Need-returns
 returns c =

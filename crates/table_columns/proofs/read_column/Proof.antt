@@ -7,10 +7,11 @@ use borrow.Author.Needs.{needs}
 use lib.ListN.{length, getD, length-map, length-set}
 use lib.Seq.{paste}
 use Rattle.model.specs.Limits.{mostContexts}
+use Rattle.model.proofs.Laws.Lists.{map-at}
 use Rattle.bank.specs.Rows.{answerIn}
 use Rattle.bank.specs.Notes.{roomIn}
 use Rattle.table_columns.specs.Notes.{filledNote, columnAnswers}
-use Rattle.table_columns.proofs.Laws.Rows.{map-at, put-none, put-more, put-all}
+use Rattle.table_columns.proofs.Laws.Rows.{put-none, put-more, put-all}
 use Rattle.table_columns.proofs.read_column.Statement.{statement}
 use Rattle.table_columns.proofs.read_column.Tie as tie
 

@@ -17,9 +17,9 @@ use Rattle.model.proofs.Laws.Stack.{each-drop}
 use Rattle.bank.specs.Rows.{answerIn, Within}
 use Rattle.bank.specs.Index.{Finding}
 use Rattle.bank.proofs.Laws.Words.{answer-in}
+use Rattle.bank.proofs.Laws.Children.{find-used}
 use Rattle.table_verdict.specs.Rules.{RepsIn, repOver, repRow, runBy, ledList, acceptsBy, isYesBy, acceptsListBy}
 use Rattle.table_verdict.specs.declared.Led.{Led}
-use Rattle.table_verdict.proofs.Laws.Words.{find-used}
 
 -- where a run ends
 abbrev EndsIn : (n : ℕ) → Led → Type 0

@@ -15,10 +15,9 @@ use Rattle.model.specs.Base.{In, here, later, Each, among, placeOf, same}
 use Rattle.model.specs.Store.{Store, used, symbolAt, countOf, kidsAt, findRow}
 use Rattle.model.specs.Automata.{hasLeftSide, targetIn}
 use Rattle.model.specs.Facts.{Good}
-use Rattle.model.proofs.Laws.Tests.{both-true, true-both, same-eq, same-of}
+use Rattle.model.proofs.Laws.Tests.{both-true, true-both, same-eq, same-of, by-equal}
 use Rattle.model.proofs.Laws.Lists.{in-cases, in-not, member-in, places-one, place-at, place-within}
 use Rattle.model.proofs.Laws.Rows.{find-is, is-find}
-use Rattle.bank.proofs.Laws.Trees.{by-equal}
 use Rattle.table_verdict.specs.Rules.{ruleBy, rulesBy, Ruled, repOf}
 
 -- A STATE BY ITS REPRESENTATIVE, and back; 0 is none

@@ -15,8 +15,8 @@ use Rattle.model.specs.Limits.{mostRows}
 use Rattle.model.specs.Base.{In, among, placeOf, noRepeats, Distinct, distinct-nil, distinct-cons}
 use Rattle.model.proofs.Laws.Lists.{at-place, apart-out, in-left, in-last, in-snoc, in-member, in-not, not-in, member-in}
 use Rattle.model.proofs.Laws.ReflectLists.{distinct-of}
+use Rattle.model.proofs.Laws.Tests.{by-equal}
 use Rattle.table.specs.Answers.{stateAt}
-use Rattle.bank.proofs.Laws.Trees.{by-equal}
 use Rattle.table_verdict.specs.Rules.{RepsBy}
 
 -- THE PLACE of the k-th member of a list without repeats

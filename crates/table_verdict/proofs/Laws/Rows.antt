@@ -14,12 +14,11 @@ use borrow.Author.Tests.{ne-eqb}
 use Rattle.model.specs.Base.{In, among}
 use Rattle.model.specs.Store.{Store, used, symbolAt, kidsAt, foldFrom, findPlaces, findRow, padded}
 use Rattle.model.specs.Facts.{Good}
-use Rattle.model.proofs.Laws.Lists.{no-in, map-below, at-place, in-member, in-snoc, not-in}
+use Rattle.model.proofs.Laws.Lists.{no-in, map-below, at-place, in-member, in-snoc, not-in, map-at}
 use Rattle.model.proofs.Laws.Fold.{fold-eq, earlier}
+use Rattle.model.proofs.Laws.Tests.{by-equal}
 use Rattle.bank.specs.Notes.{noteWidth, roomIn, columnIn, repsIn}
 use Rattle.bank.proofs.Laws.Notes.{column-long, column-at, column-set, column-before}
-use Rattle.bank.proofs.Laws.Trees.{by-equal}
-use Rattle.bank_t1.proofs.Laws.Kids.{below-at}
 use Rattle.bank_listed.proofs.Laws.ArrayStack.{places-more}
 use Rattle.table_verdict.specs.Rules.{repOver, repRow}
 
@@ -43,11 +42,6 @@ pub record KidsLed (x : Store) (led : List ℕ) (i : ℕ) (places : List ℕ) (k
   pub four : length places ≡ 4
   pub are : places ≡ padded (take k (ledKids x led i))
   pub some : In 0 (take k (ledKids x led i)) → ⊥
-
-map-at : (f : ℕ → ℕ) (ks : List ℕ) (i : ℕ) → i < length ks → getD (map f ks) i 0 ≡ f (getD ks i 0)
-map-at f [] i l = absurd (omega arith)
-map-at f (k ∷ ks) zero l = refl
-map-at f (k ∷ ks) (suc i) l = map-at f ks i (omega arith)
 
 module _ {x : Store} (g : Good x) (reps : List ℕ) where
   -- THE EQUATION of a row's representative
@@ -92,9 +86,6 @@ module _ {x : Store} (g : Good x) (reps : List ℕ) where
 
     few : length (kidsAt x i) ≤ 4
     few = let a = g .row i positive u .arity in let w = g .wide (symbolAt x i) in omega arith
-
-    pub kid-earlier : (k : ℕ) → k < length (kidsAt x i) → getD (kidsAt x i) k 0 < i
-    kid-earlier k l = below-at (earlier x g i u) k l
 
     pub kids-start : KidsLed x led i (0 ∷ 0 ∷ 0 ∷ 0 ∷ []) 0
     kids-start = record { within = omega arith; four = refl; are = refl; some = no-in }

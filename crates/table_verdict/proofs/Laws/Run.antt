@@ -13,6 +13,7 @@ use Rattle.model.specs.Base.{top}
 use Rattle.model.specs.Store.{Store, countOf, padded, findPlaces, findRow}
 use Rattle.model.specs.Facts.{Parses, parsed, parses}
 use Rattle.model.proofs.Laws.Scans.{drop-next}
+use Rattle.model.proofs.Laws.Listed.{parts}
 use Rattle.bank_listed.specs.Listed.{stackOf}
 use Rattle.bank_listed.proofs.Laws.ArrayStack.{stack-push, stack-one}
 use Rattle.table_verdict.specs.Rules.{goOnBy, runBy}
@@ -32,9 +33,6 @@ left x reps xs st h at = runBy x reps at (drop at xs) (stackOf st h)
 
 pub running-start : (counts xs st : List ℕ) → Parses counts 0 xs → length st ≡ mostListed → length xs ≤ mostListed → Running counts xs st 0 0
 running-start ns xs st p l f = record { parses = p; long = l; low = omega arith; within = omega arith; few = f }
-
-pub parts : {ns : List ℕ} {k a : ℕ} {xs : List ℕ} → Parses ns k (a ∷ xs) → (a < length ns) × (getD ns a 0 ≤ k) × Parses ns (k - getD ns a 0 + 1) xs
-parts (parses la ln ps) = (la, ln, ps)
 
 one-left : {ns : List ℕ} {k : ℕ} → Parses ns k [] → k ≡ 1
 one-left parsed = refl

@@ -19,10 +19,10 @@ use Rattle.model.proofs.Laws.Tests.{both-true}
 use Rattle.model.proofs.Laws.Lists.{no-in, map-below, in-cases, in-not, member-in}
 use Rattle.model.proofs.Laws.Fold.{fold-eq, earlier}
 use Rattle.model.specs.Entry.{storeOf}
-use Rattle.bank.specs.Ready.{Ready}
+use Rattle.bank.specs.Bank.{Bank}
 use Rattle.bank.proofs.Laws.Words.{used-of}
+use Rattle.bank.proofs.Laws.Children.{few-rows}
 use Rattle.table_verdict.specs.Rules.{ruleBy, rulesBy, Ruled, RepsIn, repOf, repRow}
-use Rattle.table_verdict.proofs.Laws.Words.{few-rows}
 use Rattle.table_verdict.proofs.Laws.Rows.{first-none, rep-later}
 use Rattle.table_verdict.proofs.Laws.Lookup.{placeIn, stateBy, Rep, state-some, rep-back, rep-in, rep-some, rep-of, rep-within, lookup, found-rep}
 
@@ -151,5 +151,5 @@ module _ {x : Store} {s t reps : List ℕ} (g : Good x) (d : Ruled x s t reps) w
     reps-in : RepsIn (used x) reps
     reps-in = record { long = omega (arith, d .long, g .fits); within = λ i l. rep-within g d (rep-of g d i (omega arith)) }
 
-pub reps-ruled : {ws ns : List ℕ} {n : ℕ} {ix s t reps : List ℕ} → Ready ws ns n ix → Ruled (storeOf ws ns n) s t reps → RepsIn n reps
+pub reps-ruled : {ws ns : List ℕ} {n : ℕ} {ix s t reps : List ℕ} → Bank ws ns n ix → Ruled (storeOf ws ns n) s t reps → RepsIn n reps
 reps-ruled {ws} {ns} {n} {reps = reps} r d = subst (λ (m : ℕ). RepsIn m reps) (used-of ws ns n) (reps-in (r .good) d (few-rows r))

@@ -10,9 +10,9 @@ use lib.Seq.{getD-take, length-take-le}
 use Rattle.model.specs.Limits.{mostRows, mostStates}
 use Rattle.model.specs.Base.{In, here, later, Each, Distinct, among, placeOf}
 use Rattle.model.specs.Store.{Store, used, symbolAt, kidsAt}
-use Rattle.model.specs.Table.{Tables, tables, answersOf, stateFrom, finalsOf, ruleOf, rulesOf, automatonOf}
+use Rattle.model.specs.Table.{tables, answersOf, stateFrom, finalsOf, ruleOf, rulesOf, automatonOf}
 use Rattle.model.specs.Facts.{Good}
-use Rattle.model.specs.TableFacts.{Shaped, Held}
+use Rattle.model.specs.TableFacts.{Shaped}
 use Rattle.model.specs.Entry.{storeOf, answersIn}
 use Rattle.model.proofs.Laws.Lists.{at-place, place-within, in-member, not-in}
 use Rattle.model.proofs.Laws.Proposal.{own-state}
@@ -44,11 +44,6 @@ covers-shaped {x} {r} {s} {t} g h d l = record { row = h .row; kids = h .kids; a
         let e : stateFrom r (r i) 0 s ≡ placeOf (c .0) 0 s = ap (λ (v : List ℕ). stateFrom r v 0 s) (c .2) ∙ own-state x g r s t h (c .0) (c .1) in
         omega (arith, e, place-within (c .0) 0 s (c .1))
 
-pub covers-held : {x : Store} {w s t cs : List ℕ} → Held x w s t cs → length s ≤ mostStates → ((i : ℕ) → In i t → stateFrom (answersOf x w cs) (answersOf x w cs i) 0 s < length s) →
-    Covers x (answersOf x w cs) s t
-covers-held h l within =
-    record { row = λ i m. (h .row i m .some, h .row i m .within); kids = h .kids; among = h .among; one = h .one; few = l; within = within }
-
 -- REPRESENTATIVES BY THE STORE'S STATES
 pub record RepsOf (r : ℕ → List ℕ) (s t reps : List ℕ) : Type 0 where
   pub right : (i : ℕ) → i < mostRows → In i t → getD reps i 0 ≡ getD s (stateFrom r (r i) 0 s) 0
@@ -69,11 +64,6 @@ module _ {x : Store} {w t : List ℕ} {n : ℕ} {c : List ℕ} {m : ℕ} {tb : L
   transition-tied : (i : ℕ) → In i (take n t) → stateAt tb m (take q ps) (placeOf i 0 (take n t)) ≡ stateFrom rows (rows i) 0 (take q s)
   transition-tied i a =
       state-tied o s q ps placed l h (placeOf i 0 (take n t)) (place-before i a) ∙ ap (λ (j : ℕ). stateFrom rows (rows j) 0 (take q s)) (at-its-place i a)
-
-  -- as Covers asks, where the table has a state within S for each transition
-  pub within-tied : ((k : ℕ) → k < n → stateAt tb m (take q ps) k < q) → (i : ℕ) → In i (take n t) →
-      stateFrom (answersOf x w (take m c)) (answersOf x w (take m c) i) 0 (take q s) < length (take q s)
-  within-tied u i a = omega (arith, u (placeOf i 0 (take n t)) (place-before i a), transition-tied i a, length-take-le q s l)
 
   module _ {reps : List ℕ} (by : RepsBy tb m (take q ps) (take q s) (take n t) reps) where
     abbrev noted : (i : ℕ) → Bool → ℕ
@@ -119,8 +109,3 @@ module _ (ws ns : List ℕ) (u : ℕ) (s : List ℕ) (q : ℕ) (t : List ℕ) (n
   pub hypothesis-tied : (hand asked : ℕ) (accepted : Bool) →
       hypothesis ws ns u s q t n reps ≡ automatonOf (tables (storeOf ws ns u) (answersIn u ws) (take q s) (take n t) cs hand asked accepted)
   hypothesis-tied hand asked accepted = λ i. record { counts = ns; finals = finalsOf (answersIn u ws) (take q s); rules = rules-tied c p small i }
-
-  pub hypothesis-of : (y : Tables) → y .store ≡ storeOf ws ns u → y .answers ≡ answersIn u ws → y .s ≡ take q s → y .t ≡ take n t → y .c ≡ cs →
-      hypothesis ws ns u s q t n reps ≡ automatonOf y
-  hypothesis-of y a b d e f =
-      hypothesis-tied (y .hand) (y .asked) (y .accepted) ∙ (λ i. automatonOf (tables (sym a i) (sym b i) (sym d i) (sym e i) (sym f i) (y .hand) (y .asked) (y .accepted)))

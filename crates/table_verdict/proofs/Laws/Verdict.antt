@@ -18,9 +18,9 @@ use Rattle.model.specs.Automata.{Automaton, Verdict, gives, stuck, targetIn, go
 use Rattle.model.specs.Table.{answerAt, finalsOf}
 use Rattle.model.specs.Facts.{Good, Parses}
 use Rattle.model.proofs.Laws.Stack.{length-backwards, map-drop, map-top, each-backwards, each-take, each-drop}
+use Rattle.model.proofs.Laws.Listed.{parts}
 use Rattle.table_verdict.specs.Rules.{rulesBy, Ruled, repOf, ledBy, goOnBy, runBy, ledList, acceptsBy, isYesBy, acceptsListBy}
 use Rattle.table_verdict.specs.declared.Led.{Led}
-use Rattle.table_verdict.proofs.Laws.Run.{parts}
 use Rattle.table_verdict.proofs.Laws.Lookup.{placeIn, stateBy, Rep, at-own-place, own-place-within, rep-in, lookup, found-rep}
 use Rattle.table_verdict.proofs.Laws.States.{Told, target-told, row-told, rep-row}
 

@@ -5,7 +5,7 @@ use native.Mathlib.Omega.{arith}
 use borrow.Author.Needs.{needs}
 use lib.ListN.{length, getD, length-set}
 use lib.Seq.{getD-set-same, getD-set-other}
-use Rattle.bank.proofs.Laws.Trees.{by-equal}
+use Rattle.model.proofs.Laws.Tests.{by-equal}
 use Rattle.table_verdict.proofs.Laws.Reps.{all-zero}
 use Rattle.table_verdict.proofs.clear.Statement.{statement}
 use Rattle.table_verdict.proofs.clear.Tie as tie

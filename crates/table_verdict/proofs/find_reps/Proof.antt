@@ -51,7 +51,7 @@ loop-holds : tie.Need-loop-holds Inv-loop μ-loop
 loop-holds c =
     let s : Start = c .before .before .before .before .before .before .before .before in (
       omega arith,
-      R.reps-start (s .args .table .now) (s .args .contexts) (take (length (s .args .s .now)) (s .args .places .now)) (s .args .s .now) (s .args .t .now)
+      R.reps-start (s .args .table .now) (s .args .contexts) (take (length (s .args .s .now)) (s .args .s-in-t .now)) (s .args .s .now) (s .args .t .now)
           _ (c .before .before .clear .ensures .1),
       refl,
     )
@@ -90,7 +90,7 @@ loop-again c =
     let s : Start = start t in
     let noted = t .before .loop .inv .1 in
     let table : List ℕ = s .args .table .now in
-    let ps : List ℕ = take (length (s .args .s .now)) (s .args .places .now) in
+    let ps : List ℕ = take (length (s .args .s .now)) (s .args .s-in-t .now) in
     let ss : List ℕ = s .args .s .now in
     let ts : List ℕ = s .args .t .now in
     let e = ap (λ (q : ℕ). getD ss q 0) (d .before .state-of .ensures) in
@@ -114,7 +114,7 @@ same-length c = search needs
 returns : tie.Need-returns Inv-loop μ-loop
 returns c =
     let s : Start = c .before .before .before .before .before .before .before .before .before .before in
-    R.reps-end (s .args .table .now) (s .args .contexts) (take (length (s .args .s .now)) (s .args .places .now)) (s .args .s .now) (s .args .t .now)
+    R.reps-end (s .args .table .now) (s .args .contexts) (take (length (s .args .s .now)) (s .args .s-in-t .now)) (s .args .s .now) (s .args .t .now)
     (c .before .loop .inv .1) (c .loop-test .left)
 
 shared-slice-read-i : tie.Need-shared-slice-read-i Inv-loop μ-loop

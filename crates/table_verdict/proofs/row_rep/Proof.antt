@@ -8,8 +8,8 @@ use borrow.Author.Needs.{needs}
 use lib.ListN.{length, getD}
 use Rattle.model.specs.Store.{Store, kidsAt, findPlaces}
 use Rattle.model.specs.Entry.{storeOf}
-use Rattle.table_verdict.specs.Rows.{RowsIn}
-use Rattle.table_verdict.proofs.Laws.Words as W
+use Rattle.bank.specs.Bank.{Stored}
+use Rattle.bank.proofs.Laws.Children as C
 use Rattle.table_verdict.proofs.Laws.Rows as R
 use Rattle.table_verdict.proofs.Laws.Rows.{KidsLed}
 use Rattle.table_verdict.proofs.row_rep.Statement.{statement}
@@ -36,8 +36,8 @@ store s = storeOf (s .args .words .now) (s .args .counts .now) (s .args .used)
 abbrev kids : Start → List ℕ
 kids s = kidsAt (store s) (s .args .row .0)
 
-rows : (s : Start) → RowsIn (s .args .words .now) (s .args .counts .now) (s .args .used)
-rows s = W.rows-ready (s .pre .0)
+rows : (s : Start) → Stored (s .args .words .now) (s .args .counts .now) (s .args .used)
+rows s = C.bank-stored (s .pre .0)
 
 -- a turn: its start, and the child that it reaches
 abbrev Turn : Type 0
@@ -50,7 +50,7 @@ within : (t : Turn) → t .before .loop .k < length (kids (start t))
 within t = omega (arith, t .loop-test .taken, t .before .loop .inv .1)
 
 few : (t : Turn) → t .before .loop .k < 4
-few t = let s : Start = start t in omega (arith, within t, W.row-few (rows s) (s .args .row .0) (s .pre .4) (s .pre .3))
+few t = let s : Start = start t in omega (arith, within t, C.row-few (rows s) (s .args .row .0) (s .pre .4) (s .pre .3))
 
 abbrev Read : Type 0
 Read = lts.After-kid-of (symbol-of-reads.Asked, symbol-of-reads.Learnt, kid-of-reads.Asked, kid-of-reads.Learnt, target-of-reads.Asked, target-of-reads.Learnt) reads.Pre reads.Post Inv-loop μ-loop
@@ -58,16 +58,15 @@ Read = lts.After-kid-of (symbol-of-reads.Asked, symbol-of-reads.Learnt, kid-of-r
 kid : (c : Read) → c .kid-of .result ≡ getD (kids (start (c .before))) (c .before .before .loop .k) 0
 kid c =
     let s : Start = start (c .before) in
-    c .kid-of .ensures ∙ W.row-kid (rows s) (s .args .row .0) (s .pre .4) (s .pre .3) (c .before .before .loop .k) (within (c .before))
+    c .kid-of .ensures ∙ C.row-kid (rows s) (s .args .row .0) (s .pre .4) (s .pre .3) (c .before .before .loop .k) (within (c .before))
 
 early : (c : Read) → c .kid-of .result < start (c .before) .args .row .0
 early c =
     let s : Start = start (c .before) in
-    let u = W.row-used (rows s) (s .args .row .0) (s .pre .4) in
-    omega (arith, kid c, R.kid-earlier (s .pre .0 .good) (s .args .reps .now) (s .args .led .now) (s .args .row .0) (s .pre .3) u (s .pre .5) (c .before .before .loop .k) (within (c .before)))
+    omega (arith, c .kid-of .ensures, C.word-early (rows s) (s .args .row .0) (s .pre .4) (s .pre .3) (c .before .before .loop .k) (within (c .before)))
 
 symbol-of-requires : tie.Need-symbol-of-requires Inv-loop μ-loop
-symbol-of-requires c κs = let s : Start = c .before .before .before .before .before in W.row-within (rows s) (s .args .row .0) (s .pre .4)
+symbol-of-requires c κs = let s : Start = c .before .before .before .before .before in C.row-within (rows s) (s .args .row .0) (s .pre .4)
 
 cast-count : tie.Need-cast-count Inv-loop μ-loop
 cast-count c = search needs
@@ -75,7 +74,7 @@ cast-count c = search needs
 shared-slice-read-count : tie.Need-shared-slice-read-count Inv-loop μ-loop
 shared-slice-read-count c =
     let s : Start = c .before .before .before .before .before .before .before in
-    omega (arith, c .before .symbol-of .ensures, W.row-known (rows s) (s .args .row .0) (s .pre .4) (s .pre .3))
+    omega (arith, c .before .symbol-of .ensures, C.row-known (rows s) (s .args .row .0) (s .pre .4) (s .pre .3))
 
 cast-count-2 : tie.Need-cast-count-2 Inv-loop μ-loop
 cast-count-2 c = omega (arith, c .shared-slice-known6 .given (c .before .symbol-of .result))
@@ -84,12 +83,12 @@ loop-holds : tie.Need-loop-holds Inv-loop μ-loop
 loop-holds c =
     let s : Start = c .before .before .before .before .before .before .before in
     let i : ℕ = s .args .row .0 in (
-      R.kids-start (s .pre .0 .good) (s .args .reps .now) (s .args .led .now) i (s .pre .3) (W.row-used (rows s) i (s .pre .4)) (s .pre .5),
-      ap (λ (a : ℕ). getD (s .args .counts .now) a 0) (c .before .symbol-of .ensures) ∙ W.row-count (rows s) i (s .pre .4) (s .pre .3),
+      R.kids-start (s .pre .0 .good) (s .args .reps .now) (s .args .led .now) i (s .pre .3) (C.row-used (rows s) i (s .pre .4)) (s .pre .5),
+      ap (λ (a : ℕ). getD (s .args .counts .now) a 0) (c .before .symbol-of .ensures) ∙ C.row-count (rows s) i (s .pre .4) (s .pre .3),
     )
 
 kid-of-requires : tie.Need-kid-of-requires Inv-loop μ-loop
-kid-of-requires c κs = let s : Start = start c in (W.row-within (rows s) (s .args .row .0) (s .pre .4), few c)
+kid-of-requires c κs = let s : Start = start c in (C.row-within (rows s) (s .args .row .0) (s .pre .4), few c)
 
 cast-kid : tie.Need-cast-kid Inv-loop μ-loop
 cast-kid c = search needs
@@ -104,7 +103,7 @@ returns : tie.Need-returns Inv-loop μ-loop
 returns c =
     let t : Turn = c .before .before .before in
     let s : Start = start t in
-    R.kids-stop (s .pre .0 .good) (s .args .reps .now) (s .args .led .now) (s .args .row .0) (s .pre .3) (W.row-used (rows s) (s .args .row .0) (s .pre .4)) (s .pre .5) (t .before .loop .k) (within t)
+    R.kids-stop (s .pre .0 .good) (s .args .reps .now) (s .args .led .now) (s .args .row .0) (s .pre .3) (C.row-used (rows s) (s .args .row .0) (s .pre .4)) (s .pre .5) (t .before .loop .k) (within t)
     (ap (λ (j : ℕ). getD (s .args .led .now) j 0) (sym (kid (c .before .before))) ∙ c .if1 .taken)
 
 cast-places : tie.Need-cast-places Inv-loop μ-loop
@@ -126,7 +125,7 @@ loop-again : tie.Need-loop-again Inv-loop μ-loop
 loop-again c =
     let t : Turn = c .before .before .before in
     let s : Start = start t in (
-      R.kids-more (s .pre .0 .good) (s .args .reps .now) (s .args .led .now) (s .args .row .0) (s .pre .3) (W.row-used (rows s) (s .args .row .0) (s .pre .4)) (s .pre .5) (t .before .loop .inv .0) (within t)
+      R.kids-more (s .pre .0 .good) (s .args .reps .now) (s .args .led .now) (s .args .row .0) (s .pre .3) (C.row-used (rows s) (s .args .row .0) (s .pre .4)) (s .pre .5) (t .before .loop .inv .0) (within t)
           (getD (s .args .led .now) (c .before .before .kid-of .result) 0) (ap (λ (j : ℕ). getD (s .args .led .now) j 0) (kid (c .before .before))) (c .if1 .left),
       t .before .loop .inv .1,
     )
@@ -139,8 +138,8 @@ returns-2 c =
     let l = c .before .before in
     let s : Start = l .before .before .before .before .before .before .before .before in
     let i : ℕ = s .args .row .0 in
-    let a = l .before .before .symbol-of .ensures ∙ W.row-symbol (rows s) i (s .pre .4) in
-    R.kids-end (s .pre .0 .good) (s .args .reps .now) (s .args .led .now) i (s .pre .3) (W.row-used (rows s) i (s .pre .4)) (s .pre .5) (l .loop .inv .0)
+    let a = l .before .before .symbol-of .ensures ∙ C.row-symbol (rows s) i (s .pre .4) in
+    R.kids-end (s .pre .0 .good) (s .args .reps .now) (s .args .led .now) i (s .pre .3) (C.row-used (rows s) i (s .pre .4)) (s .pre .5) (l .loop .inv .0)
     (omega (arith, c .before .loop-test .left, l .loop .inv .1)) (c .target-of .result .0)
     (c .target-of .ensures ∙ ap (λ (b : ℕ). getD (s .args .reps .now) (findPlaces (store s) b (l .loop .places)) 0) a)
 

@@ -4,7 +4,7 @@ use Prim.Native.Nat.{ℕ}
 use native.Mathlib.Omega.{arith}
 use borrow.Author.Needs.{needs}
 use lib.ListN.{getD}
-use Rattle.table_verdict.proofs.Laws.Words.{find-used}
+use Rattle.bank.proofs.Laws.Children.{find-used}
 use Rattle.table_verdict.proofs.target_of.Statement.{statement}
 use Rattle.table_verdict.proofs.target_of.Tie as tie
 

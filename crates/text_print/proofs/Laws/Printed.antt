@@ -7,7 +7,7 @@ use native.Mathlib.Omega.{arith}
 use lib.ListN.{length, getD, set, drop}
 use Rattle.model.specs.Entry.{storeOf}
 use Rattle.bank.specs.Rows.{symbolIn, kidIn}
-use Rattle.bank_sizes.specs.Sizes.{Stored}
+use Rattle.bank.specs.Bank.{Stored}
 use Rattle.text.specs.Bytes.{comma, opening, closing}
 use Rattle.text.specs.Written.{letterOf, others, rowText}
 use Rattle.text_print.proofs.Laws.Runs.{Run, run-as, run-one, run-then, run-byte}

@@ -6,16 +6,15 @@ use Prim.Native.Nat.{ℕ, zero, suc, _+_, _*_, _≤_, _<_}
 use native.Mathlib.Numerals.{add-one}
 use native.Mathlib.Omega.{arith}
 use lib.ListN.{length, getD, drop, length-append}
-use lib.Seq.{getD-take, length-take-le}
 use Rattle.model.specs.Base.{sum, Below, none-below, one-below}
 use Rattle.model.specs.Store.{Store, used, kidsAt}
 use Rattle.model.specs.Facts.{Good}
 use Rattle.model.specs.Entry.{storeOf}
+use Rattle.model.specs.Terms.{sizeOf}
 use Rattle.model.proofs.Laws.Fold.{fold-eq, earlier}
-use Rattle.bank.specs.Rows.{symbolIn, kidIn, placesIn}
-use Rattle.bank.proofs.Laws.Words.{used-of, symbol-in, kids-in}
-use Rattle.bank_t1.proofs.Laws.Kids.{place-at, below-at}
-use Rattle.bank_sizes.specs.Sizes.{sizeOf, Stored}
+use Rattle.bank.specs.Rows.{symbolIn, kidIn}
+use Rattle.bank.specs.Bank.{Stored}
+use Rattle.bank.proofs.Laws.Children.{row-used, row-symbol, count-kids, row-beyond, row-kid, word-early}
 use Rattle.text.specs.Bytes.{comma, opening, closing}
 use Rattle.text.specs.Written.{letterOf, others, bracketed, written, rowText}
 
@@ -54,20 +53,14 @@ texts ls x i = map (rowText ls x) (kidsAt x i)
 
 -- A ROW AMONG THE WORDS
 module _ {ws ns : List ℕ} {n : ℕ} (s : Stored ws ns n) (i : ℕ) (l : i < n) where
-  low : i < used (storeOf ws ns n)
-  low = omega (arith, used-of ws ns n)
-
-  pub few-kids : getD ns (symbolIn ws i) 0 ≤ 4
-  few-kids = s .good .wide (symbolIn ws i)
-
   pub count-is : length (kidsAt (storeOf ws ns n) i) ≡ getD ns (symbolIn ws i) 0
-  count-is = ap length (kids-in ws ns n i l (s .room)) ∙ length-take-le (getD ns (symbolIn ws i) 0) (placesIn ws i) few-kids
+  count-is = sym (count-kids s i l)
 
   -- its text
   row-text : (ls : List ℕ) → rowText ls (storeOf ws ns n) i ≡ written ls (symbolIn ws i) (texts ls (storeOf ws ns n) i)
   row-text ls =
-      fold-eq (λ (j a : ℕ) (ts : List (List ℕ)). written ls a ts) [] (storeOf ws ns n) (earlier (storeOf ws ns n) (s .good)) i low ∙
-      ap (λ (a : ℕ). written ls a (texts ls (storeOf ws ns n) i)) (symbol-in ws ns n i l)
+      fold-eq (λ (j a : ℕ) (ts : List (List ℕ)). written ls a ts) [] (storeOf ws ns n) (earlier (storeOf ws ns n) (s .good)) i (row-used s i l) ∙
+      ap (λ (a : ℕ). written ls a (texts ls (storeOf ws ns n) i)) (sym (row-symbol s i l))
 
   pub text-some : (ls : List ℕ) → 0 < length (rowText ls (storeOf ws ns n) i)
   text-some ls = omega (arith, ap length (row-text ls))
@@ -81,18 +74,19 @@ module _ {ws ns : List ℕ} {n : ℕ} (s : Stored ws ns n) (i : ℕ) (l : i < n)
 
   -- the child at place k
   module _ (k : ℕ) (h : k < getD ns (symbolIn ws i) 0) (kid : ℕ) (e : kid ≡ kidIn ws i k) where
+    has : k < length (kidsAt (storeOf ws ns n) i)
+    has = omega (arith, count-is)
+
     kid-is : getD (kidsAt (storeOf ws ns n) i) k 0 ≡ kid
-    kid-is =
-        ap (λ (ks : List ℕ). getD ks k 0) (kids-in ws ns n i l (s .room)) ∙ getD-take (getD ns (symbolIn ws i) 0) (placesIn ws i) k 0 h ∙
-        place-at ws i k (omega (arith, few-kids)) ∙ sym e
+    kid-is = sym (e ∙ row-kid s i l (row-beyond s i l k has) k has)
 
     pub kid-early : kid < i
-    kid-early = let b = below-at (earlier (storeOf ws ns n) (s .good) i low) k (omega (arith, count-is)) in omega (arith, kid-is)
+    kid-early = omega (arith, word-early s i l (row-beyond s i l k has) k has)
 
     pub list-more : (ls : List ℕ) →
         others (drop k (texts ls (storeOf ws ns n) i)) ≡ comma ∷ (rowText ls (storeOf ws ns n) kid ++ others (drop (k + 1) (texts ls (storeOf ws ns n) i)))
     list-more ls =
-        others-more (rowText ls (storeOf ws ns n)) (kidsAt (storeOf ws ns n) i) k (omega (arith, count-is)) ∙
+        others-more (rowText ls (storeOf ws ns n)) (kidsAt (storeOf ws ns n) i) k has ∙
         (λ t. comma ∷ (rowText ls (storeOf ws ns n) (kid-is t) ++ others (drop (sym (add-one k) t) (texts ls (storeOf ws ns n) i))))
 
     pub more-long : (ls : List ℕ) →

@@ -11,9 +11,10 @@ use Rattle.model.specs.Base.{over}
 use Rattle.model.specs.Store.{Store}
 use Rattle.model.specs.Entry.{storeOf}
 use Rattle.model.specs.declared.Seen.{Seen}
-use Rattle.bank.proofs.Laws.Words.{used-of}
-use Rattle.bank_sizes.specs.Sizes.{sizeOf, cut, Stored}
-use Rattle.bank_sizes.proofs.Laws.Cut.{cut-most, cut-tells, larger-cut}
+use Rattle.model.specs.Terms.{sizeOf, cut}
+use Rattle.bank.specs.Bank.{Stored}
+use Rattle.bank.proofs.Laws.Children.{row-used}
+use Rattle.bank_listed.proofs.Laws.Cut.{cut-most, cut-tells, larger-cut}
 use Rattle.text.specs.Bytes.{rowWord, recordRoom}
 use Rattle.text.specs.Written.{rowText}
 use Rattle.text.specs.Lines.{numbered, refusedText, acceptedText, askText, proposeText, questionText, seenText}
@@ -29,7 +30,7 @@ module _ {ws ns : List ℕ} {n : ℕ} (s : Stored ws ns n) (i : ℕ) (l : i < n)
     question-written = rw (le-leb (sizeOf (storeOf ws ns n) i) mostListed small)
 
     pub question-short : length (rowText ls (storeOf ws ns n) i) ≤ recordRoom
-    question-short = omega (arith, small, text-short ls (storeOf ws ns n) (s .good) i (omega (arith, used-of ws ns n)))
+    question-short = omega (arith, small, text-short ls (storeOf ws ns n) (s .good) i (row-used s i l))
 
   pub question-row : mostListed < r → numbered rowWord i ≡ questionText ls (storeOf ws ns n) i
   question-row h =

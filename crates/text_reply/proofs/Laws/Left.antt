@@ -3,11 +3,12 @@
 use mathlib.Core.Path.{_≡_, refl, sym, _∙_, subst}
 use mathlib.Core.Bool.{Bool, true, false, not, cond, true≢false}
 use mathlib.Core.List.{List}
-use Prim.Native.Nat.{ℕ, _<_}
+use Prim.Native.Nat.{ℕ, _≤_, _<_}
 use native.Mathlib.Omega.{arith}
 use borrow.Author.Tests.{eq-eqb, eqb-false}
 use lib.Dec.{eqb}
 use lib.ListN.{take}
+use Rattle.model.specs.Limits.{mostRows}
 use Rattle.model.specs.Store.{used}
 use Rattle.model.specs.Table.{Tables}
 use Rattle.model.specs.Calls.{Call, Outcome, refuses, leaves, numberOf, phaseOf, started}
@@ -23,8 +24,8 @@ use Rattle.model.proofs.Laws.Taken.{is-taken}
 use Rattle.model.proofs.Laws.Sounds.{sound-facts}
 use Rattle.model.proofs.Laws.Along.{Along, along}
 use Rattle.model.proofs.Promises.Calls.{counts-told}
+use Rattle.bank.specs.Bank.{Stored}
 use Rattle.bank.proofs.Laws.Words.{used-of}
-use Rattle.bank_sizes.specs.Sizes.{Stored}
 use Rattle.text_print.specs.Tells.{Tellable}
 
 -- an outcome's number is the one that is seen
@@ -69,12 +70,13 @@ module _ (ws : List ℕ) (l : Lists) (k : Call) where
   left-stored : isTaken Before k ≡ true → Stored (callWords ws l k) (After .store .counts) (callLists ws l k .used)
   left-stored t =
       let g = left-good t in
-      let w = sizeFits-facts (callWords ws l k) (left-along t .size) in
       record {
         good = g;
-        few = omega (arith, used-left, g .fits, w .most);
         room = rows-within (callWords ws l k) (callLists ws l k .used) (omega (arith, used-left, g .fits));
       }
+
+  left-few : isTaken Before k ≡ true → callLists ws l k .used ≤ mostRows
+  left-few t = omega (arith, used-left, left-good t .fits, sizeFits-facts (callWords ws l k) (left-along t .size) .most)
 
   left-within : isTaken Before k ≡ true → callSeen ws l k .phase ≡ 1 → callSeen ws l k .row < callLists ws l k .used
   left-within t p =
@@ -84,7 +86,7 @@ module _ (ws : List ℕ) (l : Lists) (k : Call) where
       omega (arith, o .0 .within, used-left, s .row)
 
   pub call-tellable : Tellable (callWords ws l k) (take (callLists ws l k .letters) (callLists ws l k .counts)) (callLists ws l k .used) (callSeen ws l k)
-  call-tellable = record { stored = λ n p. left-stored (taken-seen n); within = λ n p. left-within (taken-seen n) p }
+  call-tellable = record { stored = λ n p. left-stored (taken-seen n); few = λ n p. left-few (taken-seen n); within = λ n p. left-within (taken-seen n) p }
 
 -- AFTER A START: taken, it proposes
 start-asks-nothing : (ws ns : List ℕ) → startSeen ws ns .number ≡ 0 → startSeen ws ns .phase ≡ 1 → ⊥
@@ -97,4 +99,8 @@ start-asks-nothing ws ns n p = go (startNumber ws ns) (eqb (startNumber ws ns) 0
 
 pub start-tellable : (ws ns : List ℕ) {v : Seen} → v ≡ startSeen ws ns → {vs ks : List ℕ} {u : ℕ} → Tellable vs ks u v
 start-tellable ws ns e {vs} {ks} {u} =
-    subst (Tellable vs ks u) (sym e) (record { stored = λ n p. absurd (start-asks-nothing ws ns n p); within = λ n p. absurd (start-asks-nothing ws ns n p) })
+    subst (Tellable vs ks u) (sym e) (record {
+      stored = λ n p. absurd (start-asks-nothing ws ns n p);
+      few = λ n p. absurd (start-asks-nothing ws ns n p);
+      within = λ n p. absurd (start-asks-nothing ws ns n p);
+    })

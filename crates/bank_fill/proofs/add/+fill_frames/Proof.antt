@@ -10,7 +10,7 @@ use borrow.Fn.PlainCycle.{Measures, is, falls, and}
 use Rattle.model.specs.Limits.{mostRows}
 use Rattle.model.specs.Store.{Store, fill}
 use Rattle.model.specs.Entry.{storeOf}
-use Rattle.bank.specs.Ready.{pathOf}
+use Rattle.bank.specs.Bank.{pathOf}
 use Rattle.bank.proofs.rows.kid_of.Reads as kid-of-reads
 use Rattle.bank_fill.specs.Adding.{FramesAsked}
 use Rattle.bank_fill.proofs.Laws.Coming.{Comes, comes-as}
@@ -80,7 +80,7 @@ inner t c ns q =
 
 -- the child is one of the table's rows
 early : (t : ℕ) (c : Read t) → c .kid-of .result < mostRows
-early t c = omega (arith, down-falls (asked t c) (c .kid-of .result) (c .kid-of .ensures), asked t c .row-used, asked t c .ready .finding .few)
+early t c = omega (arith, down-falls (asked t c) (c .kid-of .result) (c .kid-of .ensures), asked t c .row-used, asked t c .bank .finding .few)
 
 need-cast-i : (t : ℕ) → lts.Need-cast-i (claims t) (at t) fill-frames.Post
 need-cast-i t c = search needs
@@ -98,7 +98,7 @@ need-sub-k : (t : ℕ) → lts.Need-sub-k (claims t) (at t) fill-frames.Post
 need-sub-k t c = omega (arith, c .before .before .before .before .before .pre .1 .holds .named)
 
 need-kid-of-requires : (t : ℕ) → lts.Need-kid-of-requires (claims t) (at t) fill-frames.Post
-need-kid-of-requires t c κs = let q = c .before .before .before .before .before .before .pre .1 .holds in (omega (arith, q .row-used, q .ready .finding .room), down-four q)
+need-kid-of-requires t c κs = let q = c .before .before .before .before .before .before .pre .1 .holds in (omega (arith, q .row-used, q .bank .finding .room), down-four q)
 
 need-cast-if1 : (t : ℕ) → lts.Need-cast-if1 (claims t) (at t) fill-frames.Post
 need-cast-if1 t c = omega (arith, early t c)
@@ -113,7 +113,7 @@ need-shared-slice-read-if1 t c =
     omega (arith, down-falls q (d .kid-of .result) (d .kid-of .ensures), q .row-used, q .places-long)
 
 need-above-requires : (t : ℕ) → lts.Need-above-requires (claims t) (at t) fill-frames.Post
-need-above-requires t c κs = let q = asked t (c .before .before .before .before) in (lent-of (q .ready), q .row-used, down-four q, q .with-used)
+need-above-requires t c κs = let q = asked t (c .before .before .before .before) in (lent-of (q .bank), q .row-used, down-four q, q .with-used)
 
 need-same-length : (t : ℕ) → lts.Need-same-length (claims t) (at t) fill-frames.Post
 need-same-length t c = search needs
@@ -128,7 +128,7 @@ need-returns t c =
     let k = d .kid-of .result in
     let innermost = c .before .before .before .before .before .before .before .if1 .taken in
     let above = c .before .before .before .before .above .ensures in
-    λ ns q. up-comes q k (d .kid-of .ensures) (fill-none (q .ready) (s .args .down .now) k (s .args .with .0) innermost) above .came
+    λ ns q. up-comes q k (d .kid-of .ensures) (fill-none (q .bank) (s .args .down .now) k (s .args .with .0) innermost) above .came
 
 need-cast-t16 : (t : ℕ) → lts.Need-cast-t16 (claims t) (at t) fill-frames.Post
 need-cast-t16 t c = omega (arith, early t (c .before .before))

@@ -20,7 +20,7 @@ named c = c .before .before .before
 
 -- the frames as they are asked for
 asked : (c : Named) → let a = start c .args in FramesAsked (a .words .now) (a .counts .now) (a .used) (a .index .now) (a .down .now) (a .row .0) (a .with .0)
-asked c = let p = start c .pre in record { ready = p .0; places-long = p .1; row-used = p .2; with-used = p .3; named = c .if1 .left; fits = p .4 }
+asked c = let p = start c .pre in record { bank = p .0; places-long = p .1; row-used = p .2; with-used = p .3; named = c .if1 .left; fits = p .4 }
 
 cast-i : tie.Need-cast-i
 cast-i c = search needs

@@ -5,8 +5,8 @@ use native.Mathlib.Omega.{arith}
 use borrow.Author.Needs.{needs}
 use lib.ListN.{length, getD, length-set}
 use lib.Seq.{getD-set-same, getD-set-other}
+use Rattle.model.proofs.Laws.Tests.{by-equal}
 use Rattle.bank.specs.Index.{holeOf}
-use Rattle.bank.proofs.Laws.Trees.{by-equal}
 use Rattle.bank_fill.proofs.context.copy_marks.Statement.{statement}
 use Rattle.bank_fill.proofs.context.copy_marks.Tie as tie
 

@@ -6,7 +6,7 @@ use native.Mathlib.Omega.{arith}
 use borrow.Author.Needs.{needs}
 use Rattle.model.specs.Store.{Frame, fill}
 use Rattle.model.specs.Entry.{storeOf}
-use Rattle.bank.specs.Ready.{pathOf}
+use Rattle.bank.specs.Bank.{pathOf}
 use Rattle.bank_fill.proofs.Laws.Coming.{Comes, comes-by}
 use Rattle.bank_fill.proofs.Laws.Ways.{path-frames, path-fits}
 use Rattle.bank_fill.proofs.context.fill_context.Statement.{statement}

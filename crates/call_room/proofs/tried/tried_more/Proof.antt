@@ -8,7 +8,7 @@ use native.Mathlib.Omega.{arith}
 use lib.ListN.{length}
 use Rattle.model.specs.Entry.{sizeFits}
 use Rattle.call.specs.Calls.{CallAs}
-use Rattle.call_lent.specs.Said.{callOf}
+use Rattle.call.specs.Said.{callOf}
 use borrow.Author.Needs.{needs}
 use Rattle.call_room.proofs.tried.tried_more.Statement.{statement}
 use Rattle.call_room.proofs.tried.tried_more.Tie as tie
@@ -60,7 +60,8 @@ returns-4 c =
     let f : tie.After-first-more = c .before .before .before .before .before .before .before .before .before .before .before in
     let s = f .before .before .before .before .before .before in
     let a = c .before .before .with-all2 in
-    subst (λ (ws : List ℕ). CallAs ws (s .args .lists) (callOf (s .args .said) (s .args .symbols .now)) (a .result) (a .last .0)) (f .first-more .ensures .short (c .before .before .before .before .before .before .if2 .left)) (a .ensures)
+    subst (λ (ws : List ℕ). CallAs ws (s .args .lists) (callOf (s .args .said) (s .args .symbols .now)) (a .result) (a .last .0))
+    (f .first-more .ensures .short (c .before .before .before .before .before .before .if2 .left)) (a .ensures)
 
 pub tried-more-spec : {M : Type 1} → statement M
 tried-more-spec =

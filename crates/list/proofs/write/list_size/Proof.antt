@@ -8,7 +8,7 @@ use lib.ListN.{length, getD, take, drop, length-drop}
 use borrow.Author.Needs.{needs}
 use Rattle.model.specs.Listing.{ruleBlocks}
 use Rattle.model.proofs.Laws.Listing.{length-emitted}
-use Rattle.list.specs.Flat.{ruleWidth, flatRules, flatWidth, flatAutomaton}
+use Rattle.list.specs.Flat.{ruleWidth, flatRules, flatWidth, flatSheet}
 use Rattle.list.proofs.Flat.{others, length-more, blocks-none, blocks-few}
 use Rattle.list.proofs.write.list_size.Statement.{statement}
 use Rattle.list.proofs.write.list_size.Tie as tie
@@ -87,7 +87,7 @@ returns c =
     let s = c .before .before .before .before .before in
     let ns : List ℕ = s .args .counts .now in
     let l = c .before .loop in
-    omega (arith, l .inv .1, ap length (blocks-none ns (l .left .now) (c .loop-test .left)), length-emitted (flatAutomaton ns (s .args .finals .now) (s .args .rules .now)))
+    omega (arith, l .inv .1, ap length (blocks-none ns (l .left .now) (c .loop-test .left)), length-emitted (flatSheet ns (s .args .finals .now) (s .args .rules .now)))
 
 pub list-size-spec : {M : Type 1} → statement M
 list-size-spec =

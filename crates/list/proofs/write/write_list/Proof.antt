@@ -6,13 +6,13 @@ use native.Mathlib.Omega.{arith}
 use lib.ListN.{length}
 use borrow.Author.Needs.{needs}
 use Rattle.model.specs.Listing.{emitted}
-use Rattle.list.specs.Flat.{flatAutomaton}
+use Rattle.list.specs.Flat.{flatSheet}
 use Rattle.list.proofs.Flat.{blocks-few}
 use Rattle.list.proofs.Writing.{blocks, length-list, list-put}
 use Rattle.list.proofs.write.write_list.Statement.{statement}
 use Rattle.list.proofs.write.write_list.Tie as tie
 
-size : (s : tie.Start) → length (emitted (flatAutomaton (s .args .counts .now) (s .args .finals .now) (s .args .rules .now))) ≡
+size : (s : tie.Start) → length (emitted (flatSheet (s .args .counts .now) (s .args .finals .now) (s .args .rules .now))) ≡
     12 + length (s .args .counts .now) + length (s .args .finals .now) + length (blocks (s .args .counts .now) (s .args .rules .now))
 size s = length-list (s .args .counts .now) (s .args .finals .now) (s .args .rules .now)
 
@@ -22,7 +22,7 @@ After = tie.After-put-rules
 abbrev start : After → tie.Start
 start r = r .before .before .before .before .before .before .before .before .before .before .before .before .before .before
 
-ends : (r : After) → r .put-rules .result ≡ length (emitted (flatAutomaton (start r .args .counts .now) (start r .args .finals .now) (start r .args .rules .now)))
+ends : (r : After) → r .put-rules .result ≡ length (emitted (flatSheet (start r .args .counts .now) (start r .args .finals .now) (start r .args .rules .now)))
 ends r =
     let d = r .before .before .before .before in
     let b = d .before .before .before .before in

@@ -38,7 +38,7 @@ kids-in-requires : tie.Need-kids-in-requires Inv-loop μ-loop
 kids-in-requires c κs =
     let s = c .before .before .before .before .before .before .before in
     let a = record-at (s .args .words .now) (s .args .counts .now) (s .args .used) (s .args .t .now) (s .pre .2) (c .before .before .loop .k) (omega arith) in
-    record { good = s .pre .0; room = s .pre .1; beyond = a .0; within = a .1 }
+    (record { good = s .pre .0; room = s .pre .1 }, a .0, a .1)
 
 returns : tie.Need-returns Inv-loop μ-loop
 returns c =

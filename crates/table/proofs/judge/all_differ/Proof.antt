@@ -8,17 +8,17 @@ use borrow.Author.Needs.{needs}
 use borrow.Author.Tests.{not-true, not-false}
 use lib.ListN.{take, drop}
 use Rattle.model.specs.Sound.{allDiffer}
-use Rattle.table.specs.Answers.{rowAt}
+use Rattle.table.specs.Answers.{answersAt}
 use Rattle.table.proofs.Laws.Judge.{two-alike, differs-later, differ-all}
 use Rattle.table.proofs.judge.all_differ.Statement.{statement}
 use Rattle.table.proofs.judge.all_differ.Tie as tie
 
 abbrev Inv-loop : tie.InvT-loop
-Inv-loop table rules contexts places states q₀ q =
-    (q ≤ states) × (allDiffer (map (rowAt table contexts) (drop q (take states places))) ≡ allDiffer (map (rowAt table contexts) (take states places)))
+Inv-loop table rules contexts s-in-t states q₀ q =
+    (q ≤ states) × (allDiffer (map (answersAt table contexts) (drop q (take states s-in-t))) ≡ allDiffer (map (answersAt table contexts) (take states s-in-t)))
 
 abbrev μ-loop : tie.MeasureT-loop
-μ-loop table rules contexts places states q₀ q = states - q
+μ-loop table rules contexts s-in-t states q₀ q = states - q
 
 loop-holds : tie.Need-loop-holds Inv-loop μ-loop
 loop-holds c = (search needs, refl)
@@ -44,7 +44,7 @@ returns : tie.Need-returns Inv-loop μ-loop
 returns c =
     let s = c .before .before .before .before .before .before in
     let l = c .before .before .before .before .loop in
-    two-alike (rowAt (s .args .table .now) (s .args .contexts)) (s .args .states) (s .args .places .now) (omega (arith, s .pre .1 .long, s .pre .1 .few)) (l .q) _ (l .inv .1) (omega arith) (sym (c .before .differs .ensures) ∙ not-true (c .before .differs .result) (c .if1 .taken))
+    two-alike (answersAt (s .args .table .now) (s .args .contexts)) (s .args .states) (s .args .s-in-t .now) (omega (arith, s .pre .1 .long, s .pre .1 .few)) (l .q) _ (l .inv .1) (omega arith) (sym (c .before .differs .ensures) ∙ not-true (c .before .differs .result) (c .if1 .taken))
 
 add-q : tie.Need-add-q Inv-loop μ-loop
 add-q c = search needs
@@ -56,13 +56,13 @@ loop-again : tie.Need-loop-again Inv-loop μ-loop
 loop-again c =
     let s = c .before .before .before .before .before .before in
     let l = c .before .before .before .before .loop in
-    (omega arith, differs-later (rowAt (s .args .table .now) (s .args .contexts)) (s .args .states) (s .args .places .now) (omega (arith, s .pre .1 .long, s .pre .1 .few)) (l .q) _ (l .inv .1) (omega arith) (sym (c .before .differs .ensures) ∙ not-false (c .before .differs .result) (c .if1 .left)))
+    (omega arith, differs-later (answersAt (s .args .table .now) (s .args .contexts)) (s .args .states) (s .args .s-in-t .now) (omega (arith, s .pre .1 .long, s .pre .1 .few)) (l .q) _ (l .inv .1) (omega arith) (sym (c .before .differs .ensures) ∙ not-false (c .before .differs .result) (c .if1 .left)))
 
 returns-2 : tie.Need-returns-2 Inv-loop μ-loop
 returns-2 c =
     let s = c .before .before .before in
     let l = c .before .loop in
-    differ-all (rowAt (s .args .table .now) (s .args .contexts)) (s .args .states) (s .args .places .now) (omega (arith, s .pre .1 .long, s .pre .1 .few)) (l .q) _ (l .inv .1) (omega arith)
+    differ-all (answersAt (s .args .table .now) (s .args .contexts)) (s .args .states) (s .args .s-in-t .now) (omega (arith, s .pre .1 .long, s .pre .1 .few)) (l .q) _ (l .inv .1) (omega arith)
 
 pub all-differ-spec : {M : Type 1} → statement M
 all-differ-spec =

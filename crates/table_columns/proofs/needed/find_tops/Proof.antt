@@ -6,7 +6,7 @@ use native.Mathlib.Omega.{arith}
 use borrow.Author.Needs.{needs}
 use lib.ListN.{length, getD, set, length-set}
 use lib.Seq.{getD-set-same, getD-set-other}
-use Rattle.bank.proofs.Laws.Trees.{by-equal}
+use Rattle.model.proofs.Laws.Tests.{by-equal}
 use Rattle.bank.specs.Notes.{roomIn}
 use Rattle.table_columns.proofs.needed.find_tops.Statement.{statement}
 use Rattle.table_columns.proofs.needed.find_tops.Tie as tie

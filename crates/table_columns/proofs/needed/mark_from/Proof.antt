@@ -6,8 +6,8 @@ use native.Mathlib.Omega.{arith}
 use borrow.Author.Needs.{needs}
 use lib.ListN.{length, getD, length-set, set}
 use Rattle.model.specs.Entry.{storeOf}
+use Rattle.model.proofs.Laws.Tests.{by-equal}
 use Rattle.bank.specs.Index.{holeOf}
-use Rattle.bank.proofs.Laws.Trees.{by-equal}
 use Rattle.table_columns.specs.Columns.{holeKid}
 use Rattle.bank.specs.Notes.{roomIn}
 use Rattle.table_columns.specs.Notes.{markNote, HoledMarks, StayMarked}
@@ -100,13 +100,15 @@ loop-again c =
     let z = roomIn (s .args .notes .now) in
     let x = storeOf (s .args .words .now) (s .args .counts .now) (s .args .used) in
     let ix = s .args .index .now in
+    let kid = holeKid x ix (l .at) in
+    let back : kid ≡ k .result .0 = sym {b = kid} (k .ensures .0) in
     let some : 0 < l .at = by-equal (l .at) 0 (λ e. absurd (c .before .before .before .loop-test .taken e)) (λ e. omega arith) in
     let holed = l .inv .1 some in
     let fits : 3 * z + l .at < length (l .notes) = omega (arith, l .inv .0, l .inv .5, s .pre .5) in (
       omega (arith, k .ensures .1, l .inv .0),
-      (λ a. subst (λ (i : ℕ). getD ix (holeOf i) 0 ≡ 0 → ⊥) (sym (k .ensures .0)) (kid-holed (s .pre .0) (l .at) (l .inv .0) holed (omega (arith, k .ensures .0)))),
+      (λ a. subst (λ (i : ℕ). getD ix (holeOf i) 0 ≡ 0 → ⊥) {x = kid} back (kid-holed (s .pre .0) (l .at) (l .inv .0) holed (omega (arith, k .ensures .0)))),
       holed-more z (l .at) fits (l .inv .2) holed,
-      subst (λ (i : ℕ). OpenMarks x ix z (s .args .used) i (set (l .notes) (3 * z + l .at) 1)) (sym (k .ensures .0)) (open-more z (l .at) fits (l .inv .3)),
+      subst (λ (i : ℕ). OpenMarks x ix z (s .args .used) i (set (l .notes) (3 * z + l .at) 1)) {x = kid} back (open-more z (l .at) fits (l .inv .3)),
       (λ i m. mark-stays z (l .notes) (l .at) fits i (l .inv .4 i m)),
       simp length-set (l .inv .5),
       (λ n. by-equal (s .args .row .0) (l .at) (λ e o. omega (arith, mark-own z (l .notes) (l .at) fits (s .args .row .0) e))

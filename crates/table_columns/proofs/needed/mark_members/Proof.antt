@@ -6,7 +6,7 @@ use native.Mathlib.Omega.{arith}
 use borrow.Author.Needs.{needs}
 use lib.ListN.{length, getD}
 use Rattle.model.specs.Entry.{storeOf}
-use Rattle.bank.proofs.Laws.Trees.{by-equal}
+use Rattle.model.proofs.Laws.Tests.{by-equal}
 use Rattle.bank.specs.Notes.{roomIn}
 use Rattle.table_columns.specs.Notes.{markNote, MembersMarked, HoledMarks, KidsMarked, StayMarked}
 use Rattle.table_columns.proofs.Laws.Marks.{members-used, members-holed}

@@ -101,10 +101,13 @@ find-runs-requires c κs =
     (omega (arith, list-room l, s .pre .2), omega (arith, s .pre .0 .finding .few))
 
 same-length : tie.Need-same-length
-same-length c = search needs
+same-length c =
+    let r : Ran = c .before .before in
+    let l = listed (found r) in
+    r .find-runs .kept .1 .0 ∙ l .list-marked .kept .1 .1 .1 .1 .0 ∙ m l .mark-needed .kept .1 .1 .1 .1 .1 .0
 
 same-length-2 : tie.Need-same-length-2
-same-length-2 c = search needs
+same-length-2 c = let r : Ran = c .before .before in found r .find-tops .kept .1 .1 .0
 
 returns : tie.Need-returns
 returns c =

@@ -14,7 +14,7 @@ use Rattle.bank.specs.Rows.{symbolIn, kidIn}
 use Rattle.text.specs.Bytes.{comma, opening}
 use Rattle.text.specs.Written.{letterOf, others, rowText}
 use Rattle.text_print.proofs.Laws.Runs.{Run, run-of, run-long}
-use Rattle.text_print.proofs.Laws.Printing.{texts, few-kids, count-is, kid-early, text-some, list-end, more-long, node-long}
+use Rattle.text_print.proofs.Laws.Printing.{texts, count-is, kid-early, text-some, list-end, more-long, node-long}
 use Rattle.text_print.proofs.Laws.Printed.{prints-end, prints-more, prints-leaf, prints-node}
 use Rattle.text_print.proofs.print.print_list.Reads as print-list
 use Rattle.text_print.proofs.print.print_list.Kinds as print-list-kinds
@@ -103,7 +103,7 @@ counted : (t : ℕ) (c : L-Counted t) → c .count-of .result ≡ l-count t c
 counted t c = c .count-of .ensures ∙ ap (λ (b : ℕ). getD (l-start t c .args .counts .now) b 0) (c .before .symbol-of .ensures)
 
 few : (t : ℕ) (c : L-Counted t) → l-count t c ≤ 4
-few t c = let s = l-start t c in few-kids (s .pre .1 .0) (s .args .row .0) (s .pre .1 .1)
+few t c = let s = l-start t c in s .pre .1 .0 .good .wide (symbolIn (s .args .words .now) (s .args .row .0))
 
 end-long : (t : ℕ) (c : L-Counted t) → l-start t c .args .place ≡ c .count-of .result → length (l-rest t c (l-start t c .args .place)) ≡ 1
 end-long t c e = let s = l-start t c in ap length (list-end (s .pre .1 .0) (s .args .row .0) (s .pre .1 .1) (s .args .letters .now) (s .args .place) (e ∙ counted t c))
@@ -180,7 +180,7 @@ print-list-kid-of-requires : (t : ℕ) → print-list-lts.Need-kid-of-requires (
 print-list-kid-of-requires t c κs = let s = l-start t (c .before) in (omega (arith, s .pre .1 .0 .room, s .pre .1 .1), omega (arith, left t c, few t (c .before)))
 
 print-list-cast-t17 : (t : ℕ) → print-list-lts.Need-cast-t17 (list-claims t) (print-list-at t) print-list.Post
-print-list-cast-t17 t c = let s = l-start t (c .before .before) in omega (arith, early t c, s .pre .1 .1, s .pre .1 .0 .few)
+print-list-cast-t17 t c = let s = l-start t (c .before .before) in omega (arith, early t c, s .pre .1 .1, s .fits .used)
 
 print-list-add-print-record : (t : ℕ) → print-list-lts.Need-add-print-record (list-claims t) (print-list-at t) print-list.Post
 print-list-add-print-record t c = search needs
@@ -341,7 +341,7 @@ print-record-kid-of-requires : (t : ℕ) → print-record-lts.Need-kid-of-requir
 print-record-kid-of-requires t c κs = search needs
 
 print-record-cast-t16 : (t : ℕ) → print-record-lts.Need-cast-t16 (record-claims t) (print-record-at t) print-record.Post
-print-record-cast-t16 t c = let s = r-start t (r-letter t c) in omega (arith, early-first t c, s .pre .1 .1, s .pre .1 .0 .few)
+print-record-cast-t16 t c = let s = r-start t (r-letter t c) in omega (arith, early-first t c, s .pre .1 .1, s .fits .used)
 
 print-record-add-print-record : (t : ℕ) → print-record-lts.Need-add-print-record (record-claims t) (print-record-at t) print-record.Post
 print-record-add-print-record t c = search needs

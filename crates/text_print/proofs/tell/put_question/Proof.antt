@@ -20,15 +20,15 @@ start c = c .before .before .before .before .before
 short : (c : tie.Then1) → let a = start (c .before) .args in length (rowText (a .letters .now) (storeOf (a .words .now) (a .counts .now) (a .used)) (a .row .0)) ≤ recordRoom
 short c =
     let s = start (c .before) in
-    question-short (s .pre .0) (s .args .row .0) (s .pre .1) (s .args .letters .now) (c .before .size-of .result) (c .before .size-of .ensures) (c .if1 .taken)
+    question-short (s .pre .0) (s .args .row .0) (s .pre .2) (s .args .letters .now) (c .before .size-of .result) (c .before .size-of .ensures) (c .if1 .taken)
 
 written : (c : tie.After-print-record) → let a = start (c .before .before .before) .args in
     Run (a .at) (questionText (a .letters .now) (storeOf (a .words .now) (a .counts .now) (a .used)) (a .row .0)) (a .out .now) (c .print-record .result) (c .print-record .last .1 .1 .1 .1 .1 .0)
 written c =
     let d = c .before .before in
     let s = start (d .before) in
-    let e = question-written (s .pre .0) (s .args .row .0) (s .pre .1) (s .args .letters .now) (d .before .size-of .result) (d .before .size-of .ensures) (d .if1 .taken) in
-    run-as e (run-of (c .print-record .ensures .0) (omega (arith, c .print-record .ensures .0, short d, s .pre .2)) (c .print-record .ensures .1))
+    let e = question-written (s .pre .0) (s .args .row .0) (s .pre .2) (s .args .letters .now) (d .before .size-of .result) (d .before .size-of .ensures) (d .if1 .taken) in
+    run-as e (run-of (c .print-record .ensures .0) (omega (arith, c .print-record .ensures .0, short d, s .pre .3)) (c .print-record .ensures .1))
 
 -- by its row
 abbrev worded : tie.After-put-number → tie.After-put-bytes
@@ -43,10 +43,10 @@ numbers c =
     let w = worded c in
     let d = large w in
     let s = start (d .before) in
-    let e = question-row (s .pre .0) (s .args .row .0) (s .pre .1) (s .args .letters .now) (d .before .size-of .result) (d .before .size-of .ensures) (d .if1 .left) in
+    let e = question-row (s .pre .0) (s .args .row .0) (s .pre .2) (s .args .letters .now) (d .before .size-of .result) (d .before .size-of .ensures) (d .if1 .left) in
     let x : Run (s .args .at) rowWord (s .args .out .now) (w .put-bytes .result) (w .put-bytes .last .0) =
-    run-of (w .put-bytes .ensures .0) (omega (arith, w .put-bytes .ensures .0, s .pre .2)) (w .put-bytes .ensures .1) in
-    run-as e (run-then x (run-of (c .put-number .ensures .0 .0) (omega (arith, c .put-number .ensures .0 .1, w .put-bytes .ensures .0, w .put-bytes .kept .0, s .pre .2)) (c .put-number .ensures .1)))
+    run-of (w .put-bytes .ensures .0) (omega (arith, w .put-bytes .ensures .0, s .pre .3)) (w .put-bytes .ensures .1) in
+    run-as e (run-then x (run-of (c .put-number .ensures .0 .0) (omega (arith, c .put-number .ensures .0 .1, w .put-bytes .ensures .0, w .put-bytes .kept .0, s .pre .3)) (c .put-number .ensures .1)))
 
 size-of-requires : tie.Need-size-of-requires
 size-of-requires c κs = search needs
@@ -55,7 +55,7 @@ cast-if1 : tie.Need-cast-if1
 cast-if1 c = search needs
 
 print-record-requires : tie.Need-print-record-requires
-print-record-requires c κs = let d = c .before in let s = start (d .before) in (s .pre .0, s .pre .1, omega (arith, short d, s .pre .2))
+print-record-requires c κs = let d = c .before in let s = start (d .before) in (s .pre .0, s .pre .2, omega (arith, short d, s .pre .3))
 
 same-length : tie.Need-same-length
 same-length c = search needs

@@ -44,7 +44,7 @@ tell-question-requires c κs =
     let t = c .before in
     let n = t .before .before .if1 .left in
     let s = start (t .before .before .before) in
-    (s .pre .0 .stored n (t .if3 .taken), s .pre .0 .within n (t .if3 .taken), s .pre .1)
+    (s .pre .0 .stored n (t .if3 .taken), s .pre .0 .few n (t .if3 .taken), s .pre .0 .within n (t .if3 .taken), s .pre .1)
 
 same-length-3 : tie.Need-same-length-3
 same-length-3 c = search needs

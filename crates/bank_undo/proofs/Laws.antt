@@ -1,3 +1,0 @@
--- The laws, in reading order: a file uses those above it.
-pub mod Words
-pub mod Left

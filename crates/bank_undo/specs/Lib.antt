@@ -1,2 +1,0 @@
-pub mod Saved
-pub mod Left
