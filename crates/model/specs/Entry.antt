@@ -1,7 +1,8 @@
 -- What each call of a host returns and leaves (§3), over the lent words and Lists: the definitions that the contracts name.
-use mathlib.Core.Bool.{Bool, true, false, _&&_, _||_, not, cond}
+use mathlib.Core.Path.{_≡_}
+use mathlib.Core.Bool.{Bool, _&&_, cond}
 use mathlib.Core.List.{List, [], _∷_, _++_}
-use Prim.Native.Nat.{ℕ, zero, suc, _+_, _*_, _/_, _%_}
+use Prim.Native.Nat.{ℕ, zero, suc, _/_, _%_}
 use lib.Dec.{leb, eqb}
 use lib.ListN.{length, getD, take, drop, replicate}
 use Rattle.model.specs.Limits.{rowWidth, mostRows, mostSymbols, mostStates, mostRules, mostContexts, mostChildren}
@@ -9,7 +10,7 @@ use Rattle.model.specs.Base.{isIn, over}
 use Rattle.model.specs.Store.{Node, Store}
 use Rattle.model.specs.Table.{Tables, tables}
 use Rattle.model.specs.Listing.{emitted, Read, broken, loaded, readList}
-use Rattle.model.specs.Calls.{Call, looks, emits, Outcome, refuses, leaves, numberOf, Look, look, sheetOf, call, startFault, started}
+use Rattle.model.specs.Calls.{Call, emits, Outcome, refuses, leaves, numberOf, Look, look, sheetOf, call, startFault, started}
 use Rattle.model.specs.declared.Lists.{Lists}
 use Rattle.model.specs.declared.Seen.{Seen}
 use Rattle.model.specs.declared.Emitted.{Emitted}
@@ -134,6 +135,13 @@ zeroLists =
       hand = 0;
       asked = 0;
     }
+
+-- the arrays of lists have the lengths of §2.2
+pub record Arrays (l : Lists) : Type 0 where
+  pub counts : length (l .counts) ≡ mostSymbols
+  pub s : length (l .s) ≡ mostStates
+  pub t : length (l .t) ≡ mostRules
+  pub c : length (l .c) ≡ mostContexts
 
 abbrev pub zeroedBy : Lists → Outcome → Lists
 zeroedBy l (refuses n) = l

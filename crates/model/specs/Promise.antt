@@ -6,7 +6,7 @@ use mathlib.Core.List.{List, [], _∷_, _++_, Sublistᴰ}
 use mathlib.Core.Option.{none, some}
 use Prim.Native.Nat.{ℕ, _+_, _≤_, _<_}
 use lib.ListN.{length, getD}
-use Rattle.model.specs.Limits.{mostSymbols, mostStates, mostRules, mostContexts, mostListed}
+use Rattle.model.specs.Limits.{mostStates, mostRules, mostListed}
 use Rattle.model.specs.Base.{among, allAmong, In, Each, Below}
 use Rattle.model.specs.Store.{Store, used, kidsAt, isRecord, Frame, filledRow, Spot, spotOf}
 use Rattle.model.specs.Terms.{Tree, Within, Over, treeAt, treeOf, symbolsOf, recordFault}
@@ -17,7 +17,7 @@ use Rattle.model.specs.Phase.{Sounds}
 use Rattle.model.specs.Listing.{Sheet, emitted, loaded, readList, finalsFit}
 use Rattle.model.specs.Steps.{lost, search, noneUnknown, unknown, seek, grow}
 use Rattle.model.specs.Calls.{Call, offers, answers, accept, looks, emits, refuses, numberOf, isAsking, phaseOf, sheetOf, faultOf, call}
-use Rattle.model.specs.Entry.{sizeFits, listsFit, startNumber, startSeen, callNumber, callSeen}
+use Rattle.model.specs.Entry.{sizeFits, listsFit, Arrays, startNumber, startSeen, callNumber, callSeen}
 use Rattle.model.specs.Due.{RowsShort, StatesShort, TransitionsShort}
 use Rattle.model.specs.Run.{Lent, meant, startedRun, afterCall, after, isTaken, takenOnly, taken, shown, grows, Said, said, saidIn, offeredBy, askedBy, heardIn, agreesWith}
 use Rattle.model.specs.declared.Lists.{Lists}
@@ -30,12 +30,6 @@ abbrev pub RefusedUntouched : Type 0
 RefusedUntouched = (l : Lent) (k : Call) → isTaken l k ≡ false → afterCall l k ≡ l
 
 -- looking and emitting change nothing, in lists whose arrays have the lengths of §2.2
-pub record Arrays (l : Lists) : Type 0 where
-  pub counts : length (l .counts) ≡ mostSymbols
-  pub s : length (l .s) ≡ mostStates
-  pub t : length (l .t) ≡ mostRules
-  pub c : length (l .c) ≡ mostContexts
-
 abbrev pub onlyReads : Call → Bool
 onlyReads (offers xs m) = false
 onlyReads (answers m) = false

@@ -81,10 +81,7 @@ pub fn asking(lists: Lists, hand: Row, row: Row, used: u16) -> Lists
 pub fn closed(lists: Lists) -> Lists
     ensures { λ r. ⌜ r ≡ closedOf lists ⌝ }
 {
-    let mut left = lists;
-    left.asked = 0;
-    left.accepted = 0;
-    left
+    asking(lists, Row(lists.hand), Row(0), lists.used)
 }
 
 // A record is in hand.

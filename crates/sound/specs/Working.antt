@@ -22,7 +22,7 @@ use Rattle.sound.specs.Given.{rolesFit, questionFits}
 use Rattle.sound.specs.declared.Standing.{Standing}
 
 -- the run's lists in their arrays: the first q of S, the first n of T, the first m of C
-pub record Arrays (s : List ℕ) (q : ℕ) (t : List ℕ) (n : ℕ) (c : List ℕ) (m : ℕ) : Type 0 where
+pub record Counted (s : List ℕ) (q : ℕ) (t : List ℕ) (n : ℕ) (c : List ℕ) (m : ℕ) : Type 0 where
   pub few-s : q ≤ length s
   pub few-t : n ≤ length t
   pub few-c : m ≤ length c

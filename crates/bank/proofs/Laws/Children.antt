@@ -64,11 +64,8 @@ module _ {ws ns : List ℕ} {n : ℕ} (r : Stored ws ns n) (i : ℕ) (h : i < n)
     pub row-known : symbolIn ws i < length ns
     row-known = omega (arith, r .good .row i positive row-used .known, row-symbol)
 
-    pub row-count : getD ns (symbolIn ws i) 0 ≡ length (kidsAt (storeOf ws ns n) i)
-    row-count = count-kids
-
     pub row-few : length (kidsAt (storeOf ws ns n) i) ≤ 4
-    row-few = omega (arith, row-count, r .good .wide (symbolIn ws i))
+    row-few = omega (arith, count-kids, r .good .wide (symbolIn ws i))
 
     pub row-early : (k : ℕ) → k < length (kidsAt (storeOf ws ns n) i) → getD (kidsAt (storeOf ws ns n) i) k 0 < i
     row-early k l = below-at (r .good .row i positive row-used .below) k l
@@ -76,7 +73,7 @@ module _ {ws ns : List ℕ} {n : ℕ} (r : Stored ws ns n) (i : ℕ) (h : i < n)
     pub row-kid : (k : ℕ) → k < length (kidsAt (storeOf ws ns n) i) → kidIn ws i k ≡ getD (kidsAt (storeOf ws ns n) i) k 0
     row-kid k l =
         let f = row-few in
-        let c = row-count in
+        let c = count-kids in
         sym (ap (λ (ks : List ℕ). getD ks k 0) (kids-in ws ns n i h (r .room)) ∙ getD-take (getD ns (symbolIn ws i) 0) (placesIn ws i) k 0 (omega arith) ∙ place-at ws i k (omega arith))
 
     -- the word itself

@@ -15,8 +15,9 @@ use Rattle.model.specs.Store.{padded, kidsAt}
 use Rattle.model.specs.Facts.{Good}
 use Rattle.model.specs.Entry.{storeOf}
 use Rattle.model.proofs.Laws.Tests.{by-equal}
+use Rattle.model.proofs.Laws.Lists.{zeros}
 use Rattle.bank.specs.Rows.{symbolIn, kidIn, placesIn}
-use Rattle.bank.specs.Index.{linkOf, headOf, bucketFor, keyFor, Leads, here, on, Slot, head, link, Treed, NoTwins, Way, start, step, ShortWalks}
+use Rattle.bank.specs.Index.{linkOf, bucketFor, keyFor, Leads, here, on, Slot, head, link, Treed, NoTwins, Way, start, step, ShortWalks}
 use Rattle.bank.specs.Bank.{Bank}
 use Rattle.bank.proofs.Laws.Words.{used-of, symbol-in, places-in}
 use Rattle.bank.proofs.Laws.Trees.{bucket-small, slot-below}
@@ -168,11 +169,6 @@ way-short {z} {ws} {n} {xs} x room t small {s = s} (step {digits = bs} b u c w n
     go false p = absurd (twins (ltb-false (length bs) 62 p))
 
 -- OVER A TABLE that is ready: children are earlier rows, and unused places 0
-zeros : (c k : ℕ) → _≡_ {A = ℕ} (getD (replicate c 0) k 0) 0
-zeros zero k = refl
-zeros (suc c) zero = refl
-zeros (suc c) (suc k) = zeros c k
-
 padded-below : {i m : ℕ} {ks : List ℕ} → Below i ks → i ≤ m → 0 < m → (c k : ℕ) → getD (ks ++ replicate c 0) k 0 < m
 padded-below none-below l y c k = rw (zeros c k) y
 padded-below (one-below a b) l y c zero = omega arith

@@ -13,12 +13,13 @@ use Rattle.model.proofs.Laws.Fill.{fill-is, frame-ext, frame-asks}
 use Rattle.bank.specs.Rows.{symbolIn, kidIn, placesIn}
 use Rattle.bank.specs.Bank.{Bank, Lent, frameAt, pathOf}
 use Rattle.bank.proofs.Laws.Words.{used-of}
+use Rattle.bank.proofs.Laws.Children.{bank-stored, row-beyond, row-kid}
 use Rattle.bank_fill.specs.declared.add.Grown.{Grown}
 use Rattle.bank_fill.specs.Adding.{grownRow, holeAbove, Put, FramesAsked}
 use Rattle.bank_fill.proofs.Laws.Coming.{Comes, comes-by, comes-same, comes-row, Stage, stage, not-full}
 use Rattle.bank_fill.proofs.Laws.Adding.{lent-of}
-use Rattle.bank_fill.proofs.Laws.Above.{frame-four, above-comes}
-use Rattle.bank_fill.proofs.Laws.Paths.{fits-head, fits-tail, path-none, path-step, kid-before, kid-word}
+use Rattle.bank_fill.proofs.Laws.Above.{frame-place, frame-four, above-comes}
+use Rattle.bank_fill.proofs.Laws.Paths.{fits-head, fits-tail, path-none, path-step, kid-before}
 
 -- the store that some frames were filled into
 pub record Reached (ws ns : List ℕ) (n : ℕ) (fs : List Frame) (i j u : ℕ) (ws' xs : List ℕ) : Type 0 where
@@ -116,7 +117,10 @@ module _ {ws ns : List ℕ} {n : ℕ} {xs ds : List ℕ} {row i : ℕ} (q : Fram
 
   module _ (kid : ℕ) (e : kid ≡ kidIn ws row (getD ds row 0 - 1)) where
     kid-is : kid ≡ getD (kidsAt (storeOf ws ns n) row) (getD ds row 0 - 1) 0
-    kid-is = e ∙ sym (kid-word ws ns n row (getD ds row 0 - 1) (q .bank .finding .room) (q .row-used) (q .bank .good) frame-fits)
+    kid-is =
+        let b = bank-stored (q .bank) in
+        let k = frame-place (storeOf ws ns n) (q .bank .good) row (getD ds row 0 - 1) low frame-fits in
+        e ∙ row-kid b row (q .row-used) (row-beyond b row (q .row-used) (getD ds row 0 - 1) k) (getD ds row 0 - 1) k
 
     pub down-falls : kid < row
     down-falls = let k = kid-before ds (storeOf ws ns n) (q .bank .good) row (getD ds row 0 - 1) low frame-fits in omega (arith, kid-is)

@@ -2,20 +2,15 @@
 -- A frame that fits is around a child, which is an earlier row, so fuel past the row's number makes no difference.
 use mathlib.Core.Path.{_≡_, refl, ap, subst, _∙_}
 use mathlib.Core.List.{List, [], _∷_}
-use Prim.Native.Nat.{ℕ, zero, suc, _*_, _-_, _≤_, _<_}
+use Prim.Native.Nat.{ℕ, zero, suc, _-_, _<_}
 use native.Mathlib.Omega.{arith}
-use lib.ListN.{length, getD}
-use lib.Seq.{getD-take}
-use Rattle.model.specs.Limits.{rowWidth}
+use lib.ListN.{getD}
 use Rattle.model.specs.Store.{Store, Frame, used, kidsAt}
 use Rattle.model.specs.Facts.{Good, FrameFits, Fits, fits-cons}
-use Rattle.model.specs.Entry.{storeOf}
 use Rattle.model.proofs.Laws.Fold.{earlier}
-use Rattle.bank.specs.Rows.{symbolIn, kidIn, placesIn}
 use Rattle.bank.specs.Bank.{frameAt, pathBy, pathFrom, pathOf}
-use Rattle.bank.proofs.Laws.Words.{used-of, symbol-in, kids-in}
-use Rattle.bank.proofs.Laws.Children.{place-at, below-at}
-use Rattle.bank_fill.proofs.Laws.Above.{frame-some, frame-place, frame-four}
+use Rattle.bank.proofs.Laws.Children.{below-at}
+use Rattle.bank_fill.proofs.Laws.Above.{frame-place}
 
 pub fits-head : {x : Store} {f : Frame} {fs : List Frame} → Fits x (f ∷ fs) → FrameFits x f
 fits-head (fits-cons q qs) = q
@@ -52,15 +47,3 @@ module _ (ds : List ℕ) (x : Store) (g : Good x) where
       let h = subst (λ (fs : List Frame). Fits x fs) s f in
       let k = kid-before i (getD ds i 0 - 1) u (fits-head h) in
       s ∙ ap (λ (fs : List Frame). frameAt x i (getD ds i 0 - 1) ∷ fs) (path-fuel i (suc (getD (kidsAt x i) (getD ds i 0 - 1) 0)) (getD (kidsAt x i) (getD ds i 0 - 1) 0) (omega arith) k (omega arith) (fits-tail h))
-
--- a child among the words
-pub kid-word : (ws ns : List ℕ) (n i k : ℕ) → rowWidth * n ≤ length ws → i < n → Good (storeOf ws ns n) → FrameFits (storeOf ws ns n) (frameAt (storeOf ws ns n) i k) →
-    getD (kidsAt (storeOf ws ns n) i) k 0 ≡ kidIn ws i k
-kid-word ws ns n i k w l g q =
-    let u : i < used (storeOf ws ns n) = omega (arith, used-of ws ns n) in
-    let p = frame-place (storeOf ws ns n) g i k u q in
-    let a = g .row i (frame-some (storeOf ws ns n) g i k u q) u .arity in
-    let e = kids-in ws ns n i l w in
-    let s = ap (λ (b : ℕ). getD ns b 0) (symbol-in ws ns n i l) in
-    let c : k < getD ns (symbolIn ws i) 0 = omega arith in
-    ap (λ (ks : List ℕ). getD ks k 0) e ∙ getD-take (getD ns (symbolIn ws i) 0) (placesIn ws i) k 0 c ∙ place-at ws i k (frame-four (storeOf ws ns n) g i k u q)

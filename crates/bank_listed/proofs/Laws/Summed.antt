@@ -14,7 +14,7 @@ use Rattle.model.specs.Entry.{storeOf}
 use Rattle.model.specs.Terms.{sizeOf, mostCounted, cut}
 use Rattle.model.proofs.Laws.Fold.{fold-eq, earlier}
 use Rattle.bank.specs.Rows.{symbolIn, kidIn}
-use Rattle.bank.proofs.Laws.Children.{row-used, row-count, row-kid, word-early}
+use Rattle.bank.proofs.Laws.Children.{row-used, count-kids, row-kid, word-early}
 use Rattle.bank_listed.specs.Sizes.{Sizing}
 use Rattle.bank_listed.proofs.Laws.Cut.{cut-most, cut-part}
 
@@ -57,7 +57,7 @@ module _ {x : Store} {i k size : ℕ} (s : Summed x i k size) where
 -- A ROW AMONG THE WORDS, past row 0
 module _ {ws ns : List ℕ} {n : ℕ} {ss : List ℕ} {i : ℕ} (z : Sizing ws ns n ss i) (p : 0 < i) (l : i < n) where
   count-is : getD ns (symbolIn ws i) 0 ≡ length (kidsAt (storeOf ws ns n) i)
-  count-is = row-count (z .rows) i l p
+  count-is = count-kids (z .rows) i l
 
   pub starts : Summed (storeOf ws ns n) i 0 1
   starts = summed-start (storeOf ws ns n) (z .rows .good) i (row-used (z .rows) i l)

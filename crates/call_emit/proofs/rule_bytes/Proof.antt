@@ -9,7 +9,7 @@ use lib.ListN.{length, getD, length-set}
 use Rattle.model.specs.Base.{placeOf}
 use Rattle.model.specs.Store.{Store, kidsAt}
 use Rattle.model.specs.Entry.{storeOf}
-use Rattle.bank.proofs.Laws.Children.{row-within, row-symbol, row-known, row-count, row-few, row-early, row-kid}
+use Rattle.bank.proofs.Laws.Children.{row-within, row-symbol, row-known, count-kids, row-few, row-early, row-kid}
 use Rattle.call_emit.proofs.Laws.Transition.{row-used, symbol-small, kid-place, target-place}
 use Rattle.call_emit.proofs.Laws.Rule.{RuleTo, rule-start, rule-more, rule-end}
 use Rattle.call_emit.proofs.rule_bytes.Statement.{statement}
@@ -112,7 +112,7 @@ loop-holds c =
     let s : Start = c .before .before .before .before .before .before in
     let e = c .before .symbol-of .ensures in (
       rule-start (store s) (states s) (row s) (c .before .symbol-of .result) (e ∙ row-symbol (s .pre .0) (row s) (used s)),
-      ap (λ (a : ℕ). getD (s .args .counts .now) a 0) e ∙ row-count (s .pre .0) (row s) (used s) (some s),
+      ap (λ (a : ℕ). getD (s .args .counts .now) a 0) e ∙ count-kids (s .pre .0) (row s) (used s),
     )
 
 kid-of-requires : tie.Need-kid-of-requires Inv-loop μ-loop
@@ -192,7 +192,7 @@ returns c =
     let s : Start = begun e in
     let l = e .before .before .before .before .loop in
     let few-kids = row-few (s .pre .0) (row s) (used s) (some s) in
-    let count = ap (λ (a : ℕ). getD (s .args .counts .now) a 0) (sym (row-symbol (s .pre .0) (row s) (used s))) ∙ row-count (s .pre .0) (row s) (used s) (some s) in
+    let count = ap (λ (a : ℕ). getD (s .args .counts .now) a 0) (sym (row-symbol (s .pre .0) (row s) (used s))) ∙ count-kids (s .pre .0) (row s) (used s) in
     let whole : length (kidsAt (store s) (row s)) ≤ l .i = omega (arith, e .before .before .before .loop-test .left, l .inv .1) in (
       length-set (l .bytes) 5 (e .state-of2 .result .0) ∙ l .inv .0 .long,
       rule-end (store s) (states s) (row s) (s .args .reps .now) (l .inv .0) whole few-kids count (e .state-of2 .result .0) (target e),

@@ -1,12 +1,8 @@
 -- `call_read::read_in` meets its contract: 30 for unsound tables; of sound ones what is wanted. With no question open the representatives give the proposal.
-use mathlib.Core.Path.{_≡_, sym, subst, _∙_}
-use native.Mathlib.Omega.{arith}
+use mathlib.Core.Path.{sym, subst, _∙_}
 use borrow.Author.Tests.{not-true, not-false}
 use borrow.Author.Needs.{needs}
-use lib.ListN.{length}
-use Rattle.model.specs.Limits.{mostContexts, mostRules, mostStates}
-use Rattle.model.proofs.Laws.Lent.{listsFit-facts}
-use Rattle.sound.specs.Working.{Arrays}
+use Rattle.model.specs.Entry.{Arrays}
 use Rattle.sound.specs.Proposal.{Proposal}
 use Rattle.sound.proofs.Laws.Proposal.{proposal}
 use Rattle.call_read.proofs.Laws.Reads.{reads-by, unsound-read, sound-look}
@@ -20,13 +16,8 @@ Tested = tie.After-lists-sound
 abbrev start : Tested → tie.Start
 start c = c .before .before .before .before .before .before .before .before .before
 
-arrays : (s : tie.Start) → Arrays (s .args .lists .s) (s .args .lists .states) (s .args .lists .t) (s .args .lists .rules) (s .args .lists .c) (s .args .lists .contexts)
-arrays s =
-    let f = listsFit-facts (s .args .lists) (s .pre .1) in
-    let a : length (s .args .lists .s) ≡ mostStates = search needs in
-    let b : length (s .args .lists .t) ≡ mostRules = search needs in
-    let d : length (s .args .lists .c) ≡ mostContexts = search needs in
-    record { few-s = omega (arith, f .states, a); few-t = omega (arith, f .rules, b); few-c = omega (arith, f .contexts, d) }
+arrays : (s : tie.Start) → Arrays (s .args .lists)
+arrays s = record { counts = search needs; s = search needs; t = search needs; c = search needs }
 
 lists-sound-requires : tie.Need-lists-sound-requires
 lists-sound-requires c κs = search needs
@@ -66,7 +57,7 @@ emit-sound-requires c κs =
     let e = not-false (t .lists-sound .result) (c .before .before .before .before .before .if1 .left) in
     let sound = sym (t .lists-sound .ensures .0) ∙ e in
     let w = t .lists-sound .ensures .1 e in
-    (s .pre .0, s .pre .1, sound, λ idle. subst (Proposal (s .args .words .now) (s .args .lists)) (sym (c .before .column .ensures)) (proposal (s .args .lists) (arrays s) w sound idle))
+    (s .pre .0, s .pre .1, sound, λ idle. subst (Proposal (s .args .words .now) (s .args .lists)) (sym (c .before .column .ensures)) (proposal (s .args .lists) (s .pre .1) (arrays s) w sound idle))
 
 same-length-4 : tie.Need-same-length-4
 same-length-4 c = search needs

@@ -9,13 +9,13 @@ use Rattle.model.specs.Terms.{unless}
 use Rattle.model.specs.Table.{Tables, tables}
 use Rattle.model.specs.Sound.{isSound}
 use Rattle.model.specs.Calls.{looks, accept, look, isAsking}
-use Rattle.model.specs.Entry.{sizeFits, listsFit, tablesOf, listsOf, seenOf, refused, callSeen}
+use Rattle.model.specs.Entry.{Arrays, sizeFits, listsFit, tablesOf, listsOf, seenOf, refused, callSeen}
 use Rattle.model.specs.declared.Lists.{Lists}
 use Rattle.model.specs.declared.Seen.{Seen}
 use Rattle.model.proofs.Laws.Lent.{lists-same, words-same, listsFit-facts, listsFit-true}
 use Rattle.call.proofs.Laws.Looked.{size-refused, lists-refused, unsound-refused, looked}
 use Rattle.run_lists.specs.Changes.{accepting}
-use Rattle.run_lists.proofs.Laws.Arrays.{Arrays, few-letters, few-states, few-rules, few-contexts}
+use Rattle.run_lists.proofs.Laws.Arrays.{few-letters, few-states, few-rules, few-contexts}
 use Rattle.sound.proofs.Laws.Within.{sound-within}
 use Rattle.call.specs.Calls.{CallAs}
 use Rattle.call.specs.declared.Done.{Done}

@@ -5,9 +5,8 @@ use lib.ListN.{length}
 use borrow.Author.Needs.{needs}
 use Rattle.model.specs.Limits.{mostContexts, mostRules, mostStates, mostSymbols}
 use Rattle.model.specs.Calls.{look}
-use Rattle.model.specs.Entry.{tablesOf, listsFit, seenOf}
+use Rattle.model.specs.Entry.{Arrays, tablesOf, listsFit, seenOf}
 use Rattle.model.specs.declared.Lists.{Lists}
-use Rattle.run_lists.proofs.Laws.Arrays.{Arrays}
 use Rattle.call_room.proofs.Laws.Accepted.{accepting-fit, look-refused, look-taken, accept-refused, accept-taken}
 use Rattle.call_room.proofs.accept.Statement.{statement}
 use Rattle.call_room.proofs.accept.Tie as tie

@@ -15,7 +15,7 @@ use Rattle.model.specs.Sound.{isSound}
 use Rattle.model.specs.Calls.{faultOf, doneBy, refuses, endOf, look}
 use Rattle.model.specs.TableFacts.{Few, Whole, HandFits}
 use Rattle.model.specs.Phase.{Sounds}
-use Rattle.model.specs.Entry.{storeOf, answersIn, sizeFits, lentFits, listsFit, tablesOf, listsOf, rowsLent, refused, seenOf}
+use Rattle.model.specs.Entry.{Arrays, storeOf, answersIn, sizeFits, lentFits, listsFit, tablesOf, listsOf, rowsLent, refused, seenOf}
 use Rattle.model.specs.declared.Lists.{Lists}
 use Rattle.model.proofs.Laws.Lent.{good-four, rows-within, listsFit-facts, listsFit-true, listsOf-within}
 use Rattle.model.proofs.Laws.Sounds.{sound-facts}
@@ -37,7 +37,7 @@ use Rattle.bank_fill.proofs.Laws.Left.{left-words, left-then, left-rows, left-a
 use Rattle.run_lists.specs.Members.{countsIn}
 use Rattle.run_lists.specs.Changes.{asking}
 use Rattle.run_lists.specs.Run.{Orderly, Run}
-use Rattle.run_lists.proofs.Laws.Arrays.{Arrays, few-states, few-rules, contexts-told}
+use Rattle.run_lists.proofs.Laws.Arrays.{few-states, few-rules, contexts-told}
 use Rattle.run_lists.proofs.Laws.Lists.{core-orderly}
 use Rattle.table.specs.Answers.{KnownRows}
 use Rattle.table.proofs.Laws.Known.{known-answered}

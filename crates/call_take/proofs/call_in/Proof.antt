@@ -5,14 +5,11 @@ use mathlib.Core.Bool.{true}
 use native.Mathlib.Omega.{arith}
 use borrow.Author.Tests.{not-true, not-false}
 use borrow.Author.Needs.{needs}
-use lib.ListN.{length}
-use Rattle.model.specs.Limits.{mostContexts, mostRules, mostStates}
 use Rattle.model.specs.Table.{Tables}
 use Rattle.model.specs.Sound.{isSound}
 use Rattle.model.specs.Calls.{Call, faultOf}
-use Rattle.model.specs.Entry.{tablesOf}
-use Rattle.model.proofs.Laws.Lent.{listsFit-facts}
-use Rattle.sound.specs.Working.{Arrays, WorkingOn}
+use Rattle.model.specs.Entry.{Arrays, tablesOf}
+use Rattle.sound.specs.Working.{WorkingOn}
 use Rattle.sound.specs.Proposal.{Proposal}
 use Rattle.sound.proofs.Laws.Proposal.{proposal}
 use Rattle.call.specs.Said.{callOf}
@@ -56,13 +53,8 @@ working : (e : tie.Else1) → WorkingOn (start (tested e) .args .words .now) (st
     (tested e .lists-sound .last .1 .1 .1 .1 .0)
 working e = tested e .lists-sound .ensures .1 (not-false (tested e .lists-sound .result) (e .if1 .left))
 
-arrays : (s : tie.Start) → Arrays (s .args .lists .s) (s .args .lists .states) (s .args .lists .t) (s .args .lists .rules) (s .args .lists .c) (s .args .lists .contexts)
-arrays s =
-    let f = listsFit-facts (s .args .lists) (s .pre .1) in
-    let a : length (s .args .lists .s) ≡ mostStates = search needs in
-    let b : length (s .args .lists .t) ≡ mostRules = search needs in
-    let d : length (s .args .lists .c) ≡ mostContexts = search needs in
-    record { few-s = omega (arith, f .states, a); few-t = omega (arith, f .rules, b); few-c = omega (arith, f .contexts, d) }
+arrays : (s : tie.Start) → Arrays (s .args .lists)
+arrays s = record { counts = search needs; s = search needs; t = search needs; c = search needs }
 
 lists-sound-requires : tie.Need-lists-sound-requires
 lists-sound-requires c κs = search needs
@@ -97,7 +89,7 @@ fault-of-requires c κs =
     let e : tie.Else1 = c .before .before .before .before in
     let s : tie.Start = start (tested e) in
     let w = working e in
-    (s .pre .1, w .bank, λ idle. subst (Proposal (s .args .words .now) (s .args .lists)) (sym (c .before .before .column .ensures)) (proposal (s .args .lists) (arrays s) w (sound e) idle))
+    (s .pre .1, w .bank, λ idle. subst (Proposal (s .args .words .now) (s .args .lists)) (sym (c .before .before .column .ensures)) (proposal (s .args .lists) (s .pre .1) (arrays s) w (sound e) idle))
 
 refuse-requires-2 : tie.Need-refuse-requires-2
 refuse-requires-2 c κs = search needs

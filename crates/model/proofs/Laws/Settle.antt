@@ -17,7 +17,7 @@ use Rattle.model.specs.Table.{answerAt, rowOf, Tables, answerIn, size, t
 use Rattle.model.specs.Steps.{ofStates, ofRows, ofTransitions, Shortage, Ended, Sought, asks, blanked, grow, noneUnknown, opened, proposed, proposes, seek, seekIn, settled, settledBy, short, unknown}
 use Rattle.model.specs.Facts.{IsContext, Filled, Fits, IsRecord}
 use Rattle.model.specs.TableFacts.{Missing, Tidy, Open, Whole, Known, Core, Held}
-use Rattle.model.proofs.Laws.Lists.{no-in, in-cons, first-in}
+use Rattle.model.proofs.Laws.Lists.{no-in, in-cons, first-in, zeros}
 use Rattle.model.proofs.Laws.Rows.{hole-ext}
 use Rattle.model.proofs.Laws.Fill.{fill-is, ext-refl}
 use Rattle.model.proofs.Laws.Filled.{leads-filled, answers-kept}
@@ -62,11 +62,6 @@ seek-is x w cs (i ∷ ts) = go (seek x w cs ts) (seek-is x w cs ts) (row-seeks x
     go r f (inr k) = rw (k .3) (first-unknown here (k .1) (k .2))
 
 -- ANSWERS of rows past the end
-zeros : (n m : ℕ) → _≡_ {A = ℕ} (getD (replicate n 0) m 0) 0
-zeros zero m = refl
-zeros (suc n) zero = refl
-zeros (suc n) (suc m) = zeros n m
-
 pub past : (w : List ℕ) (n i : ℕ) → getD (w ++ replicate n 0) i 0 ≡ getD w i 0
 past [] n i = zeros n i
 past (v ∷ w) n zero = refl

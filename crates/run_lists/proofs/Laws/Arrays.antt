@@ -1,4 +1,4 @@
--- The arrays of a run's lists, and their members in lists that fit: no more than an array holds, and as many as are told.
+-- The members of a run's lists in their arrays, in lists that fit: no more than an array holds, and as many as are told.
 -- The limits of lists that fit are the lengths of the arrays.
 use mathlib.Core.Path.{_≡_, sym}
 use mathlib.Core.Bool.{true}
@@ -6,17 +6,10 @@ use Prim.Native.Nat.{_≤_}
 use native.Mathlib.Omega.{arith}
 use lib.ListN.{length}
 use lib.Seq.{length-take-le}
-use Rattle.model.specs.Limits.{mostContexts, mostRules, mostStates, mostSymbols}
-use Rattle.model.specs.Entry.{listsFit}
+use Rattle.model.specs.Entry.{Arrays, listsFit}
 use Rattle.model.specs.declared.Lists.{Lists}
 use Rattle.model.proofs.Laws.Lent.{listsFit-facts}
 use Rattle.run_lists.specs.Members.{countsIn, statesIn, rulesIn, contextsIn}
-
-pub record Arrays (l : Lists) : Type 0 where
-  pub counts : length (l .counts) ≡ mostSymbols
-  pub s : length (l .s) ≡ mostStates
-  pub t : length (l .t) ≡ mostRules
-  pub c : length (l .c) ≡ mostContexts
 
 module _ {l : Lists} (fit : listsFit l ≡ true) (a : Arrays l) where
   pub few-letters : l .letters ≤ length (l .counts)

@@ -33,11 +33,11 @@ use Rattle.table_verdict.proofs.Laws.Tied.{Covers, covers-shaped, RepsOf, reps-
 use Rattle.bank_t1.specs.Pass.{holeBy}
 use Rattle.sound.proofs.Laws.Parts.{and-assoc}
 use Rattle.sound.specs.Given.{given, rolesFit, fewFit, tableFits, questionFits}
-use Rattle.sound.specs.Working.{Arrays, Working, preparedFit, judgedFit, handFits}
+use Rattle.sound.specs.Working.{Counted, Working, preparedFit, judgedFit, handFits}
 use Rattle.sound.proofs.Laws.Prepared.{two, three, four}
 use Rattle.sound.proofs.Laws.Hand.{and-false}
 
-module _ {ws ns : List ℕ} {u : ℕ} {s : List ℕ} {q : ℕ} {t : List ℕ} {n : ℕ} {c : List ℕ} {m : ℕ} {index table notes : List ℕ} (a : Arrays s q t n c m)
+module _ {ws ns : List ℕ} {u : ℕ} {s : List ℕ} {q : ℕ} {t : List ℕ} {n : ℕ} {c : List ℕ} {m : ℕ} {index table notes : List ℕ} (a : Counted s q t n c m)
     (w : Working ws ns u s q t n c m index table notes) where
   small : used (storeOf ws ns u) ≤ mostRows
   small = omega (arith, used-of ws ns u, w .bank .finding .few)

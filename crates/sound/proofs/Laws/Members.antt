@@ -16,7 +16,7 @@ use Rattle.table.specs.Answers.{Placing, Placed, gapFrom, isOpen}
 use Rattle.table_verdict.specs.Rules.{RepsIn}
 use Rattle.sound_roles.proofs.Laws.Scan.{stops, goes-on}
 use Rattle.sound.specs.Given.{given, tableFits}
-use Rattle.sound.specs.Working.{Arrays, Working, preparedFit, judgedFit, standingFits}
+use Rattle.sound.specs.Working.{Counted, Working, preparedFit, judgedFit, standingFits}
 use Rattle.sound.specs.declared.Standing.{Standing}
 use Rattle.sound.proofs.Laws.Judged.{missing-is, table-is, question-is, reps-read, hand-is, sound-parts}
 
@@ -38,15 +38,15 @@ module _ {ws ns : List ℕ} {u : ℕ} {s t c index table notes : List ℕ} (w : 
   whole : (h o : ℕ) (z : Bool) → given ws ns u s (length s) t (length t) c (length c) h o z ≡ tables (storeOf ws ns u) (answersIn u ws) s t c h o z
   whole h o z = λ i. tables (storeOf ws ns u) (answersIn u ws) (take-length s i) (take-length t i) (take-length c i) h o z
 
-  arrays : Arrays s (length s) t (length t) c (length c)
-  arrays = record { few-s = omega arith; few-t = omega arith; few-c = omega arith }
+  counted : Counted s (length s) t (length t) c (length c)
+  counted = record { few-s = omega arith; few-t = omega arith; few-c = omega arith }
 
   given-missing : b ≡ isMissing G
-  given-missing = missing ∙ missing-is arrays w (r .hand .0) (r .asked .0) (eqb (r .accepted) 1)
+  given-missing = missing ∙ missing-is counted w (r .hand .0) (r .asked .0) (eqb (r .accepted) 1)
 
   -- T4'S LAST CLAUSE, T5 AND T6
   table-given : tableFits table places (length s) (length t) (length c) b ≡ contextsFew G && (isT5 G && isT6 G)
-  table-given = table-is arrays w placing placed (r .hand .0) (r .asked .0) (eqb (r .accepted) 1) b given-missing
+  table-given = table-is counted w placing placed (r .hand .0) (r .asked .0) (eqb (r .accepted) 1) b given-missing
 
   module _ (p : preparedFit (tables (storeOf ws ns u) (answersIn u ws) s t c 0 0 false) ≡ true) where
     -- what is left of the test
@@ -64,11 +64,11 @@ module _ {ws ns : List ℕ} {u : ℕ} {s t c index table notes : List ℕ} (w : 
       table-fits = sym table-given ∙ f
 
       pub members-read : b ≡ false → RepsIn u (repsIn notes)
-      members-read e = reps-read arrays w prepared (r .hand .0) (r .asked .0) (eqb (r .accepted) 1) table-fits (sym given-missing ∙ e)
+      members-read e = reps-read counted w prepared (r .hand .0) (r .asked .0) (eqb (r .accepted) 1) table-fits (sym given-missing ∙ e)
 
       -- T7 AND T8
       pub standing-decides : standingFits ws ns u (repsIn notes) index r b ≡ isSound (tables (storeOf ws ns u) (answersIn u ws) s t c (r .hand .0) (r .asked .0) (eqb (r .accepted) 1))
       standing-decides =
-          let h = hand-is arrays w prepared (r .hand .0) (r .asked .0) (eqb (r .accepted) 1) table-fits b given-missing in
-          let q = question-is arrays w (r .hand .0) (r .asked .0) (r .accepted) b given-missing in
+          let h = hand-is counted w prepared (r .hand .0) (r .asked .0) (eqb (r .accepted) 1) table-fits b given-missing in
+          let q = question-is counted w (r .hand .0) (r .asked .0) (r .accepted) b given-missing in
           (λ i. h i && q i) ∙ goes-on (contextsFew G && (isT5 G && isT6 G)) (isT7 G && isT8 G) table-fits ∙ rest-is

@@ -6,17 +6,18 @@ use Prim.Native.Nat.{ℕ}
 use lib.Dec.{eqb}
 use Rattle.model.specs.Table.{Tables, isMissing}
 use Rattle.model.specs.Sound.{isSound, contextsFew, isT5, isT6, isT7, isT8}
-use Rattle.model.specs.Entry.{tablesOf}
+use Rattle.model.specs.Entry.{Arrays, listsFit, tablesOf}
 use Rattle.model.specs.declared.Lists.{Lists}
 use Rattle.model.proofs.Laws.Tests.{and-left, and-right}
 use Rattle.model.proofs.Laws.ReflectTable.{idle-of, known-back}
 use Rattle.bank.specs.Notes.{repsIn}
 use Rattle.bank.proofs.Laws.Children.{bank-stored}
-use Rattle.sound.specs.Working.{Arrays, WorkingOn, preparedFit, judgedFit}
+use Rattle.sound.specs.Working.{WorkingOn, preparedFit, judgedFit}
 use Rattle.sound.specs.Proposal.{Proposal}
+use Rattle.sound.proofs.Laws.Working.{counted}
 use Rattle.sound.proofs.Laws.Judged.{ruled, hypothesis-is, sound-parts}
 
-module _ {ws : List ℕ} (l : Lists) {index table notes : List ℕ} (a : Arrays (l .s) (l .states) (l .t) (l .rules) (l .c) (l .contexts)) (w : WorkingOn ws l index table notes)
+module _ {ws : List ℕ} (l : Lists) {index table notes : List ℕ} (fit : listsFit l ≡ true) (a : Arrays l) (w : WorkingOn ws l index table notes)
     (sound : isSound (tablesOf ws l) ≡ true) (idle : l .asked ≡ 0) where
   abbrev X : Tables
   X = tablesOf ws l
@@ -43,6 +44,6 @@ module _ {ws : List ℕ} (l : Lists) {index table notes : List ℕ} (a : Arrays 
   proposal =
       record {
         rows = bank-stored (w .bank);
-        ruled = ruled a w prepared (l .hand) (l .asked) (eqb (l .accepted) 1) table-fits known;
-        is = hypothesis-is a w prepared (l .hand) (l .asked) (eqb (l .accepted) 1) table-fits known;
+        ruled = ruled (counted fit a) w prepared (l .hand) (l .asked) (eqb (l .accepted) 1) table-fits known;
+        is = hypothesis-is (counted fit a) w prepared (l .hand) (l .asked) (eqb (l .accepted) 1) table-fits known;
       }

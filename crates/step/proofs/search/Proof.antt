@@ -2,9 +2,9 @@
 use Prim.Native.Nat.{ℕ}
 use borrow.Author.Needs.{needs, length-unmapped}
 use Rattle.model.specs.Limits.{mostContexts}
-use Rattle.model.specs.Entry.{tablesOf}
+use Rattle.model.specs.Entry.{Arrays, tablesOf}
 use Rattle.run_lists.specs.Members.{countsIn}
-use Rattle.run_lists.proofs.Laws.Arrays.{Arrays, few-letters, letters-told}
+use Rattle.run_lists.proofs.Laws.Arrays.{few-letters, letters-told}
 use Rattle.step_search.proofs.Laws.Among.{descended-rows}
 use Rattle.step_settle.proofs.Laws.Lists.{noted}
 use Rattle.step.proofs.search.Statement.{statement}

@@ -17,8 +17,8 @@ use Rattle.bank.specs.Rows.{kidIn}
 use Rattle.bank.specs.Bank.{Bank, placeCode, frameAt}
 use Rattle.bank.proofs.Laws.Words.{used-of}
 use Rattle.bank.proofs.Laws.Children.{bank-stored, row-used, row-kid, word-early}
+use Rattle.bank.proofs.Laws.Down.{step-none, step-some}
 use Rattle.step_search.specs.Spots.{exchangedBy, TurnsBy, DescendedBy}
-use Rattle.step_search.proofs.Laws.Steps.{step-none, step-some}
 
 -- ONE ROW
 pub record TurnIs (p : ℕ → Bool) (reps : List ℕ) (x : Store) (i spot row : ℕ) : Type 0 where

@@ -9,7 +9,7 @@ use lib.ListN.{length, getD}
 use Rattle.model.specs.Store.{kidsAt}
 use Rattle.model.specs.Entry.{storeOf}
 use Rattle.bank.specs.Bank.{Stored}
-use Rattle.bank.proofs.Laws.Children.{row-within, row-known, row-count, row-kid, word-early}
+use Rattle.bank.proofs.Laws.Children.{row-within, row-known, count-kids, row-kid, word-early}
 use Rattle.step_search.specs.Spots.{notOwn}
 use Rattle.step_search.proofs.Laws.Scan.{Scanning, scan-starts, scan-hits, scan-passes, scan-ends}
 use Rattle.step_search.proofs.first_outside.Statement.{statement}
@@ -50,7 +50,7 @@ loop-holds c =
     let s = c .before .before .before .before .before in
     let a = c .before .symbol-of in
     scan-starts (notOwn (s .args .reps .now)) (storeOf (s .args .words .now) (s .args .counts .now) (s .args .used)) (s .args .row .0) (getD (s .args .counts .now) (a .result) 0)
-    (ap (λ (v : ℕ). getD (s .args .counts .now) v 0) (a .ensures) ∙ row-count (rows s) (s .args .row .0) (s .pre .4) (s .pre .3)) (s .pre .0 .wide (a .result))
+    (ap (λ (v : ℕ). getD (s .args .counts .now) v 0) (a .ensures) ∙ count-kids (rows s) (s .args .row .0) (s .pre .4)) (s .pre .0 .wide (a .result))
 
 cast-kid-of : tie.Need-cast-kid-of Inv-loop μ-loop
 cast-kid-of c = search needs

@@ -12,7 +12,7 @@ use Rattle.model.specs.Store.{Store, Frame, Built, full, built, used, framesOf,
 use Rattle.model.specs.Table.{Tables, tables, rowOf}
 use Rattle.model.specs.Steps.{Shortage, Ended, short, asks, proposes, Sought, noneUnknown, unknown, seek, grow, blanked, opened, proposed, settledBy, settled}
 use Rattle.model.specs.Facts.{Fits}
-use Rattle.model.specs.Entry.{listsFit, tablesOf, listsOf}
+use Rattle.model.specs.Entry.{Arrays, listsFit, tablesOf, listsOf}
 use Rattle.model.specs.declared.Lists.{Lists}
 use Rattle.model.proofs.Laws.Fill.{fill-is}
 use Rattle.model.proofs.Laws.Down.{context-fits}
@@ -29,7 +29,7 @@ use Rattle.bank_fill.proofs.Laws.Left.{left-rows}
 use Rattle.run_lists.specs.Members.{countsIn, statesIn, rulesIn, contextsIn}
 use Rattle.run_lists.specs.Changes.{asking}
 use Rattle.run_lists.specs.Run.{Orderly, Run}
-use Rattle.run_lists.proofs.Laws.Arrays.{Arrays, few-letters, few-states, few-rules, few-contexts, states-told, rules-told, contexts-told}
+use Rattle.run_lists.proofs.Laws.Arrays.{few-letters, few-states, few-rules, few-contexts, states-told, rules-told, contexts-told}
 use Rattle.step_settle.specs.declared.Stepped.{Stepped}
 use Rattle.step_settle.specs.Stepped.{EndedAs, OpenedAs}
 use Rattle.step_settle.proofs.Laws.Lists.{kept-length, kept-over}

@@ -14,7 +14,7 @@ use Rattle.model.specs.Store.{Store, Frame, Built, full, built, used, fill}
 use Rattle.model.specs.Table.{Tables}
 use Rattle.model.specs.Steps.{Ended, short, asks, proposes, blanked, settled, putTables, putBy, putDown}
 use Rattle.model.specs.Facts.{IsContext}
-use Rattle.model.specs.Entry.{tablesOf, listsOf, listsFit}
+use Rattle.model.specs.Entry.{Arrays, tablesOf, listsOf, listsFit}
 use Rattle.model.specs.declared.Lists.{Lists}
 use Rattle.model.proofs.Laws.Lists.{in-snoc}
 use Rattle.model.proofs.Laws.Rows.{record-ext, context-ext}
@@ -31,7 +31,7 @@ use Rattle.bank_fill.proofs.Laws.Left.{left-rows, left-then}
 use Rattle.run_lists.specs.Members.{countsIn, contextsIn}
 use Rattle.run_lists.specs.Changes.{withContext}
 use Rattle.run_lists.specs.Run.{Orderly, Run}
-use Rattle.run_lists.proofs.Laws.Arrays.{Arrays, few-letters, few-states, few-rules, letters-told, states-told, rules-told}
+use Rattle.run_lists.proofs.Laws.Arrays.{few-letters, few-states, few-rules, letters-told, states-told, rules-told}
 use Rattle.run_lists.proofs.Laws.Lists.{lists-twice}
 use Rattle.table.specs.Answers.{Forgotten}
 use Rattle.table.proofs.Laws.Known.{forgotten-known}

@@ -15,7 +15,7 @@ use Rattle.model.specs.Store.{hasHole, framesOf, fill}
 use Rattle.model.specs.Table.{Tables, tables, rowOf}
 use Rattle.model.specs.Steps.{Sought, seek, grow, proposed, settledBy, settled}
 use Rattle.model.specs.Facts.{IsContext, Fits}
-use Rattle.model.specs.Entry.{tablesOf, listsOf}
+use Rattle.model.specs.Entry.{Arrays, tablesOf, listsOf}
 use Rattle.model.specs.declared.Lists.{Lists}
 use Rattle.model.proofs.Laws.Lists.{at-place, members-in, each-from}
 use Rattle.model.proofs.Laws.Down.{context-fits}
@@ -28,7 +28,7 @@ use Rattle.bank_fill.proofs.Laws.Left.{left-same}
 use Rattle.run_lists.specs.Members.{countsIn, statesIn, rulesIn, contextsIn}
 use Rattle.run_lists.specs.Changes.{proposing}
 use Rattle.run_lists.specs.Run.{Run}
-use Rattle.run_lists.proofs.Laws.Arrays.{Arrays, few-letters, few-rules, few-contexts, letters-told, rules-told, contexts-told}
+use Rattle.run_lists.proofs.Laws.Arrays.{few-letters, few-rules, few-contexts, letters-told, rules-told, contexts-told}
 use Rattle.table.specs.Answers.{Sized, Observed, KnownRows, ToGap, gapFrom, soughtBy}
 use Rattle.table.specs.declared.Gap.{Gap}
 use Rattle.table.proofs.Laws.ToGap.{sought-to-gap}

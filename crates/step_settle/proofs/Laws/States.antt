@@ -11,12 +11,12 @@ use lib.ListN.{length, getD, take, set, length-map}
 use lib.Seq.{length-take-le, getD-take}
 use Rattle.model.specs.Limits.{mostStates}
 use Rattle.model.specs.Base.{over}
-use Rattle.model.specs.Entry.{listsFit}
+use Rattle.model.specs.Entry.{Arrays, listsFit}
 use Rattle.model.specs.declared.Lists.{Lists}
 use Rattle.model.proofs.Laws.Lent.{listsFit-facts}
 use Rattle.run_lists.specs.Members.{statesIn, rulesIn}
 use Rattle.run_lists.specs.Changes.{proposing}
-use Rattle.run_lists.proofs.Laws.Arrays.{Arrays, few-states, few-rules}
+use Rattle.run_lists.proofs.Laws.Arrays.{few-states, few-rules}
 use Rattle.table.specs.Answers.{growAt, grownBy, Placing, Placed, rowsAt}
 use Rattle.table.specs.declared.Growth.{Growth}
 use Rattle.table.proofs.Laws.Tied.{grown-full, grown-rows}

@@ -84,7 +84,7 @@ loop-holds c =
     let s : Start = c .before .before .before .before .before .before .before in
     let i : ℕ = s .args .row .0 in (
       R.kids-start (s .pre .0 .good) (s .args .reps .now) (s .args .led .now) i (s .pre .3) (C.row-used (rows s) i (s .pre .4)) (s .pre .5),
-      ap (λ (a : ℕ). getD (s .args .counts .now) a 0) (c .before .symbol-of .ensures) ∙ C.row-count (rows s) i (s .pre .4) (s .pre .3),
+      ap (λ (a : ℕ). getD (s .args .counts .now) a 0) (c .before .symbol-of .ensures) ∙ C.count-kids (rows s) i (s .pre .4),
     )
 
 kid-of-requires : tie.Need-kid-of-requires Inv-loop μ-loop

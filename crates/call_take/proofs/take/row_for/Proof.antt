@@ -5,14 +5,14 @@ use Prim.Native.Nat.{ℕ}
 use borrow.Author.Needs.{needs, length-unmapped}
 use Rattle.model.specs.Limits.{mostContexts}
 use Rattle.model.specs.Calls.{faultOf}
-use Rattle.model.specs.Entry.{tablesOf}
+use Rattle.model.specs.Entry.{Arrays, tablesOf}
 use Rattle.model.proofs.Laws.Trees.{recordFault-parses}
 use Rattle.model.proofs.Laws.Step.{offering}
 use Rattle.bank_fill.specs.Adding.{Came, grownRow}
 use Rattle.bank_fill.specs.declared.add.Grown.{Grown}
 use Rattle.bank_fill.proofs.Laws.Coming.{comes-same}
 use Rattle.run_lists.specs.Members.{countsIn}
-use Rattle.run_lists.proofs.Laws.Arrays.{Arrays, few-letters, letters-told}
+use Rattle.run_lists.proofs.Laws.Arrays.{few-letters, letters-told}
 use Rattle.call.specs.declared.Said.{Said}
 use Rattle.call.specs.Said.{callOf}
 use Rattle.call_take.specs.Taken.{builtFor}

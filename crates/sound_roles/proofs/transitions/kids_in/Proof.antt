@@ -11,7 +11,7 @@ use Rattle.model.specs.Base.{all, among}
 use Rattle.model.specs.Store.{kidsAt}
 use Rattle.model.specs.Entry.{storeOf}
 use Rattle.model.proofs.Laws.Members.{all-ends}
-use Rattle.bank.proofs.Laws.Children.{row-within, row-known, row-count, row-few, word-early}
+use Rattle.bank.proofs.Laws.Children.{row-within, row-known, count-kids, row-few, word-early}
 use Rattle.sound_roles.proofs.Laws.Children.{kid-strange, kid-among, kids-each}
 use Rattle.sound_roles.proofs.transitions.kids_in.Statement.{statement}
 use Rattle.sound_roles.proofs.transitions.kids_in.Tie as tie
@@ -61,7 +61,7 @@ loop-holds : tie.Need-loop-holds Inv-loop μ-loop
 loop-holds c =
     let s : Start = c .before .before .before .before .before in
     let e = ap (λ (a : ℕ). getD (s .args .counts .now) a 0) (c .before .symbol-of .ensures) in
-    (e ∙ row-count (s .pre .0) (s .args .row .0) (s .pre .2) (s .pre .1), omega arith, refl)
+    (e ∙ count-kids (s .pre .0) (s .args .row .0) (s .pre .2), omega arith, refl)
 
 kid-of-requires : tie.Need-kid-of-requires Inv-loop μ-loop
 kid-of-requires c κs = let s : Start = start c in (row-within (s .pre .0) (s .args .row .0) (s .pre .2), few c)

@@ -4,12 +4,12 @@ use borrow.Author.Needs.{needs, length-unmapped}
 use Prim.Native.Nat.{ℕ}
 use Rattle.model.specs.Limits.{mostContexts}
 use Rattle.model.specs.Store.{fill}
-use Rattle.model.specs.Entry.{tablesOf}
+use Rattle.model.specs.Entry.{Arrays, tablesOf}
 use Rattle.bank.specs.Bank.{pathOf}
 use Rattle.bank.proofs.Laws.Words.{used-of}
 use Rattle.bank_fill.proofs.Laws.Coming.{Comes}
 use Rattle.run_lists.specs.Members.{countsIn}
-use Rattle.run_lists.proofs.Laws.Arrays.{Arrays, few-letters, letters-told}
+use Rattle.run_lists.proofs.Laws.Arrays.{few-letters, letters-told}
 use Rattle.step_settle.proofs.Laws.Ends.{question-ends}
 use Rattle.step.proofs.found.unknown.Statement.{statement}
 use Rattle.step.proofs.found.unknown.Tie as tie

@@ -9,7 +9,8 @@ use Rattle.model.specs.Limits.{mostContexts, mostStates}
 use Rattle.model.proofs.Laws.Lent.{listsFit-facts}
 use Rattle.table.specs.Answers.{growAt}
 use Rattle.step_settle.specs.declared.Stepped.{Stepped}
-use Rattle.run_lists.proofs.Laws.Arrays.{Arrays, few-states, few-rules, states-told, rules-told}
+use Rattle.model.specs.Entry.{Arrays}
+use Rattle.run_lists.proofs.Laws.Arrays.{few-states, few-rules, states-told, rules-told}
 use Rattle.step_settle.proofs.Laws.States.{grown-few, found-within, proposes-none, proposes-some}
 use Rattle.step_settle.proofs.propose.proposed.Statement.{statement}
 use Rattle.step_settle.proofs.propose.proposed.Tie as tie

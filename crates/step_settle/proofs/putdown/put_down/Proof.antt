@@ -9,7 +9,7 @@ use lib.ListN.{length}
 use Rattle.model.specs.Limits.{mostContexts}
 use Rattle.model.specs.Store.{Frame, fill}
 use Rattle.model.specs.Facts.{Fits}
-use Rattle.model.specs.Entry.{tablesOf}
+use Rattle.model.specs.Entry.{Arrays, tablesOf}
 use Rattle.model.specs.declared.Lists.{Lists}
 use Rattle.bank.specs.Bank.{pathOf}
 use Rattle.bank.specs.Notes.{downIn}
@@ -18,7 +18,7 @@ use Rattle.bank.proofs.Laws.Notes.{column-long}
 use Rattle.bank_fill.proofs.Laws.Coming.{Comes, comes-as}
 use Rattle.bank_fill.proofs.Laws.Filling.{Reached, reached}
 use Rattle.run_lists.specs.Members.{countsIn}
-use Rattle.run_lists.proofs.Laws.Arrays.{Arrays, few-letters, letters-told}
+use Rattle.run_lists.proofs.Laws.Arrays.{few-letters, letters-told}
 use Rattle.step_settle.proofs.Laws.Lists.{noted}
 use Rattle.step_settle.proofs.Laws.PutDown.{put-none, bank-after, run-after, few-after, long-after, known-after, put-ends}
 use Rattle.step_settle.proofs.putdown.put_down.Statement.{statement}

@@ -8,10 +8,10 @@ use borrow.Author.Needs.{needs, length-unmapped}
 use lib.ListN.{getD}
 use Rattle.model.specs.Limits.{mostContexts}
 use Rattle.model.specs.Store.{framesOf, fill}
-use Rattle.model.specs.Entry.{tablesOf}
+use Rattle.model.specs.Entry.{Arrays, tablesOf}
 use Rattle.bank_fill.proofs.Laws.Coming.{Comes}
 use Rattle.run_lists.specs.Members.{countsIn, rulesIn, contextsIn}
-use Rattle.run_lists.proofs.Laws.Arrays.{Arrays, few-letters, few-rules, few-contexts, letters-told, rules-told, contexts-told}
+use Rattle.run_lists.proofs.Laws.Arrays.{few-letters, few-rules, few-contexts, letters-told, rules-told, contexts-told}
 use Rattle.table.specs.Answers.{gapFrom}
 use Rattle.table.specs.declared.Gap.{Gap}
 use Rattle.step_settle.proofs.Laws.Lists.{noted}
