@@ -9,9 +9,10 @@ ghost use Rattle.text.specs.Reading.{readText};
 ghost use Rattle.text.specs.Alphabet.{alphabetOf};
 ghost use Rattle.text.specs.Lines.{lineOf, offering, unreadText};
 ghost use Rattle.text.specs.Script.{reply as replyWith, script as scriptOf, told as toldOf, freshScript, lettersOf, countsOf, opened as openedOf, heard, replyTo};
+ghost use Rattle.text_read.specs.Reads.{TextAs};
 ghost use Rattle.text_print.specs.Tells.{Tellable};
 ghost use Rattle.text_reply.specs.Replies.{ReplyAs};
-use model::Lists;
+use call::Done;
 use model::Seen;
 use model::limits::MOST_SYMBOLS;
 use run_lists::change;
@@ -46,15 +47,6 @@ fn at_stage(z: Script, stage: u8) -> Script
 {
     let mut after = z;
     after.stage = stage;
-    after
-}
-
-// A script with other lists.
-fn with_lists(z: Script, lists: Lists) -> Script
-    ensures { λ r. ⌜ r ≡ scriptOf (z .stage) (z .letters) lists ⌝ }
-{
-    let mut after = z;
-    after.lists = lists;
     after
 }
 
@@ -97,6 +89,21 @@ fn told(words: &[u32], script: Script, seen: Seen, out: &mut [u8]) -> Replied
     }
 }
 
+// A call that was made: the reply tells what was seen of it, and the script goes on with the lists that it left.
+fn made(words: &[u32], script: Script, done: Done, out: &mut [u8]) -> Replied
+    requires { let after = scriptOf (script .stage) (script .letters) (done .lists) in
+        ⌜ Tellable (now words) (countsOf after) (done .lists .used) (done .seen)
+        × (replyRoom ≤ length (now out)) ⌝ }
+    ensures { λ r.
+        let after = scriptOf (script .stage) (script .letters) (done .lists) in
+        ⌜ ReplyAs (toldOf (now (words .entry)) after (done .seen)) r (now (words .entry)) (now (out .entry)) (now (out .exit)) ⌝ }
+{
+    let left = done.lists;
+    let mut after = script;
+    after.lists = left;
+    told(words, after, done.seen, out)
+}
+
 // The first line: unread or refused, it ends the script.
 fn first(words: &mut [u32], script: Script, line: &[u8], out: &mut [u8]) -> Replied
     requires { ⌜ replyRoom ≤ length (now out) ⌝ }
@@ -127,6 +134,21 @@ fn first(words: &mut [u32], script: Script, line: &[u8], out: &mut [u8]) -> Repl
     told(words, begun, seen, out)
 }
 
+// The symbols of the record behind a line's sign and space, at the start of a text; how many there are, 0 where it is unread.
+fn record_in(script: Script, line: &[u8], text: &mut [u8; MOST_INPUT]) -> usize
+    requires { ⌜ (length (now text) ≡ mostInput)
+        × (2 ≤ length (now line))
+        × (length (now line) ≤ mostInput) ⌝ }
+    ensures { λ r. ⌜ TextAs (readText (lettersOf script) (countsOf script) (drop 2 (now (line .entry)))) r (now (text .exit)) ⌝ }
+{
+    let letters = script.letters;
+    let lists = script.lists;
+    let counts = lists.counts;
+    let n = letters_in(lists.letters);
+    let len = list::put_bytes(text, 0, &line[2..]);
+    text_read::read_text(text, len as u32, &letters[..n], &counts[..n])
+}
+
 // An offer: its record is read, and it is made if there is one.
 fn offer(words: &mut [u32], script: Script, line: &[u8], mark: u8, out: &mut [u8]) -> Replied
     requires { ⌜ (replyRoom ≤ length (now out))
@@ -137,18 +159,13 @@ fn offer(words: &mut [u32], script: Script, line: &[u8], mark: u8, out: &mut [u8
         let reply = heard (now (words .entry)) script (offering text mark) in
         ⌜ ReplyAs reply r (now (words .exit)) (now (out .entry)) (now (out .exit)) ⌝ }
 {
-    let letters = script.letters;
-    let lists = script.lists;
-    let counts = lists.counts;
-    let n = letters_in(lists.letters);
     let mut text = [0u8; MOST_INPUT];
-    let len = list::put_bytes(&mut text, 0, &line[2..]);
-    let size = text_read::read_text(&mut text, len as u32, &letters[..n], &counts[..n]);
+    let size = record_in(script, line, &mut text);
     if size == 0 {
         return unread(words, script, out);
     }
-    let offered = call_room::offer(words, lists, &text[..size], mark);
-    told(words, with_lists(script, offered.lists), offered.seen, out)
+    let offered = call_room::offer(words, script.lists, &text[..size], mark);
+    made(words, script, offered, out)
 }
 
 // A later line.
@@ -162,21 +179,11 @@ fn later(words: &mut [u32], script: Script, line: &[u8], out: &mut [u8]) -> Repl
         Asked::Nothing => unread(words, script, out),
         Asked::Answer(mark) => {
             let answered = call_room::answer(words, script.lists, mark);
-            told(
-                words,
-                with_lists(script, answered.lists),
-                answered.seen,
-                out,
-            )
+            made(words, script, answered, out)
         }
         Asked::Accept => {
             let accepted = call_room::accept(words, script.lists);
-            told(
-                words,
-                with_lists(script, accepted.lists),
-                accepted.seen,
-                out,
-            )
+            made(words, script, accepted, out)
         }
         Asked::Offer(mark) => offer(words, script, line, mark, out),
     }

@@ -87,12 +87,12 @@ module _ (line : List ℕ) where
   offer-fits m e = subst OfferFits (sym e) asked-fits
 
 -- A CALL MADE: what it left can be told, and is what is heard
-module _ (ws : List ℕ) (z : Script) (k : Call) (d : Done) (ws' : List ℕ) (s : CallAs ws (z .lists) k d ws') (y : Script) (e : y ≡ script (z .stage) (z .letters) (d .lists)) where
-  pub made-tellable : Tellable ws' (countsOf y) (y .lists .used) (d .seen)
-  made-tellable = rw (e, s .words, s .lists, s .seen) (call-tellable ws (z .lists) k)
+module _ (ws : List ℕ) (z : Script) (k : Call) (d : Done) (ws' : List ℕ) (s : CallAs ws (z .lists) k d ws') where
+  pub made-tellable : Tellable ws' (countsOf (script (z .stage) (z .letters) (d .lists))) (d .lists .used) (d .seen)
+  made-tellable = rw (s .words, s .lists, s .seen) (call-tellable ws (z .lists) k)
 
-  pub made-heard : {r : Replied} {out out' : List ℕ} → ReplyAs (told ws' y (d .seen)) r ws' out out' → ReplyAs (heard ws z (calls k)) r ws' out out'
-  made-heard u = reply-by (λ i. told (s .words i) ((e ∙ ap (script (z .stage) (z .letters)) (s .lists)) i) (s .seen i)) u
+  pub made-heard : {r : Replied} {out out' : List ℕ} → ReplyAs (told ws' (script (z .stage) (z .letters) (d .lists)) (d .seen)) r ws' out out' → ReplyAs (heard ws z (calls k)) r ws' out out'
+  made-heard u = reply-by (λ i. told (s .words i) (script (z .stage) (z .letters) (s .lists i)) (s .seen i)) u
 
 -- AN OFFER: its record is copied, and its symbols are read over the copy
 module _ (line old : List ℕ) {after : List ℕ} {len : ℕ} (put : after ≡ putAt 0 (take (length line - 2) (drop 2 line)) old) (is : len ≡ 0 + length (take (length line - 2) (drop 2 line)))

@@ -22,15 +22,12 @@ enum-known-mark c = search needs
 answer-requires : tie.Need-answer-requires
 answer-requires c κs = search needs
 
-with-lists-requires : tie.Need-with-lists-requires
-with-lists-requires c κs = search needs
-
-told-requires : tie.Need-told-requires
-told-requires c κs =
-    let d = c .before .before .before .before .before .answer in
-    let m : tie.After-mark = c .before .before .before .before .before .before .before .before in
+made-requires : tie.Need-made-requires
+made-requires c κs =
+    let d : tie.After-answer = c .before .before .before .before in
+    let m : tie.After-mark = d .before .before .before in
     let s = m .before .before .before .before .before .before in
-    (made-tellable (s .args .words .now) (s .args .script) (answers (m .mark .given .0 .0)) (d .result) (d .last .0) (d .ensures) (c .before .with-lists .result) (c .before .with-lists .ensures), s .pre)
+    (made-tellable (s .args .words .now) (s .args .script) (answers (m .mark .given .0 .0)) (d .answer .result) (d .answer .last .0) (d .answer .ensures), s .pre)
 
 enum-told-2 : tie.Need-enum-told-2
 enum-told-2 c = search needs
@@ -38,15 +35,12 @@ enum-told-2 c = search needs
 accept-requires : tie.Need-accept-requires
 accept-requires c κs = search needs
 
-with-lists-requires-2 : tie.Need-with-lists-requires-2
-with-lists-requires-2 c κs = search needs
-
-told-requires-2 : tie.Need-told-requires-2
-told-requires-2 c κs =
-    let d = c .before .before .before .before .before .accept in
-    let m : tie.After-enum-told2 = c .before .before .before .before .before .before .before in
+made-requires-2 : tie.Need-made-requires-2
+made-requires-2 c κs =
+    let d : tie.After-accept = c .before .before .before .before in
+    let m : tie.After-enum-told2 = d .before .before in
     let s = m .before .before .before .before .before .before in
-    (made-tellable (s .args .words .now) (s .args .script) accept (d .result) (d .last .0) (d .ensures) (c .before .with-lists2 .result) (c .before .with-lists2 .ensures), s .pre)
+    (made-tellable (s .args .words .now) (s .args .script) accept (d .accept .result) (d .accept .last .0) (d .accept .ensures), s .pre)
 
 enum-known-mark-2 : tie.Need-enum-known-mark-2
 enum-known-mark-2 c = search needs
@@ -78,11 +72,12 @@ same-length-4 c = search needs
 
 returns-2 : tie.Need-returns-2
 returns-2 c =
-    let a = c .before .before .before .before .before .before .before .before .before .before .before in
-    let d = c .before .before .before .before .before .before .before .before .answer in
-    let s = a .before .before .before .before .before .before in
-    heard-line (s .args .words .now) (s .args .script) (s .args .line .now) (sym (a .mark .given .1) ∙ a .before .before .asked-of .ensures)
-    (made-heard (s .args .words .now) (s .args .script) (answers (c .before .before .before .before .before .before .before .before .before .before .before .mark .given .0 .0)) (d .result) (d .last .0) (d .ensures) (c .before .before .before .before .with-lists .result) (c .before .before .before .before .with-lists .ensures) (c .before .before .told .ensures))
+    let e : tie.After-made = c .before .before in
+    let d : tie.After-answer = e .before .before .before .before .before in
+    let m : tie.After-mark = d .before .before .before in
+    let s = m .before .before .before .before .before .before in
+    heard-line (s .args .words .now) (s .args .script) (s .args .line .now) (sym (m .mark .given .1) ∙ m .before .before .asked-of .ensures)
+    (made-heard (s .args .words .now) (s .args .script) (answers (m .mark .given .0 .0)) (d .answer .result) (d .answer .last .0) (d .answer .ensures) (e .made .ensures))
 
 same-length-5 : tie.Need-same-length-5
 same-length-5 c = search needs
@@ -92,11 +87,12 @@ same-length-6 c = search needs
 
 returns-3 : tie.Need-returns-3
 returns-3 c =
-    let a = c .before .before .before .before .before .before .before .before .before .before in
-    let d = c .before .before .before .before .before .before .before .before .accept in
-    let s = a .before .before .before .before .before .before in
-    heard-line (s .args .words .now) (s .args .script) (s .args .line .now) (sym (a .enum-told2 .given .1) ∙ a .before .before .asked-of .ensures)
-    (made-heard (s .args .words .now) (s .args .script) accept (d .result) (d .last .0) (d .ensures) (c .before .before .before .before .with-lists2 .result) (c .before .before .before .before .with-lists2 .ensures) (c .before .before .told2 .ensures))
+    let e : tie.After-made2 = c .before .before in
+    let d : tie.After-accept = e .before .before .before .before .before in
+    let m : tie.After-enum-told2 = d .before .before in
+    let s = m .before .before .before .before .before .before in
+    heard-line (s .args .words .now) (s .args .script) (s .args .line .now) (sym (m .enum-told2 .given .1) ∙ m .before .before .asked-of .ensures)
+    (made-heard (s .args .words .now) (s .args .script) accept (d .accept .result) (d .accept .last .0) (d .accept .ensures) (e .made2 .ensures))
 
 same-length-7 : tie.Need-same-length-7
 same-length-7 c = search needs
@@ -119,12 +115,10 @@ later-spec =
     unread-requires
     enum-known-mark
     answer-requires
-    with-lists-requires
-    told-requires
+    made-requires
     enum-told-2
     accept-requires
-    with-lists-requires-2
-    told-requires-2
+    made-requires-2
     enum-known-mark-2
     offer-requires
     same-length
