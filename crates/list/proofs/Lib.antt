@@ -1,5 +1,4 @@
 pub mod Cut
-pub mod Scan
 pub mod Fits
 pub mod Walk
 pub mod Keys

@@ -83,18 +83,19 @@ fn key_of(body: &[u8]) -> usize
         + 2097152 * byte_at(states, 3)
 }
 
-// Whether a number is among others.
+// Whether a number is among others. The loop goes on past it: without a way out the compiler compares many at once.
 fn has_key(keys: &[usize], key: usize) -> bool
     ensures { λ r. ⌜ r ≡ among key (now (keys .entry)) ⌝ }
 {
+    let mut found = false;
     let mut i = 0;
     while i < keys.len() {
         if keys[i] == key {
-            return true;
+            found = true;
         }
         i += 1;
     }
-    false
+    found
 }
 
 // What loading returns of bytes that are no list.

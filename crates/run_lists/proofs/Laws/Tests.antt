@@ -1,14 +1,14 @@
 -- Tests on a list, one number at a time: what is left of the list decides the test.
 -- By the clauses of the tests at a list that is split at its first number.
-use mathlib.Core.Path.{_≡_, sym, ap, _∙_}
+use mathlib.Core.Path.{_≡_, sym, ap}
 use mathlib.Core.Bool.{Bool, true, false, _&&_, not}
-use mathlib.Core.List.{List, [], _∷_}
+use mathlib.Core.List.{List, []}
 use Prim.Native.Nat.{ℕ, _+_, _-_, _≤_, _<_}
 use native.Mathlib.Omega.{arith}
 use native.Mathlib.Numerals.{add-one}
 use borrow.Author.Tests.{eq-eqb, ne-eqb}
 use lib.ListN.{length, getD, take, drop, drop-of-length-le, length-drop}
-use lib.Seq.{drop-cons, take-all}
+use lib.Seq.{take-all}
 use Rattle.model.specs.Base.{among, noRepeats, allAmong, placeOf}
 use Rattle.model.proofs.Laws.Scans.{drop-next}
 
@@ -16,14 +16,6 @@ rest-none : (xs : List ℕ) (i : ℕ) → length xs ≤ i → drop i xs ≡ []
 rest-none xs i l = drop-of-length-le xs {i = i} l
 
 module _ (xs : List ℕ) (i : ℕ) (l : i < length xs) where
-  pub among-here : (x : ℕ) → getD xs i 0 ≡ x → among x (drop i xs) ≡ true
-  unfolding among
-  among-here x e = rw (drop-next xs i l, eq-eqb x (getD xs i 0) (sym e))
-
-  pub among-later : (x : ℕ) → (getD xs i 0 ≡ x → ⊥) → among x (drop i xs) ≡ among x (drop (i + 1) xs)
-  unfolding among
-  among-later x e = rw (drop-next xs i l, ne-eqb x (getD xs i 0) (λ p. e (sym p)))
-
   pub place-here : (x k : ℕ) → getD xs i 0 ≡ x → placeOf x k (drop i xs) ≡ k
   unfolding placeOf
   place-here x k e = rw (drop-next xs i l, eq-eqb x (getD xs i 0) (sym e))
@@ -41,10 +33,6 @@ module _ (xs : List ℕ) (i : ℕ) (l : i < length xs) where
   all-cons ys = rw (drop-next xs i l)
 
 module _ (xs : List ℕ) (i : ℕ) (l : length xs ≤ i) where
-  pub among-end : (x : ℕ) → among x (drop i xs) ≡ false
-  unfolding among
-  among-end x = rw (rest-none xs i l)
-
   pub place-end : (x k : ℕ) → placeOf x k (drop i xs) ≡ k
   unfolding placeOf
   place-end x k = rw (rest-none xs i l)

@@ -8,7 +8,7 @@ use borrow.Author.Needs.{needs}
 use lib.ListN.{length, drop}
 use Rattle.model.specs.Base.{among}
 use Rattle.model.proofs.Laws.Tests.{or-right, or-false}
-use Rattle.run_lists.proofs.Laws.Tests.{among-here, among-later, among-end}
+use Rattle.model.proofs.Laws.Scans.{among-here, among-later, among-end}
 use Rattle.run_lists.proofs.is_among.Statement.{statement}
 use Rattle.run_lists.proofs.is_among.Tie as tie
 

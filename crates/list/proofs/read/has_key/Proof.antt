@@ -1,36 +1,31 @@
--- `list::read::has_key` meets its contract: one loop over the numbers.
--- The invariant: the numbers from i on decide what all decide. The measure is what is left of them.
-use mathlib.Core.Path.{_≡_, sym, _∙_}
-use Prim.Native.Nat.{_-_, _≤_}
+-- `list::read::has_key` meets its contract: it was found, or what is left of the list decides.
+use mathlib.Core.Path.{_≡_, refl, sym, ap, _∙_}
+use mathlib.Core.Logic.{⊎-elim}
+use mathlib.Core.Bool.{Bool, _||_}
+use Prim.Native.Nat.{_+_, _-_, _≤_}
 use native.Mathlib.Omega.{arith}
-use lib.ListN.{length, drop}
 use borrow.Author.Needs.{needs}
+use lib.ListN.{length, drop}
 use Rattle.model.specs.Base.{among}
-use Rattle.model.proofs.Laws.Scans.{among-done}
-use Rattle.list.proofs.Scan.{among-stop, among-pass}
+use Rattle.model.proofs.Laws.Tests.{or-right, or-false}
+use Rattle.model.proofs.Laws.Scans.{among-here, among-later, among-end}
 use Rattle.list.proofs.read.has_key.Statement.{statement}
 use Rattle.list.proofs.read.has_key.Tie as tie
 
 abbrev Inv-loop : tie.InvT-loop
-Inv-loop keys key i₀ i = (i ≤ length keys) × (among key (drop i keys) ≡ among key keys)
+Inv-loop keys key found₀ i₀ found i = (i ≤ length keys) × (among key keys ≡ found || among key (drop i keys))
 
 abbrev μ-loop : tie.MeasureT-loop
-μ-loop keys key i₀ i = length keys - i
+μ-loop keys key found₀ i₀ found i = length keys - i
 
 loop-holds : tie.Need-loop-holds Inv-loop μ-loop
-loop-holds c = search needs
+loop-holds c = (omega arith, refl)
 
 mul-if1 : tie.Need-mul-if1 Inv-loop μ-loop
 mul-if1 c = search needs
 
 shared-slice-read-if1 : tie.Need-shared-slice-read-if1 Inv-loop μ-loop
 shared-slice-read-if1 c = search needs
-
-returns : tie.Need-returns Inv-loop μ-loop
-returns c =
-    let l = c .before .before .before .loop in
-    let a = c .before .before .before .before .args in
-    sym (sym (l .inv .1) ∙ among-stop (a .key) (a .keys .now) (l .i) (c .before .before .loop-test .taken) (c .if1 .taken))
 
 add-i : tie.Need-add-i Inv-loop μ-loop
 add-i c = search needs
@@ -40,15 +35,20 @@ loop-less c = search needs
 
 loop-again : tie.Need-loop-again Inv-loop μ-loop
 loop-again c =
-    let l = c .before .before .before .loop in
-    let a = c .before .before .before .before .args in
-    (omega arith, sym (among-pass (a .key) (a .keys .now) (l .i) (c .before .before .loop-test .taken) (c .if1 .left)) ∙ l .inv .1)
+    let s = c .before .before .before .before in
+    let l = c .before .before .before .loop in (
+      omega arith,
+      ⊎-elim
+          (λ w. l .inv .1 ∙ ap (λ (b : Bool). l .found || b) (among-here (s .args .keys .now) (l .i) (omega arith) (s .args .key) (w .0 .taken)) ∙ or-right (l .found) refl ∙ sym (ap (λ (b : Bool). b || among (s .args .key) (drop (l .i + 1) (s .args .keys .now))) (w .1)))
+          (λ w. l .inv .1 ∙ ap (λ (b : Bool). l .found || b) (among-later (s .args .keys .now) (l .i) (omega arith) (s .args .key) (w .0 .left)) ∙ sym (ap (λ (b : Bool). b || among (s .args .key) (drop (l .i + 1) (s .args .keys .now))) (w .1)))
+          (c .if1 .came),
+    )
 
-returns-2 : tie.Need-returns-2 Inv-loop μ-loop
-returns-2 c =
+returns : tie.Need-returns Inv-loop μ-loop
+returns c =
+    let s = c .before .before in
     let l = c .before .loop in
-    let a = c .before .before .args in
-    sym (sym (l .inv .1) ∙ among-done (a .key) (a .keys .now) (l .i) (c .loop-test .left))
+    sym (l .inv .1 ∙ ap (λ (b : Bool). l .found || b) (among-end (s .args .keys .now) (l .i) (omega arith) (s .args .key)) ∙ or-false (l .found))
 
 pub has-key-spec : {M : Type 1} → statement M
 has-key-spec =
@@ -59,8 +59,7 @@ has-key-spec =
     loop-holds
     mul-if1
     shared-slice-read-if1
-    returns
     add-i
     loop-less
     loop-again
-    returns-2)
+    returns)

@@ -6,8 +6,7 @@ use native.Mathlib.Omega.{arith}
 use lib.ListN.{length, drop}
 use borrow.Author.Needs.{needs}
 use Rattle.model.specs.Base.{same}
-use Rattle.model.proofs.Laws.Scans.{same-done, same-lengths}
-use Rattle.list.proofs.Scan.{same-stop, same-pass}
+use Rattle.model.proofs.Laws.Scans.{same-stop, same-pass, same-done, same-lengths}
 use Rattle.list_view.proofs.lookup.same_bytes.Statement.{statement}
 use Rattle.list_view.proofs.lookup.same_bytes.Tie as tie
 

@@ -11,8 +11,7 @@ use lib.ListN.{length, getD, take, drop}
 use lib.Seq.{length-take-le, getD-take}
 use Rattle.model.specs.Limits.{mostSymbols}
 use Rattle.model.specs.Base.{among}
-use Rattle.model.proofs.Laws.Scans.{among-done}
-use Rattle.list.proofs.Scan.{among-stop, among-pass}
+use Rattle.model.proofs.Laws.Scans.{among-here, among-later, among-end}
 use Rattle.text.specs.Bytes.{isLetter}
 use Rattle.text.specs.Alphabet.{pairFits}
 use Rattle.text_lines.proofs.Laws.Opening.{pair-full, pair-no-letter, pair-unparted, pair-no-digit, pair-apart}
@@ -106,7 +105,7 @@ returns-5 c =
     let t = c .before .before in
     let s = start (t .before) in
     let l = t .before .loop in
-    sym (l .inv .1 ∙ ap not (among-stop (s .args .letter) (earlier s) (l .i) (within t) (here t ∙ c .if5 .taken)))
+    sym (l .inv .1 ∙ ap not (among-here (earlier s) (l .i) (within t) (s .args .letter) (here t ∙ c .if5 .taken)))
 
 add-i : tie.Need-add-i Inv-loop μ-loop
 add-i c = search needs
@@ -119,14 +118,14 @@ loop-again c =
     let t = c .before .before in
     let s = start (t .before) in
     let l = t .before .loop in
-    (omega arith, l .inv .1 ∙ ap not (among-pass (s .args .letter) (earlier s) (l .i) (within t) (λ e. c .if5 .left (sym (here t) ∙ e))))
+    (omega arith, l .inv .1 ∙ ap not (among-later (earlier s) (l .i) (within t) (s .args .letter) (λ e. c .if5 .left (sym (here t) ∙ e))))
 
 returns-6 : tie.Need-returns-6 Inv-loop μ-loop
 returns-6 c =
     let s = start (c .before) in
     let l = c .before .loop in
     let k = earlier-long s in
-    sym (l .inv .1 ∙ ap not (among-done (s .args .letter) (earlier s) (l .i) (omega arith)))
+    sym (l .inv .1 ∙ ap not (among-end (earlier s) (l .i) (omega arith) (s .args .letter)))
 
 pub pair-fits-spec : {M : Type 1} → statement M
 pair-fits-spec =
