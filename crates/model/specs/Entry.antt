@@ -38,13 +38,20 @@ rowWords (n ∷ ns) vs = (n .symbol ∷ getD vs 0 0 ∷ n .kids) ++ rowWords ns 
 abbrev pub wordsOf : (old : List ℕ) → Tables → List ℕ
 wordsOf ws x = over (rowWords (x .store .nodes) (x .answers)) ws
 
--- LISTS (§2.2): within their arrays, the flag 0 or 1
+-- LISTS (§2.2): their arrays have these lengths
+pub record Arrays (l : Lists) : Type 0 where
+  pub counts : length (l .counts) ≡ mostSymbols
+  pub s : length (l .s) ≡ mostStates
+  pub t : length (l .t) ≡ mostRules
+  pub c : length (l .c) ≡ mostContexts
+
+-- as many members as the arrays hold, the flag 0 or 1
 abbrev pub listsFit : Lists → Bool
 listsFit l =
     leb (l .letters) mostSymbols && leb (l .states) mostStates && leb (l .rules) mostRules && leb (l .contexts) mostContexts &&
     leb (l .accepted) 1
 
--- what is lent fits: the one test of words and lists before the tables are looked at (30)
+-- what is lent fits: the one test of words and lists before the tables are looked at (30). Of the words it asks nothing yet
 abbrev pub lentFits : (words : List ℕ) → Lists → Bool
 lentFits ws l = listsFit l
 
@@ -61,7 +68,8 @@ tablesOf ws l =
     tables (storeOf ws (take (l .letters) (l .counts)) (l .used)) (answersIn (l .used) ws) (take (l .states) (l .s)) (take (l .rules) (l .t))
     (take (l .contexts) (l .c)) (l .hand) (l .asked) (eqb (l .accepted) 1)
 
--- LISTS CHANGED: the fields, spelt once. What a call changes is said by this (listsOf, and run_lists' Changes)
+-- LISTS CHANGED: the fields, spelt once. What a call changes is said by this (listsOf, and run_lists' Changes).
+-- All fields are given; one that no call changed would stay as in the lists at the front
 abbrev pub changed : Lists → (letters : ℕ) → (counts : List ℕ) → (accepted used states : ℕ) → (s : List ℕ) → (rules : ℕ) → (t : List ℕ) → (contexts : ℕ) → (c : List ℕ) → (hand asked : ℕ) → Lists
 changed l k ns z u q s n t m c h j =
     record {
@@ -135,13 +143,6 @@ zeroLists =
       hand = 0;
       asked = 0;
     }
-
--- the arrays of lists have the lengths of §2.2
-pub record Arrays (l : Lists) : Type 0 where
-  pub counts : length (l .counts) ≡ mostSymbols
-  pub s : length (l .s) ≡ mostStates
-  pub t : length (l .t) ≡ mostRules
-  pub c : length (l .c) ≡ mostContexts
 
 abbrev pub zeroedBy : Lists → Outcome → Lists
 zeroedBy l (refuses n) = l

@@ -1,14 +1,13 @@
 -- `run_lists::is_among` meets its contract: it was found, or what is left of the list decides.
-use mathlib.Core.Path.{_≡_, refl, sym, ap, _∙_}
+use mathlib.Core.Path.{_≡_, refl}
 use mathlib.Core.Logic.{⊎-elim}
-use mathlib.Core.Bool.{Bool, _||_}
-use Prim.Native.Nat.{_+_, _-_, _≤_}
+use mathlib.Core.Bool.{_||_}
+use Prim.Native.Nat.{_-_, _≤_}
 use native.Mathlib.Omega.{arith}
 use borrow.Author.Needs.{needs}
 use lib.ListN.{length, drop}
 use Rattle.model.specs.Base.{among}
-use Rattle.model.proofs.Laws.Tests.{or-right, or-false}
-use Rattle.model.proofs.Laws.Scans.{among-here, among-later, among-end}
+use Rattle.model.proofs.Laws.Scans.{sought-here, sought-later, sought-end}
 use Rattle.run_lists.proofs.is_among.Statement.{statement}
 use Rattle.run_lists.proofs.is_among.Tie as tie
 
@@ -39,8 +38,8 @@ loop-again c =
     let l = c .before .before .before .before .loop in (
       omega arith,
       ⊎-elim
-          (λ w. l .inv .1 ∙ ap (λ (b : Bool). l .found || b) (among-here (s .args .xs .now) (l .i) (omega arith) (s .args .row .0) (w .0 .taken)) ∙ or-right (l .found) refl ∙ sym (ap (λ (b : Bool). b || among (s .args .row .0) (drop (l .i + 1) (s .args .xs .now))) (w .1)))
-          (λ w. l .inv .1 ∙ ap (λ (b : Bool). l .found || b) (among-later (s .args .xs .now) (l .i) (omega arith) (s .args .row .0) (w .0 .left)) ∙ sym (ap (λ (b : Bool). b || among (s .args .row .0) (drop (l .i + 1) (s .args .xs .now))) (w .1)))
+          (λ w. sought-here (s .args .xs .now) (s .args .row .0) (l .i) (l .found) (l .inv .1) (omega arith) (w .0 .taken) (w .1))
+          (λ w. sought-later (s .args .xs .now) (s .args .row .0) (l .i) (l .found) (l .inv .1) (omega arith) (w .0 .left) (w .1))
           (c .if1 .came),
     )
 
@@ -48,7 +47,7 @@ returns : tie.Need-returns Inv-loop μ-loop
 returns c =
     let s = c .before .before in
     let l = c .before .loop in
-    sym (l .inv .1 ∙ ap (λ (b : Bool). l .found || b) (among-end (s .args .xs .now) (l .i) (omega arith) (s .args .row .0)) ∙ or-false (l .found))
+    sought-end (s .args .xs .now) (s .args .row .0) (l .i) (l .found) (l .inv .1) (omega arith)
 
 pub is-among-spec : {M : Type 1} → statement M
 is-among-spec =
