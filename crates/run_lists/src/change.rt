@@ -1,4 +1,5 @@
-// The ways in which a run's lists change (§3, §4), by value: each has its definition in specs/Changes.antt.
+// The ways in which a run's lists change (§3, §4), by value. Zeros and the lists of a start are model's `zeroLists` and `started`;
+// each other way has its definition in specs/Changes.antt.
 // Where a call does not name a field, it stays.
 ghost use mathlib.Core.Path.{_≡_};
 ghost use Prim.Native.Nat.{_≤_, _<_};
