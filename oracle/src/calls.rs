@@ -57,7 +57,7 @@ fn try_offer(
     let known = offered
         .stored
         .map_or(UNKNOWN, |row| run.records.answer(row));
-    if known != UNKNOWN && known != mark + 1 {
+    if contradicts(known, mark) {
         return Err(Refusal::AnswerDiffers);
     }
     let row = run.store_offer(symbols)?;
@@ -65,6 +65,11 @@ fn try_offer(
     run.lists.hand = row;
     run.advance()?;
     Ok(run.write_back(row, words, lists))
+}
+
+/// Of the six cases of stored answer and mark, 33 at no (1) with yes (1), and at yes (2) with no (0) (5.2).
+fn contradicts(stored: u8, mark: u8) -> bool {
+    matches!((stored, mark), (1, 1) | (2, 0))
 }
 
 /// Takes the answer to the open question, 0 no and 1 yes (3.5).

@@ -1,7 +1,7 @@
 // call: the lines that refuse an answer or an offer to sound tables: 31, 11 to 16, 32, 33, the first that applies (§5.3).
 ghost use mathlib.Core.Path.{_≡_};
 ghost use mathlib.Core.Bool.{true};
-ghost use Rattle.model.specs.Calls.{offerFault, faultOf, verdictIs};
+ghost use Rattle.model.specs.Calls.{contradicts, offerFault, faultOf, verdictIs};
 ghost use Rattle.model.specs.Entry.{listsFit, tablesOf};
 ghost use Rattle.bank.specs.Bank.{Bank};
 ghost use Rattle.run_lists.specs.Members.{countsIn};
@@ -65,6 +65,30 @@ fn verdict_is(
     yes == (mark == 1)
 }
 
+// Whether the mark contradicts the stored answer, in six cases (§5.2).
+fn contradicts(stored: u32, mark: u8) -> bool
+    ensures { λ r. ⌜ r ≡ contradicts stored mark ⌝ }
+{
+    match stored {
+        0 => match mark {
+            0 => false,
+            1 => false,
+            _ => false,
+        },
+        1 => match mark {
+            0 => false,
+            1 => true,
+            _ => false,
+        },
+        2 => match mark {
+            0 => true,
+            1 => false,
+            _ => false,
+        },
+        _ => false,
+    }
+}
+
 // The number of the first line that refuses an offer to sound tables; 0 for none.
 fn offer_fault(
     words: &[u32],
@@ -90,13 +114,10 @@ fn offer_fault(
     let counts = lists.counts;
     let row = bank_listed::known_row(words, &counts[..letters], lists.used, index, symbols);
     let answer = rows::answer_of(words, row);
-    if answer == 0 {
-        return 0;
+    if contradicts(answer, mark) {
+        return 33;
     }
-    if answer == mark as u32 + 1 {
-        return 0;
-    }
-    33
+    0
 }
 
 // The number of the first line that refuses what was said to sound tables; 0 for none.

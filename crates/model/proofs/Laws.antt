@@ -49,6 +49,7 @@ pub mod Order
 pub mod Advance
 pub mod Offer
 pub mod Answer
+pub mod Cases
 pub mod Step
 pub mod Faults
 pub mod Fresh

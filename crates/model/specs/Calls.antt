@@ -1,7 +1,7 @@
 -- The calls on a run (§3): refused by the first line that applies (§5.3), or taken.
 use mathlib.Core.Bool.{Bool, true, false, _&&_, _||_, not, cond}
 use mathlib.Core.List.{List, [], _∷_}
-use Prim.Native.Nat.{ℕ, _+_}
+use Prim.Native.Nat.{ℕ}
 use lib.Dec.{ltb, leb, eqb}
 use lib.ListN.{length}
 use Rattle.model.specs.Store.{Store, holeNode}
@@ -58,9 +58,17 @@ look x =
 abbrev pub markFits : (mark : ℕ) → Bool
 markFits m = leb m 1
 
--- 33: the stored code is neither 0 nor the mark plus 1
+-- 33, in six cases: stored 0 none, 1 no, 2 yes; mark 0 no, 1 yes. A call meets no other pair, by T1 and 16
 abbrev pub contradicts : (stored mark : ℕ) → Bool
-contradicts v m = not (eqb v 0) && not (eqb v (m + 1))
+contradicts v m =
+    let at : ℕ → ℕ → Bool = λ s n. eqb v s && eqb m n in
+    cond (at 0 0) false
+    (cond (at 0 1) false
+    (cond (at 1 0) false
+    (cond (at 1 1) true
+    (cond (at 2 0) true
+    (cond (at 2 1) false
+    false)))))
 
 abbrev pub verdictIs : Tables → (symbols : List ℕ) → (mark : ℕ) → Bool
 verdictIs x xs m = eqb (cond (acceptsList (automatonOf x) xs) 1 0) m

@@ -11,6 +11,7 @@ mod fresh;
 mod generators;
 mod shortages;
 mod sizes;
+mod stored;
 mod view;
 mod watch;
 mod worked;

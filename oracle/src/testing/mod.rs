@@ -10,6 +10,7 @@ pub mod elsewhere;
 pub mod naive;
 pub mod random;
 pub mod refusals;
+pub mod stored;
 pub mod target;
 pub mod terms;
 pub mod watch;

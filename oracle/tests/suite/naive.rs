@@ -1,7 +1,9 @@
 //! The fast learner against the naive one on small tables of every sort.
 
 use oracle::testing::cases::{damaged_case, elsewhere_case, fresh_case, rubbish_case, Met};
+use oracle::testing::compare::agree;
 use oracle::testing::random::Random;
+use oracle::testing::stored;
 use oracle::testing::watch::each_case;
 
 fn cases(seed: u64, count: u64, case: fn(&mut Random, &mut Met)) -> Met {
@@ -29,6 +31,13 @@ fn tables_from_elsewhere() {
 fn damaged_tables() {
     let met = cases(23, 2_500, damaged_case);
     assert!(met.unsound > 2_000 && met.proposing > 1_000);
+}
+
+/// A mark against each stored answer.
+#[test]
+fn stored_answers() {
+    stored::six_cases(agree);
+    stored::no_other_pair(agree);
 }
 
 #[test]

@@ -75,15 +75,11 @@ module _ (ws : List ℕ) (l : Lists) (xs : List ℕ) (m : ℕ) where
       last : unless (not (contradicts v m)) 33 ≡ offerFault (tablesOf ws l) xs m
       last = sym (fitting (verdictIs X xs m) (contradicts stored m) ∙ λ i. orElse (unless (not (e i)) 32) (unless (not (contradicts (sym g i) m)) 33))
 
-      pub line-unknown : v ≡ 0 → 0 ≡ offerFault (tablesOf ws l) xs m
-      line-unknown p = sym (ap (λ (b : Bool). unless (not (not b && not (eqb v (m + 1)))) 33) (eq-eqb v 0 p)) ∙ last
+      pub line-against : contradicts v m ≡ true → 33 ≡ offerFault (tablesOf ws l) xs m
+      line-against p = sym (ap (λ (b : Bool). unless (not b) 33) p) ∙ last
 
-      module _ (n : v ≡ 0 → ⊥) where
-        pub line-known : v ≡ m + 1 → 0 ≡ offerFault (tablesOf ws l) xs m
-        line-known p = sym (λ i. unless (not (not (ne-eqb v 0 n i) && not (eq-eqb v (m + 1) p i))) 33) ∙ last
-
-        pub line-against : (v ≡ m + 1 → ⊥) → 33 ≡ offerFault (tablesOf ws l) xs m
-        line-against p = sym (λ i. unless (not (not (ne-eqb v 0 n i) && not (ne-eqb v (m + 1) p i))) 33) ∙ last
+      pub no-line : contradicts v m ≡ false → 0 ≡ offerFault (tablesOf ws l) xs m
+      no-line p = sym (ap (λ (b : Bool). unless (not b) 33) p) ∙ last
 
 -- THE VERDICT against the mark
 mark-is : (b : Bool) (m : ℕ) → m ≤ 1 → Bool·beq b (eqb m 1) ≡ true → eqb (cond b 1 0) m ≡ true

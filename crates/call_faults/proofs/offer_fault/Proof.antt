@@ -15,7 +15,7 @@ use Rattle.model.proofs.Laws.Trees.{recordFault-parses}
 use Rattle.bank.specs.Rows.{answerIn}
 use Rattle.bank.proofs.Laws.Words.{answer-in}
 use Rattle.run_lists.specs.Members.{countsIn}
-use Rattle.call_faults.proofs.Laws.OfferLines.{line-same, line-unknown, line-known, line-against, known-row-within}
+use Rattle.call_faults.proofs.Laws.OfferLines.{line-same, line-against, no-line, known-row-within}
 use Rattle.call_faults.specs.Lines.{Tested}
 use Rattle.call_faults.proofs.offer_fault.Statement.{statement}
 use Rattle.call_faults.proofs.offer_fault.Tie as tie
@@ -106,29 +106,24 @@ answer-of-requires c κs =
     let s : Start = c .before .before .before .before .before .before .before .before .before .before .before .before in
     omega (arith, within s, c .known-row .ensures, s .pre .1 .finding .room)
 
+contradicts-requires : tie.Need-contradicts-requires
+contradicts-requires c κs = search needs
+
 returns-3 : tie.Need-returns-3
 returns-3 c =
-    let a : Answered = c .before in
+    let a : Answered = c .before .before in
     let d = differs a in
     let s = first a in
-    line-unknown (s .args .words .now) (s .args .lists) (s .args .symbols .now) (s .args .mark) (tested (fitting d)) (sym (d .before .verdict-is .ensures) ∙ d .if2 .left) (a .answer-of .result) (answered a) (c .if3 .taken)
-
-add-if4 : tie.Need-add-if4
-add-if4 c = let a : Answered = c .before in omega (arith, tested (fitting (differs a)) .mark)
+    line-against (s .args .words .now) (s .args .lists) (s .args .symbols .now) (s .args .mark) (tested (fitting d)) (sym (d .before .verdict-is .ensures) ∙ d .if2 .left) (a .answer-of .result) (answered a)
+    (sym (c .before .contradicts .ensures) ∙ c .if3 .taken)
 
 returns-4 : tie.Need-returns-4
 returns-4 c =
     let a : Answered = c .before .before in
     let d = differs a in
     let s = first a in
-    line-known (s .args .words .now) (s .args .lists) (s .args .symbols .now) (s .args .mark) (tested (fitting d)) (sym (d .before .verdict-is .ensures) ∙ d .if2 .left) (a .answer-of .result) (answered a) (c .before .if3 .left) (c .if4 .taken)
-
-returns-5 : tie.Need-returns-5
-returns-5 c =
-    let a : Answered = c .before .before in
-    let d = differs a in
-    let s = first a in
-    line-against (s .args .words .now) (s .args .lists) (s .args .symbols .now) (s .args .mark) (tested (fitting d)) (sym (d .before .verdict-is .ensures) ∙ d .if2 .left) (a .answer-of .result) (answered a) (c .before .if3 .left) (c .if4 .left)
+    no-line (s .args .words .now) (s .args .lists) (s .args .symbols .now) (s .args .mark) (tested (fitting d)) (sym (d .before .verdict-is .ensures) ∙ d .if2 .left) (a .answer-of .result) (answered a)
+    (sym (c .before .contradicts .ensures) ∙ c .if3 .left)
 
 pub offer-fault-spec : {M : Type 1} → statement M
 offer-fault-spec =
@@ -143,7 +138,6 @@ offer-fault-spec =
     slice-aggregate-known-row
     known-row-requires
     answer-of-requires
+    contradicts-requires
     returns-3
-    add-if4
-    returns-4
-    returns-5)
+    returns-4)

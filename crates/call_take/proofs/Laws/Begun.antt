@@ -125,7 +125,7 @@ module _ (x : Tables) (s : Sounds x) where
       }
     where
       o : Offering x xs m
-      o = offering x xs m e
+      o = offering x (core .bound) xs m e
 
       whole : Whole x
       whole = idle-facts x s (o .idle-now) .0

@@ -47,7 +47,7 @@ answer-begun x s m a = go (s .nearly .phase) (s .few)
         (answered-tidy x (s .nearly .core) (x .asked) (o .0) (o .1) (m + 1) (mark-small m (a .1)) (s .nearly .tidy))
 
 pub begun-facts : (x : Tables) → Sounds x → (k : Call) → faultOf x k ≡ 0 → (z : Tables) → Begins x k z → Begun z
-begun-facts x s k f z (by-offer {symbols = xs} {mark = m} {row = i} {y = y} e) = offer-begun x s xs m (offering x xs m f) i y e
+begun-facts x s k f z (by-offer {symbols = xs} {mark = m} {row = i} {y = y} e) = offer-begun x s xs m (offering x (s .nearly .core .bound) xs m f) i y e
 begun-facts x s k f z (by-answer {mark = m}) = answer-begun x s m (answering x m f)
 
 -- THE TABLES SETTLED

@@ -26,7 +26,7 @@ use Rattle.model.proofs.Laws.Grow.{differ-not-same}
 use Rattle.model.proofs.Laws.Short.{own-of, StatesFull, grow-none}
 use Rattle.model.proofs.Laws.Search.{in-hand-ends}
 use Rattle.model.proofs.Laws.Unchanged.{full-of}
-use Rattle.model.proofs.Laws.Step.{offering}
+use Rattle.model.proofs.Laws.Step.{listed-well}
 use Rattle.model.proofs.Laws.Room.{sound-room}
 use Rattle.model.proofs.Laws.Lending.{fault-room}
 use Rattle.model.proofs.Laws.Needed.{AdvanceEnds, ends-asks, ends-proposes, ends-states, ends-transitions, ends-lost, Ends, StepNeeds, answer-needs, offer-needs}
@@ -191,7 +191,7 @@ module _ (x : Tables) (s : Sounds x) (k : Call) (e : isSound x ≡ true) (f : fa
 
 -- which calls may run short
 needs : (x : Tables) (k : Call) → faultOf x k ≡ 0 → numberOf (doneBy x k) ≢ 0 → StepNeeds x k
-needs x (offers [] m) f d = let o = offering x [] m f .fits in absurd (omega arith)
+needs x (offers [] m) f d = let o = listed-well x [] m f in absurd (omega arith)
 needs x (offers (a ∷ xs) m) f d = offer-needs x a xs m
 needs x (answers m) f d = answer-needs x m
 needs x accept f d = absurd (d refl)

@@ -140,7 +140,7 @@ module _ (l : Lent) (k n : ℕ) (f : FreshLent l k n) where
       y = a .left
 
       o : Offering (meant l) xs m
-      o = offering (meant l) xs m (a .faultless)
+      o = offering (meant l) (sounds .nearly .core .bound) xs m (a .faultless)
 
       one : takesOne l (offers xs m) ≡ 1
       one = ap (λ (b : Bool). cond b 1 0) e

@@ -2,7 +2,7 @@
 -- The search in hand and the settling of the table were followed before; here their ends are put together.
 use mathlib.Core.Path.{_≡_, refl, sym, ap, _∙_}
 use mathlib.Core.Logic.{_≢_, _⊎_, inl, inr}
-use mathlib.Core.Bool.{Bool, true, false, _&&_, not, cond, true≢false}
+use mathlib.Core.Bool.{Bool, true, false, not, cond, true≢false}
 use mathlib.Core.List.{List, []}
 use mathlib.Core.Option.{none, some}
 use Prim.Native.Nat.{ℕ, zero, suc, _+_, _-_, _≤_}
@@ -27,6 +27,7 @@ use Rattle.model.proofs.Laws.Listed.{stored}
 use Rattle.model.proofs.Laws.Verdict.{ended, run-state}
 use Rattle.model.proofs.Laws.Settle.{Keeps, ShortOk, SettledOk, ok-short, ok-asks, ok-proposes, settled-ok, past, blanked-length}
 use Rattle.model.proofs.Laws.Advance.{PutDown, HandOk, hand-short, hand-asks, hand-down}
+use Rattle.model.proofs.Laws.Cases.{not-contradicts}
 use Rattle.model.proofs.Laws.Offer.{offer-ok, its-answer}
 use Rattle.model.proofs.Laws.Answer.{answered-core, answered-tidy, answer-hand-ok}
 use Rattle.model.specs.Phase.{idle, holding, filling, Nearly}
@@ -65,14 +66,6 @@ verdict-other true (suc zero) l e = absurd (true≢false e)
 verdict-other false (suc zero) l e = refl
 verdict-other b (suc (suc m)) l e = absurd (omega arith)
 
-not-contradicts : (v m : ℕ) → contradicts v m ≡ false → (v ≡ 0) ⊎ (v ≡ m + 1)
-not-contradicts v m e = go (eqb v 0) refl (eqb v (m + 1)) refl e
-  where
-    go : (a : Bool) → eqb v 0 ≡ a → (b : Bool) → eqb v (m + 1) ≡ b → not a && not b ≡ false → (v ≡ 0) ⊎ (v ≡ m + 1)
-    go true p b q r = inl (eqb-true v 0 p)
-    go false p true q r = inr (eqb-true v (m + 1) q)
-    go false p false q r = absurd (true≢false r)
-
 -- the verdict by a stack is the proposal's verdict on the listed record
 list-verdict : (x : Tables) (xs : List ℕ) → Parses (x .store .counts) 0 xs →
     acceptsList (automatonOf x) xs ≡ proposedVerdict (x .store) (x .answers) (x .s) (x .t) (x .c) (evalFrom (leads (rulesOf (x .store) (rowOf x) (x .s) (x .t))) none (x .store .counts) xs [])
@@ -83,8 +76,12 @@ list-verdict x xs ps =
     final (gives q) = refl
     final (stuck p) = refl
 
-pub offering : (x : Tables) (xs : List ℕ) (m : ℕ) → offerFault x xs m ≡ 0 → Offering x xs m
-offering x xs m e =
+-- 11 to 15 are not given
+pub listed-well : (x : Tables) (xs : List ℕ) (m : ℕ) → offerFault x xs m ≡ 0 → recordFault (x .store .counts) xs ≡ 0
+listed-well x xs m e = or-zero (recordFault (x .store .counts) xs) _ (or-zero (unless (isProposing x) 31) _ e .1) .0
+
+pub offering : (x : Tables) → ((i : ℕ) → answerAt (x .answers) i ≤ 2) → (xs : List ℕ) (m : ℕ) → offerFault x xs m ≡ 0 → Offering x xs m
+offering x bound xs m e =
     let a = or-zero (unless (isProposing x) 31) _ e in
     let b = or-zero (recordFault (x .store .counts) xs) _ (a .1) in
     let c = or-zero (unless (markFits m) 16) _ (b .1) in
@@ -101,7 +98,7 @@ offering x xs m e =
       parsed = ps;
       mark = l;
       other-verdict = sym (list-verdict x xs ps) ∙ verdict-other (acceptsList (automatonOf x) xs) m l v;
-      agrees = not-contradicts (answerAt (x .answers) (knownRow (x .store) xs)) m w;
+      agrees = not-contradicts (answerAt (x .answers) (knownRow (x .store) xs)) m (bound (knownRow (x .store) xs)) l w;
     }
 
 pub answering : (x : Tables) (m : ℕ) → answerFault x m ≡ 0 → (x .asked ≢ 0) × (m ≤ 1)

@@ -74,7 +74,7 @@ module _ (x : Tables) (s : Sounds x) where
 
   pub took : (k : Call) (y : Tables) → faultOf x k ≡ 0 → doneBy x k ≡ leaves y → Took x k y
   took (offers xs m) y f e =
-      let o = offering x xs m f in
+      let o = offering x (s .nearly .core .bound) xs m f in
       let w = idle-facts x s (o .idle-now) in
       took-offered xs m y o (offered x xs m) (offer-taken x (w .0) (s .nearly .tidy) (w .1) xs m o) (ends-in (offered x xs m) y e)
   took (answers m) y f e =

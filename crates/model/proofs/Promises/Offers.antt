@@ -1,14 +1,14 @@
 -- An offer of a record over the alphabet, in time and not against what is known, is refused by no line: it is taken, or something runs short.
 -- The record's symbols have no fault and give it back; so the verdict on them is that on the record, and their row, where it is known, has its tree.
 use mathlib.Core.Path.{_≡_, refl, sym, ap, _∙_}
-use mathlib.Core.Logic.{_≢_, _⊎_, inl, inr}
+use mathlib.Core.Logic.{_≢_, _⊎_, inl}
 use mathlib.Core.Bool.{Bool, true, false, _&&_, not, cond}
 use mathlib.Core.List.{List}
 use Prim.Native.Nat.{ℕ, _+_, _≤_, _<_}
 use native.Mathlib.Omega.{arith}
 use native.Mathlib.Decide.{ℕ-discrete}
 use lib.ListN.{length}
-use borrow.Author.Tests.{lt-ltb, le-leb, eq-eqb, ne-eqb}
+use borrow.Author.Tests.{lt-ltb, le-leb, leb-true, eq-eqb, ne-eqb}
 use Rattle.model.specs.Limits.{mostListed}
 use Rattle.model.specs.Store.{used}
 use Rattle.model.specs.Terms.{Tree, Over, treeAt, symbolsOf, recordFault, knownRow}
@@ -17,10 +17,11 @@ use Rattle.model.specs.Table.{Tables, answerAt, automatonOf}
 use Rattle.model.specs.TableFacts.{Core}
 use Rattle.model.specs.Calls.{offers, answers, isAsking, isProposing, phaseOf, contradicts, verdictIs, sheetOf, faultOf}
 use Rattle.model.specs.Listing.{emitted}
-use Rattle.model.specs.Promise.{OffersTaken, OthersTaken}
+use Rattle.model.specs.Promise.{OffersTaken, SixCases, OthersTaken}
 use Rattle.model.proofs.Laws.Trees.{recordFault-parses}
 use Rattle.model.proofs.Laws.Records.{symbols-back, symbols-faultless, some-symbols, known-tree}
 use Rattle.model.proofs.Laws.Sounds.{sound-facts}
+use Rattle.model.proofs.Laws.Cases.{as-the-sum, agrees}
 use Rattle.model.proofs.Promises.Automata.{one-automaton}
 use Rattle.model.proofs.Promises.Steps.{taken-when-due}
 
@@ -37,10 +38,19 @@ proposing x e = go (x .accepted) (isAsking x) e
 faultless : (ns : List ℕ) (t : Tree) → Over ns t → length (symbolsOf t) ≤ mostListed → recordFault ns (symbolsOf t) ≡ 0
 faultless ns t o l = rw (lt-ltb 0 (length (symbolsOf t)) (some-symbols t), le-leb (length (symbolsOf t)) mostListed l) (symbols-faultless ns t o)
 
--- 33: a stored code that agrees
-agrees : (v m : ℕ) → (v ≡ 0) ⊎ (v ≡ m + 1) → contradicts v m ≡ false
-agrees v m (inl e) = rw (eq-eqb v 0 e)
-agrees v m (inr e) = rw (ne-eqb v 0 (λ z. omega arith), eq-eqb v (m + 1) e)
+-- 33: the six cases are computed, and the answers of sound tables are at most 2
+pub six-cases : SixCases
+six-cases =
+    record {
+      none-no = refl;
+      none-yes = refl;
+      no-no = refl;
+      no-yes = refl;
+      yes-no = refl;
+      yes-yes = refl;
+      as-the-sum = as-the-sum;
+      in-calls = λ x i m e f. as-the-sum (answerAt (x .answers) i) m (sound-facts x e .nearly .core .bound i) (leb-true m 1 f);
+    }
 
 module _ (x : Tables) (t : Tree) (m : ℕ) (core : Core x) (over : Over (x .store .counts) t) (few : length (symbolsOf t) ≤ mostListed) where
   -- 32: the verdict on the symbols is that on the record
@@ -51,9 +61,9 @@ module _ (x : Tables) (t : Tree) (m : ℕ) (core : Core x) (over : Over (x .stor
       ne-eqb (cond (acceptsList (automatonOf x) (symbolsOf t)) 1 0) m (λ e. n (ap (λ (z : Bool). cond z 1 0) (sym (a ∙ b)) ∙ e))
 
   -- 33: the known row has the record's tree, and row 0 has no answer
-  known : ((i : ℕ) → i < used (x .store) → treeAt (x .store) i ≡ t → (answerAt (x .answers) i ≡ 0) ⊎ (answerAt (x .answers) i ≡ m + 1)) →
+  known : m ≤ 1 → ((i : ℕ) → i < used (x .store) → treeAt (x .store) i ≡ t → (answerAt (x .answers) i ≡ 0) ⊎ (answerAt (x .answers) i ≡ m + 1)) →
       contradicts (answerAt (x .answers) (knownRow (x .store) (symbolsOf t))) m ≡ false
-  known h = agrees (answerAt (x .answers) i) m (go (ℕ-discrete i 0))
+  known l h = agrees (answerAt (x .answers) i) m l (go (ℕ-discrete i 0))
     where
       i : ℕ
       i = knownRow (x .store) (symbolsOf t)
@@ -67,7 +77,7 @@ module _ (x : Tables) (t : Tree) (m : ℕ) (core : Core x) (over : Over (x .stor
 pub offers-taken : OffersTaken
 offers-taken x t m e p o l k v h =
     let core = sound-facts x e .nearly .core in
-    let f : faultOf x (offers (symbolsOf t) m) ≡ 0 = rw (proposing x p, faultless (x .store .counts) t o l, le-leb m 1 k, verdict x t m core o l v, known x t m core o l h) in
+    let f : faultOf x (offers (symbolsOf t) m) ≡ 0 = rw (proposing x p, faultless (x .store .counts) t o l, le-leb m 1 k, verdict x t m core o l v, known x t m core o l k h) in
     taken-when-due x (offers (symbolsOf t) m) e .taken-or-short f
 
 -- THE OTHER CALLS: their lines are the phase, the mark and the room

@@ -60,7 +60,7 @@ offer-ran x xs m e (stored-at y i k t s) = end-ran y e s
 
 done-ran : (x : Tables) → Sounds x → (k : Call) → faultOf x k ≡ 0 → Ran (doneBy x k)
 done-ran x s (offers xs m) f =
-    let o = offering x xs m f in
+    let o = offering x (s .nearly .core .bound) xs m f in
     let w = idle-facts x s (o .idle-now) in
     offer-ran x xs m (offered x xs m) (offer-taken x (w .0) (s .nearly .tidy) (w .1) xs m o)
 done-ran x s (answers m) f =

@@ -7,7 +7,7 @@ use Rattle.model.specs.Limits.{mostContexts}
 use Rattle.model.specs.Calls.{faultOf}
 use Rattle.model.specs.Entry.{Arrays, tablesOf}
 use Rattle.model.proofs.Laws.Trees.{recordFault-parses}
-use Rattle.model.proofs.Laws.Step.{offering}
+use Rattle.model.proofs.Laws.Step.{listed-well}
 use Rattle.bank_fill.specs.Adding.{Came, grownRow}
 use Rattle.bank_fill.specs.declared.add.Grown.{Grown}
 use Rattle.bank_fill.proofs.Laws.Coming.{comes-same}
@@ -57,8 +57,8 @@ store-requires c κs =
     let s : tie.Start = e .before .before .before .before .before in
     let x = tablesOf (s .args .words .now) (s .args .lists) in
     let free = ap (λ (k : Said). faultOf x (callOf k (s .args .symbols .now))) (sym (e .enum-told2 .given .1)) ∙ s .pre .2 in
-    let o = offering x (s .args .symbols .now) (e .enum-told2 .given .0 .0) free in
-    (s .pre .1, o .parsed, recordFault-parses (countsIn (s .args .lists)) (s .args .symbols .now) (o .fits) .2)
+    let p = recordFault-parses (countsIn (s .args .lists)) (s .args .symbols .now) (listed-well x (s .args .symbols .now) (e .enum-told2 .given .0 .0) free) in
+    (s .pre .1, p .0, p .2)
 
 returns : tie.Need-returns
 returns c =
