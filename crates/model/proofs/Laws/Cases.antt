@@ -1,4 +1,4 @@
--- The six cases of 33 are what a sum says of them; and by the sum, a mark that does not contradict meets no answer or its own code.
+-- The six cases of 33, one by one, say what the sum says that they replace. By the sum, a mark contradicts neither an unknown answer nor its own.
 use mathlib.Core.Path.{_≡_, refl, sym, _∙_}
 use mathlib.Core.Logic.{_⊎_, inl, inr}
 use mathlib.Core.Bool.{Bool, true, false, _&&_, not, true≢false}
