@@ -58,7 +58,7 @@ look x =
 abbrev pub markFits : (mark : ℕ) → Bool
 markFits m = leb m 1
 
--- 33, in six cases: stored 0 none, 1 no, 2 yes; mark 0 no, 1 yes. A call meets no other pair, by T1 and 16
+-- 33, in six cases: stored 0 unknown, 1 no, 2 yes; mark 0 no, 1 yes. A call meets no other pair, by T1 and 16
 abbrev pub contradicts : (stored mark : ℕ) → Bool
 contradicts v m =
     let at : ℕ → ℕ → Bool = λ s n. eqb v s && eqb m n in

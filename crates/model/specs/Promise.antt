@@ -99,8 +99,8 @@ abbrev pub theSum : (stored mark : ℕ) → Bool
 theSum v m = not (eqb v 0) && not (eqb v (m + 1))
 
 pub record SixCases : Type 0 where
-  pub none-no : contradicts 0 0 ≡ false
-  pub none-yes : contradicts 0 1 ≡ false
+  pub unknown-no : contradicts 0 0 ≡ false
+  pub unknown-yes : contradicts 0 1 ≡ false
   pub no-no : contradicts 1 0 ≡ false
   pub no-yes : contradicts 1 1 ≡ true
   pub yes-no : contradicts 2 0 ≡ true

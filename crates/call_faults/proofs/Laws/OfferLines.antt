@@ -72,14 +72,10 @@ module _ (ws : List ℕ) (l : Lists) (xs : List ℕ) (m : ℕ) where
     line-same e = sym (fitting (verdictIs X xs m) (contradicts stored m) ∙ ap (λ (s : Bool). orElse (unless (not s) 32) (unless (not (contradicts stored m)) 33)) e)
 
     module _ (e : verdictIs (tablesOf ws l) xs m ≡ false) (v : ℕ) (g : v ≡ answerAt (answersIn (l .used) ws) (knownRow (storeOf ws (countsIn l) (l .used)) xs)) where
-      last : unless (not (contradicts v m)) 33 ≡ offerFault (tablesOf ws l) xs m
-      last = sym (fitting (verdictIs X xs m) (contradicts stored m) ∙ λ i. orElse (unless (not (e i)) 32) (unless (not (contradicts (sym g i) m)) 33))
-
-      pub line-against : contradicts v m ≡ true → 33 ≡ offerFault (tablesOf ws l) xs m
-      line-against p = sym (ap (λ (b : Bool). unless (not b) 33) p) ∙ last
-
-      pub no-line : contradicts v m ≡ false → 0 ≡ offerFault (tablesOf ws l) xs m
-      no-line p = sym (ap (λ (b : Bool). unless (not b) 33) p) ∙ last
+      pub line-last : (b : Bool) → b ≡ contradicts v m → unless (not b) 33 ≡ offerFault (tablesOf ws l) xs m
+      line-last b p =
+          let q : b ≡ contradicts stored m = p ∙ ap (λ (z : ℕ). contradicts z m) g in
+          sym (fitting (verdictIs X xs m) (contradicts stored m) ∙ λ i. orElse (unless (not (e i)) 32) (unless (not (sym q i)) 33))
 
 -- THE VERDICT against the mark
 mark-is : (b : Bool) (m : ℕ) → m ≤ 1 → Bool·beq b (eqb m 1) ≡ true → eqb (cond b 1 0) m ≡ true

@@ -1,21 +1,23 @@
 -- `call_faults::offer_fault` meets its contract: the first line that applies, by the tests made before it.
 use mathlib.Core.Path.{_≡_, sym, ap, _∙_}
+use mathlib.Core.Bool.{Bool, true, false, not}
 use native.Mathlib.Omega.{arith}
 use borrow.Author.Needs.{needs}
 use Prim.Native.Nat.{ℕ, _≤_, _<_}
 use lib.ListN.{length}
 use lib.Seq.{length-take-le}
 use Rattle.model.specs.Limits.{mostListed, mostSymbols}
-use Rattle.model.specs.Terms.{knownRow}
+use Rattle.model.specs.Terms.{unless, knownRow}
 use Rattle.model.specs.Table.{answerAt}
+use Rattle.model.specs.Calls.{offerFault}
 use Rattle.model.specs.Facts.{Parses}
-use Rattle.model.specs.Entry.{storeOf, answersIn}
+use Rattle.model.specs.Entry.{storeOf, answersIn, tablesOf}
 use Rattle.model.proofs.Laws.Lent.{listsFit-facts}
 use Rattle.model.proofs.Laws.Trees.{recordFault-parses}
 use Rattle.bank.specs.Rows.{answerIn}
 use Rattle.bank.proofs.Laws.Words.{answer-in}
 use Rattle.run_lists.specs.Members.{countsIn}
-use Rattle.call_faults.proofs.Laws.OfferLines.{line-same, line-against, no-line, known-row-within}
+use Rattle.call_faults.proofs.Laws.OfferLines.{line-same, line-last, known-row-within}
 use Rattle.call_faults.specs.Lines.{Tested}
 use Rattle.call_faults.proofs.offer_fault.Statement.{statement}
 use Rattle.call_faults.proofs.offer_fault.Tie as tie
@@ -109,21 +111,21 @@ answer-of-requires c κs =
 contradicts-requires : tie.Need-contradicts-requires
 contradicts-requires c κs = search needs
 
-returns-3 : tie.Need-returns-3
-returns-3 c =
-    let a : Answered = c .before .before in
+-- 33 or none, as the six cases told
+last : (c : tie.After-contradicts) (b : Bool) → c .contradicts .result ≡ b →
+    unless (not b) 33 ≡ offerFault (tablesOf (first (c .before) .args .words .now) (first (c .before) .args .lists)) (first (c .before) .args .symbols .now) (first (c .before) .args .mark)
+last c b e =
+    let a : Answered = c .before in
     let d = differs a in
     let s = first a in
-    line-against (s .args .words .now) (s .args .lists) (s .args .symbols .now) (s .args .mark) (tested (fitting d)) (sym (d .before .verdict-is .ensures) ∙ d .if2 .left) (a .answer-of .result) (answered a)
-    (sym (c .before .contradicts .ensures) ∙ c .if3 .taken)
+    line-last (s .args .words .now) (s .args .lists) (s .args .symbols .now) (s .args .mark) (tested (fitting d)) (sym (d .before .verdict-is .ensures) ∙ d .if2 .left)
+    (a .answer-of .result) (answered a) b (sym e ∙ c .contradicts .ensures)
+
+returns-3 : tie.Need-returns-3
+returns-3 c = last (c .before) true (c .if3 .taken)
 
 returns-4 : tie.Need-returns-4
-returns-4 c =
-    let a : Answered = c .before .before in
-    let d = differs a in
-    let s = first a in
-    no-line (s .args .words .now) (s .args .lists) (s .args .symbols .now) (s .args .mark) (tested (fitting d)) (sym (d .before .verdict-is .ensures) ∙ d .if2 .left) (a .answer-of .result) (answered a)
-    (sym (c .before .contradicts .ensures) ∙ c .if3 .left)
+returns-4 c = last (c .before) false (c .if3 .left)
 
 pub offer-fault-spec : {M : Type 1} → statement M
 offer-fault-spec =

@@ -42,8 +42,8 @@ faultless ns t o l = rw (lt-ltb 0 (length (symbolsOf t)) (some-symbols t), le-le
 pub six-cases : SixCases
 six-cases =
     record {
-      none-no = refl;
-      none-yes = refl;
+      unknown-no = refl;
+      unknown-yes = refl;
       no-no = refl;
       no-yes = refl;
       yes-no = refl;
