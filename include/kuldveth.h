@@ -12,7 +12,7 @@
 
 /* The version of this header (§11): it goes up with each change of a layout or of a call. kuldveth_version() tells that of the
  * library that is linked. Where the two differ, make no other call. */
-#define KULDVETH_VERSION 2
+#define KULDVETH_VERSION 3
 
 /* Limits (§11). */
 #define KULDVETH_WORDS_PER_ROW 6
@@ -107,8 +107,8 @@ enum {
 enum {
     KULDVETH_UNSOUND = 30,           /* the tables are not sound */
     KULDVETH_NOT_NOW = 31,           /* the call is not allowed now */
-    KULDVETH_NOTHING_NEW = 32,       /* the mark is the automaton's verdict already */
-    KULDVETH_CONTRADICTS = 33,       /* the mark contradicts a known answer */
+    KULDVETH_NOTHING_NEW = 32,       /* the mark is the automaton's verdict already, and contradicts no known answer */
+    KULDVETH_CONTRADICTS = 33,       /* the mark contradicts a known answer, whatever the automaton says */
     KULDVETH_NO_ROWS = 34,           /* rows run out */
     KULDVETH_NO_STATES = 35,         /* a 33rd state */
     KULDVETH_NO_RULES = 36           /* a 257th transition */
@@ -122,7 +122,7 @@ struct kuldveth_seen kuldveth_start(uint32_t *words, size_t words_length, struct
                                     const uint8_t *counts, size_t counts_length);
 
 /* An offer (§3.4): symbols, children before parent; mark 1 where the archive keeps the record, 0 where it does not.
- * 18, 30, 31, 11 to 16, 32, 33, then 34 to 36. */
+ * 18, 30, 31, 11 to 16, 33, 32, then 34 to 36: a contradiction is told, also where the automaton says what the mark says. */
 struct kuldveth_seen kuldveth_offer(uint32_t *words, size_t words_length, struct kuldveth_lists *lists,
                                     const uint8_t *symbols, size_t symbols_length, uint8_t mark);
 

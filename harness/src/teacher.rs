@@ -1,10 +1,11 @@
 //! Runs of the oracle under a teacher that is always right, often wrong, or answers at random.
 
+use crate::teaching::proposal;
 use oracle::limits::{ROWS_MAX, ROW_WORDS};
 use oracle::testing::compare::Tables;
 use oracle::testing::random::Random;
 use oracle::testing::target::{smallest_difference, Target};
-use oracle::{automaton, Lists};
+use oracle::Lists;
 
 /// A fresh run. `honest` is how many answers out of a hundred are the target's.
 pub struct Taught {
@@ -56,7 +57,7 @@ impl Taught {
             None => return oracle::accept(words, lists).number == 0,
         };
         let mark = !proposed.accepts(&record) as u8;
-        // A wrong mark may differ from a stored answer.
+        // A wrong mark may contradict a stored answer.
         matches!(oracle::offer(words, lists, &record, mark).number, 0 | 33)
     }
 
@@ -83,18 +84,4 @@ impl Taught {
         self.tables.lists.accepted = 0;
         (self.tables.lists.asked == 0).then_some(self.tables)
     }
-}
-
-/// The proposed automaton, through its list.
-fn proposal(tables: &Tables) -> Target {
-    Target::new(automaton(&list(tables)).expect("an emitted list reads again"))
-}
-
-/// The bytes that emitting writes.
-pub fn list(tables: &Tables) -> Vec<u8> {
-    let mut out = vec![0; 4_096];
-    let emitted = oracle::emit(&tables.words, &tables.lists, &mut out);
-    assert_eq!(emitted.number, 0);
-    out.truncate(emitted.size as usize);
-    out
 }

@@ -4,8 +4,9 @@ use crate::difference::difference;
 use oracle::limits::{RECORD_MAX, ROW_WORDS};
 use oracle::testing::compare::{Call, Tables};
 use oracle::testing::random::Random;
+use oracle::testing::reading;
 use oracle::testing::target::Target;
-use oracle::{automaton, Lists};
+use oracle::Lists;
 
 /// Tables that were lent to a start, full of rubbish before.
 pub fn started(counts: &[u8], rows: usize) -> Tables {
@@ -20,11 +21,7 @@ pub fn started(counts: &[u8], rows: usize) -> Tables {
 
 /// The proposed automaton, through its list.
 pub fn proposal(tables: &Tables) -> Target {
-    let mut out = vec![0; 4_096];
-    let emitted = oracle::emit(&tables.words, &tables.lists, &mut out);
-    assert_eq!(emitted.number, 0);
-    out.truncate(emitted.size as usize);
-    Target::new(automaton(&out).expect("an emitted list reads again"))
+    reading::proposal(&tables.words, &tables.lists)
 }
 
 /// The target's verdict on a row.
@@ -33,20 +30,9 @@ pub fn truth(target: &Target, tables: &Tables, row: u16) -> bool {
     target.is_final(states[row as usize])
 }
 
-/// The symbols of a row without a hole, children before parent, if they are few enough to be offered: a turn writes one.
+/// The symbols of a row without a hole, children before parent, if they are few enough to be offered.
 pub fn written(tables: &Tables, row: u16) -> Option<Vec<u8>> {
-    let (mut symbols, mut open) = (Vec::new(), vec![row as usize]);
-    while let Some(row) = open.pop() {
-        let words = &tables.words[row * ROW_WORDS..][..ROW_WORDS];
-        symbols.push(words[0] as u8);
-        let count = tables.lists.counts[words[0] as usize] as usize;
-        open.extend(words[2..][..count].iter().map(|&child| child as usize));
-        if symbols.len() > RECORD_MAX {
-            return None;
-        }
-    }
-    symbols.reverse();
-    Some(symbols)
+    reading::symbols(&tables.words, &tables.lists, row)
 }
 
 /// The next call of a truthful run with small counterexamples; acceptance at its end. A

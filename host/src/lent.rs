@@ -4,7 +4,7 @@
 use std::mem::size_of;
 
 /// The version of these layouts and calls (§11).
-pub const VERSION: u32 = 2;
+pub const VERSION: u32 = 3;
 
 /// Numbers in a row of the record table, and how many rows it may have (§2.1).
 pub const WORDS_PER_ROW: usize = 6;

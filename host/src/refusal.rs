@@ -18,7 +18,9 @@ pub enum Refusal {
     BadList,
     Unsound,
     NotNow,
+    /// The mark contradicts no known answer, and the automaton says the same already.
     NothingNew,
+    /// The opposite of the mark is known of the record, whatever the automaton says.
     Contradicts,
     NoRows,
     NoStates,

@@ -51,14 +51,14 @@ fn try_offer(
     if mark > 1 {
         return Err(Refusal::OddMark);
     }
-    if run.accepts(offered.state) == (mark == 1) {
-        return Err(Refusal::VerdictAgrees);
-    }
     let known = offered
         .stored
         .map_or(UNKNOWN, |row| run.records.answer(row));
     if contradicts(known, mark) {
         return Err(Refusal::AnswerDiffers);
+    }
+    if run.accepts(offered.state) == (mark == 1) {
+        return Err(Refusal::VerdictAgrees);
     }
     let row = run.store_offer(symbols)?;
     run.store_mark(row, mark);

@@ -1,4 +1,4 @@
-// call: the lines that refuse an answer or an offer to sound tables: 31, 11 to 16, 32, 33, the first that applies (§5.3).
+// call: the lines that refuse an answer or an offer to sound tables: 31, 11 to 16, 33, 32, the first that applies (§5.3).
 ghost use mathlib.Core.Path.{_≡_};
 ghost use mathlib.Core.Bool.{true};
 ghost use Rattle.model.specs.Calls.{contradicts, offerFault, faultOf, verdictIs};
@@ -37,7 +37,7 @@ fn input_fault(lists: Lists, symbols: &[u8], mark: u8) -> u8
     0
 }
 
-// Whether the mark is the verdict of the proposed automaton, on an offer that no line before 32 refuses.
+// Whether the mark is the verdict of the proposed automaton, on an offer that 31 and 11 to 16 do not refuse.
 fn verdict_is(
     words: &[u32],
     lists: Lists,
@@ -107,15 +107,15 @@ fn offer_fault(
     if fault != 0 {
         return fault;
     }
-    if verdict_is(words, lists, symbols, mark, index, reps) {
-        return 32;
-    }
     let letters = lists.letters as usize;
     let counts = lists.counts;
     let row = bank_listed::known_row(words, &counts[..letters], lists.used, index, symbols);
     let answer = rows::answer_of(words, row);
     if contradicts(answer, mark) {
         return 33;
+    }
+    if verdict_is(words, lists, symbols, mark, index, reps) {
+        return 32;
     }
     0
 }

@@ -57,6 +57,7 @@ pub mod Fresh
 pub mod Room
 pub mod Lending
 pub mod Needed
+pub mod Known
 -- soundness, tested and as facts
 pub mod ReflectLists
 pub mod ReflectRows

@@ -9,5 +9,6 @@ pub mod Automata
 pub mod Offers
 pub mod Learns
 pub mod History
+pub mod Marks
 pub mod Plug
 pub mod All

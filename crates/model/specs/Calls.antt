@@ -78,7 +78,7 @@ offerFault x xs m =
     orElse (unless (isProposing x) 31)
     (orElse (recordFault (x .store .counts) xs)
     (orElse (unless (markFits m) 16)
-    (orElse (unless (not (verdictIs x xs m)) 32) (unless (not (contradicts (answerAt (x .answers) (knownRow (x .store) xs)) m)) 33))))
+    (orElse (unless (not (contradicts (answerAt (x .answers) (knownRow (x .store) xs)) m)) 33) (unless (not (verdictIs x xs m)) 32))))
 
 abbrev pub answerFault : Tables → (mark : ℕ) → ℕ
 answerFault x m = orElse (unless (isAsking x) 31) (unless (markFits m) 16)

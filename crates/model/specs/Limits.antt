@@ -39,4 +39,4 @@ mostListed = 1024
 
 -- which layouts and calls a host has before it (§11)
 abbrev pub version : ℕ
-version = 2
+version = 3

@@ -1,11 +1,10 @@
 -- What is promised of the definitions (§7.3), in the order of the demands. Each promise is a type; a term of it in proofs/Promises is its proof.
 use mathlib.Core.Path.{_≡_}
 use mathlib.Core.Logic.{_≢_, _⊎_}
-use mathlib.Core.Bool.{Bool, true, false, _&&_, not, cond}
+use mathlib.Core.Bool.{Bool, true, false, _&&_, cond}
 use mathlib.Core.List.{List, [], _∷_, _++_, Sublistᴰ}
 use mathlib.Core.Option.{none, some}
 use Prim.Native.Nat.{ℕ, _+_, _≤_, _<_}
-use lib.Dec.{eqb}
 use lib.ListN.{length, getD}
 use Rattle.model.specs.Limits.{mostStates, mostRules, mostListed}
 use Rattle.model.specs.Base.{among, allAmong, In, Each, Below}
@@ -17,7 +16,7 @@ use Rattle.model.specs.Sound.{alphabetFits, isSound, isNearlySound, cont
 use Rattle.model.specs.Phase.{Sounds}
 use Rattle.model.specs.Listing.{Sheet, emitted, loaded, readList, finalsFit}
 use Rattle.model.specs.Steps.{lost, search, noneUnknown, unknown, seek, grow}
-use Rattle.model.specs.Calls.{Call, offers, answers, accept, looks, emits, refuses, numberOf, isAsking, phaseOf, markFits, contradicts, sheetOf, faultOf, call}
+use Rattle.model.specs.Calls.{Call, offers, answers, accept, looks, emits, refuses, numberOf, isAsking, phaseOf, sheetOf, faultOf, call}
 use Rattle.model.specs.Entry.{sizeFits, listsFit, Arrays, startNumber, startSeen, callNumber, callSeen}
 use Rattle.model.specs.Due.{RowsShort, StatesShort, TransitionsShort}
 use Rattle.model.specs.Run.{Lent, meant, startedRun, afterCall, after, isTaken, takenOnly, taken, shown, grows, Said, said, saidIn, offeredBy, askedBy, heardIn, agreesWith}
@@ -92,22 +91,6 @@ OffersTaken =
     cond (accepts (automatonOf x) t) 1 0 ≢ m →
     ((i : ℕ) → i < used (x .store) → treeAt (x .store) i ≡ t → (answerAt (x .answers) i ≡ 0) ⊎ (answerAt (x .answers) i ≡ m + 1)) →
     among (numberOf (call x (offers (symbolsOf t) m))) (0 ∷ 34 ∷ 35 ∷ 36 ∷ []) ≡ true
-
--- 33 in six cases: at 1 with 1 and at 2 with 0, at none of the other four. Wherever a call tests a mark against a stored answer, they say
--- what the sum said that they replace: no call's answer changes
-abbrev pub theSum : (stored mark : ℕ) → Bool
-theSum v m = not (eqb v 0) && not (eqb v (m + 1))
-
-pub record SixCases : Type 0 where
-  pub unknown-no : contradicts 0 0 ≡ false
-  pub unknown-yes : contradicts 0 1 ≡ false
-  pub no-no : contradicts 1 0 ≡ false
-  pub no-yes : contradicts 1 1 ≡ true
-  pub yes-no : contradicts 2 0 ≡ true
-  pub yes-yes : contradicts 2 1 ≡ false
-  pub as-the-sum : (v m : ℕ) → v ≤ 2 → m ≤ 1 → contradicts v m ≡ theSum v m
-  pub in-calls : (x : Tables) (i m : ℕ) → isSound x ≡ true → markFits m ≡ true →
-      contradicts (answerAt (x .answers) i) m ≡ theSum (answerAt (x .answers) i) m
 
 -- the other calls are not refused by a line too many either: an answer of 0 or 1 while asking, acceptance while proposing, a look,
 -- an emission with enough room while no question is open

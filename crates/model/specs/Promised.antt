@@ -1,6 +1,7 @@
 -- Every promise at once, in the order of the demands (§7.3): one record, of which proofs/Promises/All.antt has the one value.
 use Rattle.model.specs.Due.{RoomAlone}
-use Rattle.model.specs.Promise.{RefusedUntouched, ReadsUntouched, UnsoundRefused, SoundMeans, StaysSound, StaysNearlySound, SearchEnds, TakenWhenDue, OffersTaken, SixCases, OthersTaken, CountsTold, LooksNext, Ordered, AskedOnce, AnswersTaken, OneAutomaton, ListBack, Vouched, GrowsEach, LearnsEach, TakenAlone}
+use Rattle.model.specs.Marks.{SixCases, ContradictionTold}
+use Rattle.model.specs.Promise.{RefusedUntouched, ReadsUntouched, UnsoundRefused, SoundMeans, StaysSound, StaysNearlySound, SearchEnds, TakenWhenDue, OffersTaken, OthersTaken, CountsTold, LooksNext, Ordered, AskedOnce, AnswersTaken, OneAutomaton, ListBack, Vouched, GrowsEach, LearnsEach, TakenAlone}
 use Rattle.model.specs.Plug.{FillsTrees, AsksPlugs, RowsSaid}
 use Rattle.model.specs.Worked.{Runs, Corners, PremisesHold}
 
@@ -16,6 +17,7 @@ pub record Promised : Type 0 where
   pub taken-when-due : TakenWhenDue
   pub offers-taken : OffersTaken
   pub six-cases : SixCases
+  pub contradiction-told : ContradictionTold
   pub others-taken : OthersTaken
   pub room-alone : RoomAlone
   pub counts-told : CountsTold

@@ -102,7 +102,7 @@ pub record Runs : Type 0 where
   pub no-to-op : refusal (fresh 9) (offers op 0) ≡ 32
   pub an-answer : refusal (fresh 9) (answers 0) ≡ 31
   pub yes-to-p : refusal (at 9 2) (offers (1 ∷ []) 1) ≡ 33
-  pub no-to-op-again : refusal (at 9 2) (offers op 0) ≡ 32
+  pub no-to-op-again : refusal (at 9 2) (offers op 0) ≡ 33
 
 -- THE CORNERS of the calls: what start leaves, what a refusal returns, and the lines of refusal in their order
 abbrev pub zeros : (number : ℕ) → Seen
@@ -144,7 +144,7 @@ pub record Starts : Type 0 where
 
 pub record Corners : Type 0 where
   pub starts : Starts
-  -- offers: 31, 11 to 15, 16, 32, 33
+  -- offers: 31, 11 to 15, 16, 33, 32
   pub offered-while-asking : told (at 9 1) (offers [] 2) ≡ zeros 31
   pub offered-when-accepted : told (at 9 5) (offers op 0) ≡ zeros 31
   pub nothing-with-mark-2 : told (fresh 9) (offers [] 2) ≡ zeros 11

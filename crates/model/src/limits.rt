@@ -27,4 +27,4 @@ pub const MOST_LISTED: usize = 1024;
 
 // What a host is lent and returned, and by which calls (§11). It goes up with each change of a layout or of a call; 1 was the
 // layout with padding.
-pub const VERSION: u32 = 2;
+pub const VERSION: u32 = 3;

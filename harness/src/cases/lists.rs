@@ -1,12 +1,14 @@
 //! Loading: lists of runs, damaged at every byte, cut and extended, and bytes that are no list.
 
 use super::compare::Met;
-use crate::teacher::{list, Taught};
+use crate::teacher::Taught;
 use oracle::testing::random::Random;
+use oracle::testing::reading::list;
 
 /// The list of a random run.
 pub fn proposed(random: &mut Random) -> Option<Vec<u8>> {
-    Some(list(&Taught::random(random).proposing(random, 40)?))
+    let tables = Taught::random(random).proposing(random, 40)?;
+    Some(list(&tables.words, &tables.lists))
 }
 
 /// A block of a list (docs/SPECIFICATION.md, 6.1).

@@ -15,6 +15,7 @@ pub mod shortages;
 pub mod view;
 
 use compare::Met;
+use oracle::testing::marks::{random_run, Marks};
 use oracle::testing::random::Random;
 use std::thread;
 
@@ -22,7 +23,7 @@ use std::thread;
 type Kind = fn(&mut Random, &mut Met);
 
 /// The kinds of random cases, one after the other by case number.
-const KINDS: [(&str, Kind); 17] = [
+const KINDS: [(&str, Kind); 18] = [
     ("truthful teacher", fresh::truthful_teacher),
     ("contradictory teacher", fresh::contradictory_teacher),
     ("random teacher", fresh::random_teacher),
@@ -57,6 +58,13 @@ const KINDS: [(&str, Kind); 17] = [
     ("lists damaged", lists::random_list),
     ("rows against the index", colliding::random_rows),
     ("lists viewed", view::random_lists),
+    ("marks against what was said", |random, met| {
+        (0..20).for_each(|_| {
+            random_run(random, 80, &mut Marks::default(), |tables, call| {
+                met.call(tables, call)
+            });
+        });
+    }),
 ];
 
 /// What sort of case a number stands for.

@@ -100,7 +100,7 @@ fn refusals() {
     met.refused(&fresh, &Call::Answer(1), 31);
     let third = after(3, 9);
     met.refused(&third, &offer(&[1], 1), 33);
-    met.refused(&third, &offer(&[1, 0], 0), 32);
+    met.refused(&third, &offer(&[1, 0], 0), 33);
 }
 
 /// Offers of p under so many o's, and what comes of them.

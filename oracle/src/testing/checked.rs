@@ -3,12 +3,12 @@
 
 use super::compare::Tables;
 use super::random::Random;
+use super::reading::proposal;
 use super::refusals;
 use super::target::{smallest_difference, Target};
-use crate::calls::{accept, answer, emit, look, offer, start};
+use crate::calls::{accept, answer, look, offer, start};
 use crate::lent::{Lists, Row, Seen, ACCEPTED, ASKING, PROPOSING};
 use crate::limits::{ROWS_MAX, ROW_WORDS};
-use crate::list::automaton;
 use std::collections::HashSet;
 
 /// A fresh run and what was seen of it. Without a target the answers are random.
@@ -196,11 +196,7 @@ impl<'a> Checked<'a> {
 
     /// The proposed automaton, through its list.
     pub fn hypothesis(&self) -> Target {
-        let mut out = vec![0; 4096];
-        let emitted = emit(&self.words, &self.lists, &mut out);
-        assert_eq!(emitted.number, 0);
-        out.truncate(emitted.size as usize);
-        Target::new(automaton(&out).expect("an emitted list reads again"))
+        proposal(&self.words, &self.lists)
     }
 
     /// Answers by the target until the run proposes or is refused. No row is asked twice, as
@@ -282,7 +278,10 @@ fn learn_within(target: &Target, large: bool, rows: usize, random: &mut Random) 
             tried.filter(|record| target.accepts(record) != proposed.accepts(record));
         let record = differing.next().unwrap_or(smallest);
         let mark = target.accepts(&record) as u8;
-        assert_eq!(run.offer(&record, 1 - mark).number, 32);
+        // The opposite mark is the verdict; 33 comes first, where the record was spoken of.
+        let known = run.stored(&record).map(|row| run.spoken.contains(&row));
+        let number = if known == Some(true) { 33 } else { 32 };
+        assert_eq!(run.offer(&record, 1 - mark).number, number);
         let mut seen = run.offer(&record, mark);
         while seen.number == 0 && seen.phase == ASKING {
             if random.percent(20) {

@@ -1,10 +1,13 @@
 //! The fast learner against the naive one on small tables of every sort.
 
 use oracle::testing::cases::{damaged_case, elsewhere_case, fresh_case, rubbish_case, Met};
-use oracle::testing::compare::agree;
+use oracle::testing::compare::{agree, fast, Call, Tables};
+use oracle::testing::damage::unfolds_small;
+use oracle::testing::marks::{random_run, Marks};
 use oracle::testing::random::Random;
 use oracle::testing::stored;
 use oracle::testing::watch::each_case;
+use oracle::Seen;
 
 fn cases(seed: u64, count: u64, case: fn(&mut Random, &mut Met)) -> Met {
     let mut met = Met::default();
@@ -38,6 +41,28 @@ fn damaged_tables() {
 fn stored_answers() {
     stored::six_cases(agree);
     stored::no_other_pair(agree);
+}
+
+/// By both learners where the trees are small enough for the naive one.
+fn agree_small(tables: &mut Tables, call: &Call) -> Seen {
+    if unfolds_small(tables) {
+        return agree(tables, call);
+    }
+    let outcome = fast(tables, call);
+    *tables = outcome.tables;
+    outcome.seen
+}
+
+/// Marks against what was said: some offers get 33 that got 32 while 32 came first, and each is contradicted.
+#[test]
+fn marks_in_runs() {
+    let mut marks = Marks::default();
+    each_case(25, 0..300, |_, random| {
+        random_run(random, 40, &mut marks, agree_small);
+    });
+    println!("{marks:?}");
+    assert!(marks.changed > 3_000 && marks.contradicted > 30_000);
+    assert!(marks.agreed > 30_000 && marks.others > 5_000);
 }
 
 #[test]

@@ -165,7 +165,7 @@ fn refusals_after_line_3() {
     let (mut words, mut lists) = after_line_3(9);
     let before = (words.clone(), lists.clone());
     assert_eq!(offer(&mut words, &mut lists, &[P], 1), refused(33));
-    assert_eq!(offer(&mut words, &mut lists, &[P, O], 0), refused(32));
+    assert_eq!(offer(&mut words, &mut lists, &[P, O], 0), refused(33));
     assert_eq!((words, lists), before);
 }
 
@@ -233,11 +233,20 @@ fn order_of_refusals() {
         "16 before 32"
     );
     let (mut words, mut lists) = after_line_3(9);
-    assert_eq!(offer(&mut words, &mut lists, &[P], 0), refused(32));
+    assert_eq!(
+        offer(&mut words, &mut lists, &[P], 0),
+        refused(32),
+        "33 does not apply"
+    );
     assert_eq!(
         offer(&mut words, &mut lists, &[P], 1),
         refused(33),
         "32 does not apply"
+    );
+    assert_eq!(
+        offer(&mut words, &mut lists, &[P, O], 0),
+        refused(33),
+        "33 before 32"
     );
 }
 

@@ -94,7 +94,7 @@ fn refusals() {
     assert_eq!(told("+ o[p]\nok"), "refused 31");
     assert_eq!(told("+ o[p]\n+ p"), "refused 31");
     assert_eq!(told("+ o[p]\nn\n+ p"), "refused 33");
-    assert_eq!(told("+ o[p]\nn\n- o[p]"), "refused 32");
+    assert_eq!(told("+ o[p]\nn\n- o[p]"), "refused 33");
     assert_eq!(told("ok"), "accepted");
 }
 

@@ -34,8 +34,8 @@ module _ (ws : List ℕ) (l : Lists) (xs : List ℕ) (m : ℕ) where
   abbrev X : Tables
   X = tablesOf ws l
 
-  abbrev lines : (asks-none accepted : Bool) → (fault : ℕ) → (fits same against : Bool) → ℕ
-  lines a z f b s g = orElse (unless (not (not a) && not z) 31) (orElse f (orElse (unless b 16) (orElse (unless (not s) 32) (unless (not g) 33))))
+  abbrev lines : (asks-none accepted : Bool) → (fault : ℕ) → (fits against same : Bool) → ℕ
+  lines a z f b g s = orElse (unless (not (not a) && not z) 31) (orElse f (orElse (unless b 16) (orElse (unless (not g) 33) (unless (not s) 32))))
 
   abbrev fault : ℕ
   fault = recordFault (countsIn l) xs
@@ -44,38 +44,37 @@ module _ (ws : List ℕ) (l : Lists) (xs : List ℕ) (m : ℕ) where
   stored = answerAt (answersIn (l .used) ws) (knownRow (storeOf ws (countsIn l) (l .used)) xs)
 
   pub line-asking : (l .asked ≡ 0 → ⊥) → 31 ≡ offerFault (tablesOf ws l) xs m
-  line-asking n = sym (ap (λ (a : Bool). lines a (eqb (l .accepted) 1) fault (markFits m) (verdictIs X xs m) (contradicts stored m)) (ne-eqb (l .asked) 0 n))
+  line-asking n = sym (ap (λ (a : Bool). lines a (eqb (l .accepted) 1) fault (markFits m) (contradicts stored m) (verdictIs X xs m)) (ne-eqb (l .asked) 0 n))
 
   module _ (a : l .asked ≡ 0) where
     pub line-accepted : l .accepted ≡ 1 → 31 ≡ offerFault (tablesOf ws l) xs m
-    line-accepted e = sym (λ i. lines (eq-eqb (l .asked) 0 a i) (eq-eqb (l .accepted) 1 e i) fault (markFits m) (verdictIs X xs m) (contradicts stored m))
+    line-accepted e = sym (λ i. lines (eq-eqb (l .asked) 0 a i) (eq-eqb (l .accepted) 1 e i) fault (markFits m) (contradicts stored m) (verdictIs X xs m))
 
     module _ (z : l .accepted ≡ 1 → ⊥) where
-      proposing : (f : ℕ) (b s g : Bool) → lines (eqb (l .asked) 0) (eqb (l .accepted) 1) f b s g ≡ lines true false f b s g
-      proposing f b s g = λ i. lines (eq-eqb (l .asked) 0 a i) (ne-eqb (l .accepted) 1 z i) f b s g
+      proposing : (f : ℕ) (b g s : Bool) → lines (eqb (l .asked) 0) (eqb (l .accepted) 1) f b g s ≡ lines true false f b g s
+      proposing f b g s = λ i. lines (eq-eqb (l .asked) 0 a i) (ne-eqb (l .accepted) 1 z i) f b g s
 
       pub line-record : (n : ℕ) → n ≡ recordFault (countsIn l) xs → (n ≡ 0 → ⊥) → n ≡ offerFault (tablesOf ws l) xs m
       line-record n e d =
-          let rest : ℕ = orElse (unless (markFits m) 16) (orElse (unless (not (verdictIs X xs m)) 32) (unless (not (contradicts stored m)) 33)) in
-          sym (proposing fault (markFits m) (verdictIs X xs m) (contradicts stored m) ∙ (λ i. orElse (sym e i) rest) ∙ ap (λ (b : Bool). cond b rest n) (ne-eqb n 0 d))
+          let rest : ℕ = orElse (unless (markFits m) 16) (orElse (unless (not (contradicts stored m)) 33) (unless (not (verdictIs X xs m)) 32)) in
+          sym (proposing fault (markFits m) (contradicts stored m) (verdictIs X xs m) ∙ (λ i. orElse (sym e i) rest) ∙ ap (λ (b : Bool). cond b rest n) (ne-eqb n 0 d))
 
       module _ (f : recordFault (countsIn l) xs ≡ 0) where
         pub line-mark : 1 < m → 16 ≡ offerFault (tablesOf ws l) xs m
-        line-mark h = sym (proposing fault (markFits m) (verdictIs X xs m) (contradicts stored m) ∙ (λ i. lines true false (f i) (lt-leb m 1 h i) (verdictIs X xs m) (contradicts stored m)))
+        line-mark h = sym (proposing fault (markFits m) (contradicts stored m) (verdictIs X xs m) ∙ (λ i. lines true false (f i) (lt-leb m 1 h i) (contradicts stored m) (verdictIs X xs m)))
 
-  -- past the mark: the verdict, then what is stored
-  module _ (q : Tested l xs m) where
-    fitting : (s g : Bool) → lines (eqb (l .asked) 0) (eqb (l .accepted) 1) fault (markFits m) s g ≡ orElse (unless (not s) 32) (unless (not g) 33)
-    fitting s g = proposing (q .idle) (q .running) fault (markFits m) s g ∙ (λ i. lines true false (q .faultless i) (le-leb m 1 (q .mark) i) s g)
+  -- past the mark: what is stored, then the verdict
+  module _ (q : Tested l xs m) (v : ℕ) (h : v ≡ answerAt (answersIn (l .used) ws) (knownRow (storeOf ws (countsIn l) (l .used)) xs)) where
+    fitting : offerFault (tablesOf ws l) xs m ≡ orElse (unless (not (contradicts v m)) 33) (unless (not (verdictIs X xs m)) 32)
+    fitting =
+        proposing (q .idle) (q .running) fault (markFits m) (contradicts stored m) (verdictIs X xs m) ∙
+        (λ i. lines true false (q .faultless i) (le-leb m 1 (q .mark) i) (contradicts (sym h i) m) (verdictIs X xs m))
 
-    pub line-same : verdictIs (tablesOf ws l) xs m ≡ true → 32 ≡ offerFault (tablesOf ws l) xs m
-    line-same e = sym (fitting (verdictIs X xs m) (contradicts stored m) ∙ ap (λ (s : Bool). orElse (unless (not s) 32) (unless (not (contradicts stored m)) 33)) e)
+    pub line-against : contradicts v m ≡ true → 33 ≡ offerFault (tablesOf ws l) xs m
+    line-against e = sym (fitting ∙ ap (λ (g : Bool). orElse (unless (not g) 33) (unless (not (verdictIs X xs m)) 32)) e)
 
-    module _ (e : verdictIs (tablesOf ws l) xs m ≡ false) (v : ℕ) (g : v ≡ answerAt (answersIn (l .used) ws) (knownRow (storeOf ws (countsIn l) (l .used)) xs)) where
-      pub line-last : (b : Bool) → b ≡ contradicts v m → unless (not b) 33 ≡ offerFault (tablesOf ws l) xs m
-      line-last b p =
-          let q : b ≡ contradicts stored m = p ∙ ap (λ (z : ℕ). contradicts z m) g in
-          sym (fitting (verdictIs X xs m) (contradicts stored m) ∙ λ i. orElse (unless (not (e i)) 32) (unless (not (sym q i)) 33))
+    pub line-last : contradicts v m ≡ false → (b : Bool) → b ≡ verdictIs (tablesOf ws l) xs m → unless (not b) 32 ≡ offerFault (tablesOf ws l) xs m
+    line-last e b p = sym (fitting ∙ λ i. orElse (unless (not (e i)) 33) (unless (not (sym p i)) 32))
 
 -- THE VERDICT against the mark
 mark-is : (b : Bool) (m : ℕ) → m ≤ 1 → Bool·beq b (eqb m 1) ≡ true → eqb (cond b 1 0) m ≡ true

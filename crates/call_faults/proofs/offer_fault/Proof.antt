@@ -17,35 +17,35 @@ use Rattle.model.proofs.Laws.Trees.{recordFault-parses}
 use Rattle.bank.specs.Rows.{answerIn}
 use Rattle.bank.proofs.Laws.Words.{answer-in}
 use Rattle.run_lists.specs.Members.{countsIn}
-use Rattle.call_faults.proofs.Laws.OfferLines.{line-same, line-last, known-row-within}
+use Rattle.call_faults.proofs.Laws.OfferLines.{line-against, line-last, known-row-within}
 use Rattle.call_faults.specs.Lines.{Tested}
 use Rattle.call_faults.proofs.offer_fault.Statement.{statement}
 use Rattle.call_faults.proofs.offer_fault.Tie as tie
 
--- the milestones: the start, an input without fault, a verdict other than the mark, the answer stored
+-- the milestones: the start, an input without fault, the answer stored, no contradiction of it
 abbrev Start : Type 0
 Start = tie.Start
 
 abbrev Fitting : Type 0
 Fitting = tie.Else1
 
-abbrev Differs : Type 0
-Differs = tie.Else2
-
 abbrev Answered : Type 0
 Answered = tie.After-answer-of
+
+abbrev Agreed : Type 0
+Agreed = tie.Else2
 
 abbrev start : Fitting → Start
 start c = c .before .before .before .before .before .before
 
-abbrev fitting : Differs → Fitting
-fitting c = c .before .before
+abbrev fitting : Answered → Fitting
+fitting c = c .before .before .before .before .before
 
-abbrev differs : Answered → Differs
-differs c = c .before .before .before .before .before
+abbrev answered : Agreed → Answered
+answered c = c .before .before
 
 abbrev first : Answered → Start
-first c = start (fitting (differs c))
+first c = start (fitting c)
 
 -- what the tests told
 tested : (c : Fitting) → Tested (start c .args .lists) (start c .args .symbols .now) (start c .args .mark)
@@ -62,8 +62,8 @@ known s = knownRow (storeOf (s .args .words .now) (countsIn (s .args .lists)) (s
 within : (s : Start) → known s < s .args .lists .used
 within s = known-row-within (s .args .words .now) (countsIn (s .args .lists)) (s .args .lists .used) (s .pre .1) (s .args .symbols .now)
 
-answered : (c : Answered) → c .answer-of .result ≡ answerAt (answersIn (first c .args .lists .used) (first c .args .words .now)) (known (first c))
-answered c =
+stored : (c : Answered) → c .answer-of .result ≡ answerAt (answersIn (first c .args .lists .used) (first c .args .words .now)) (known (first c))
+stored c =
     let s = first c in
     c .answer-of .ensures ∙ ap (answerIn (s .args .words .now)) (c .before .known-row .ensures) ∙ sym (answer-in (s .args .lists .used) (known s) (s .args .words .now) (within s))
 
@@ -73,53 +73,58 @@ input-fault-requires c κs = search needs
 returns : tie.Need-returns
 returns c = let s = c .before .before .before .before .before .before in c .before .input-fault .ensures .given (c .if1 .taken) (s .args .words .now)
 
-verdict-is-requires : tie.Need-verdict-is-requires
-verdict-is-requires c κs = let s = start c in (s .pre .0, s .pre .1, s .pre .2 (tested c .idle), tested c)
-
-returns-2 : tie.Need-returns-2
-returns-2 c =
-    let f : Fitting = c .before .before in
-    let s = start f in
-    line-same (s .args .words .now) (s .args .lists) (s .args .symbols .now) (s .args .mark) (tested f) (sym (c .before .verdict-is .ensures) ∙ c .if2 .taken)
-
 cast-letters : tie.Need-cast-letters
 cast-letters c = search needs
 
 array-share-prefix-counts : tie.Need-array-share-prefix-counts
 array-share-prefix-counts c =
-    let s : Start = c .before .before .before .before .before .before .before .before .before .before in
+    let s : Start = c .before .before .before .before .before .before .before .before in
     let e : length (s .args .lists .counts) ≡ mostSymbols = search needs in
     omega (arith, listsFit-facts (s .args .lists) (s .pre .0) .letters)
 
 slice-aggregate-known-row : tie.Need-slice-aggregate-known-row
 slice-aggregate-known-row c =
-    let s : Start = c .before .before .before .before .before .before .before .before .before .before .before in
+    let s : Start = c .before .before .before .before .before .before .before .before .before in
     let e : length (s .args .lists .counts) ≡ mostSymbols = search needs in
     sym (length-take-le (s .args .lists .letters) (s .args .lists .counts) (omega (arith, listsFit-facts (s .args .lists) (s .pre .0) .letters)))
 
 known-row-requires : tie.Need-known-row-requires
 known-row-requires c κs =
-    let f : Fitting = c .before .before .before .before .before in
+    let f : Fitting = c .before .before .before in
     let p = parsed f in
     (start f .pre .1, p .0, p .1)
 
 answer-of-requires : tie.Need-answer-of-requires
 answer-of-requires c κs =
-    let s : Start = c .before .before .before .before .before .before .before .before .before .before .before .before in
+    let s : Start = c .before .before .before .before .before .before .before .before .before .before in
     omega (arith, within s, c .known-row .ensures, s .pre .1 .finding .room)
 
 contradicts-requires : tie.Need-contradicts-requires
 contradicts-requires c κs = search needs
 
--- 33 or none, as the six cases told
-last : (c : tie.After-contradicts) (b : Bool) → c .contradicts .result ≡ b →
-    unless (not b) 33 ≡ offerFault (tablesOf (first (c .before) .args .words .now) (first (c .before) .args .lists)) (first (c .before) .args .symbols .now) (first (c .before) .args .mark)
-last c b e =
-    let a : Answered = c .before in
-    let d = differs a in
+returns-2 : tie.Need-returns-2
+returns-2 c =
+    let a : Answered = c .before .before in
     let s = first a in
-    line-last (s .args .words .now) (s .args .lists) (s .args .symbols .now) (s .args .mark) (tested (fitting d)) (sym (d .before .verdict-is .ensures) ∙ d .if2 .left)
-    (a .answer-of .result) (answered a) b (sym e ∙ c .contradicts .ensures)
+    line-against (s .args .words .now) (s .args .lists) (s .args .symbols .now) (s .args .mark) (tested (fitting a)) (a .answer-of .result) (stored a)
+    (sym (c .before .contradicts .ensures) ∙ c .if2 .taken)
+
+verdict-is-requires : tie.Need-verdict-is-requires
+verdict-is-requires c κs =
+    let f = fitting (answered c) in
+    let s = start f in
+    (s .pre .0, s .pre .1, s .pre .2 (tested f .idle), tested f)
+
+-- 32 or none, as the verdict told
+last : (c : tie.After-verdict-is) (b : Bool) → c .verdict-is .result ≡ b →
+    let s = first (answered (c .before)) in
+    unless (not b) 32 ≡ offerFault (tablesOf (s .args .words .now) (s .args .lists)) (s .args .symbols .now) (s .args .mark)
+last c b e =
+    let d : Agreed = c .before in
+    let a = answered d in
+    let s = first a in
+    line-last (s .args .words .now) (s .args .lists) (s .args .symbols .now) (s .args .mark) (tested (fitting a)) (a .answer-of .result) (stored a)
+    (sym (d .before .contradicts .ensures) ∙ d .if2 .left) b (sym e ∙ c .verdict-is .ensures)
 
 returns-3 : tie.Need-returns-3
 returns-3 c = last (c .before) true (c .if3 .taken)
@@ -133,13 +138,13 @@ offer-fault-spec =
     (tie.spec
     input-fault-requires
     returns
-    verdict-is-requires
-    returns-2
     cast-letters
     array-share-prefix-counts
     slice-aggregate-known-row
     known-row-requires
     answer-of-requires
     contradicts-requires
+    returns-2
+    verdict-is-requires
     returns-3
     returns-4)

@@ -7,7 +7,7 @@ use native.Mathlib.Omega.{arith}
 use borrow.Author.Tests.{eq-eqb, ne-eqb, eqb-true}
 use lib.Dec.{eqb}
 use Rattle.model.specs.Calls.{contradicts}
-use Rattle.model.specs.Promise.{theSum}
+use Rattle.model.specs.Marks.{theSum}
 
 pub as-the-sum : (v m : ℕ) → v ≤ 2 → m ≤ 1 → contradicts v m ≡ theSum v m
 as-the-sum zero zero l k = refl

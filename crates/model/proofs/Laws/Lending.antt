@@ -150,7 +150,7 @@ module _ (r : ℕ) where
       orElse (unless (isProposing x) 31)
       (orElse (recordFault (x .store .counts) xs)
       (orElse (unless (markFits m) 16)
-      (orElse (unless (not (eqb (cond (acceptsList (automaton-room r x i) xs) 1 0) m)) 32) (unless (not (contradicts (answerAt (x .answers) (known-room r (x .store) xs [] i)) m)) 33))))
+      (orElse (unless (not (contradicts (answerAt (x .answers) (known-room r (x .store) xs [] i)) m)) 33) (unless (not (eqb (cond (acceptsList (automaton-room r x i) xs) 1 0) m)) 32))))
   fault-room x (answers m) = refl
   fault-room x accept = refl
   fault-room x looks = refl

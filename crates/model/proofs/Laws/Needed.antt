@@ -93,7 +93,7 @@ stack-needs (a ∷ xs) x i is =
     then-needs (used x) (λ (r : ℕ). rowFor (roomed r x) a (top (countOf x a) (i ∷ is))) (λ (j : ℕ) (y : Store). storeFrom y xs (j ∷ drop (countOf x a) (i ∷ is)))
     (row-needs x a (top (countOf x a) (i ∷ is))) (λ j y. stack-needs xs y j (drop (countOf x a) (i ∷ is)))
 
-store-needs : (a : ℕ) (xs : List ℕ) (x : Store) → BuiltNeeds (used x) (λ (r : ℕ). storeFrom (roomed r x) (a ∷ xs) [])
+pub store-needs : (a : ℕ) (xs : List ℕ) (x : Store) → BuiltNeeds (used x) (λ (r : ℕ). storeFrom (roomed r x) (a ∷ xs) [])
 unfolding storeFrom
 store-needs a xs x =
     then-needs (used x) (λ (r : ℕ). rowFor (roomed r x) a (top (countOf x a) [])) (λ (j : ℕ) (y : Store). storeFrom y xs (j ∷ drop (countOf x a) []))

@@ -85,12 +85,12 @@ offering x bound xs m e =
     let a = or-zero (unless (isProposing x) 31) _ e in
     let b = or-zero (recordFault (x .store .counts) xs) _ (a .1) in
     let c = or-zero (unless (markFits m) 16) _ (b .1) in
-    let d = or-zero (unless (not (verdictIs x xs m)) 32) _ (c .1) in
+    let d = or-zero (unless (not (contradicts (answerAt (x .answers) (knownRow (x .store) xs)) m)) 33) _ (c .1) in
     let p = proposing-of x (unless-true (isProposing x) 31 (λ q. omega arith) (a .0)) in
     let ps = recordFault-parses (x .store .counts) xs (b .0) .0 in
     let l = leb-true m 1 (unless-true (markFits m) 16 (λ q. omega arith) (c .0)) in
-    let v = not-true (verdictIs x xs m) (unless-true (not (verdictIs x xs m)) 32 (λ q. omega arith) (d .0)) in
-    let w = not-true (contradicts (answerAt (x .answers) (knownRow (x .store) xs)) m) (unless-true (not (contradicts (answerAt (x .answers) (knownRow (x .store) xs)) m)) 33 (λ q. omega arith) (d .1)) in
+    let w = not-true (contradicts (answerAt (x .answers) (knownRow (x .store) xs)) m) (unless-true (not (contradicts (answerAt (x .answers) (knownRow (x .store) xs)) m)) 33 (λ q. omega arith) (d .0)) in
+    let v = not-true (verdictIs x xs m) (unless-true (not (verdictIs x xs m)) 32 (λ q. omega arith) (d .1)) in
     record {
       idle-now = p .0;
       running = p .1;

@@ -4,9 +4,10 @@ use Rattle.model.proofs.Promises.Calls.{refused-untouched, reads-untouc
 use Rattle.model.proofs.Promises.Sound.{sound-means, stays-sound, stays-nearly-sound}
 use Rattle.model.proofs.Promises.Looks.{looks-next}
 use Rattle.model.proofs.Promises.Steps.{search-ends, taken-when-due, room-alone}
-use Rattle.model.proofs.Promises.Offers.{offers-taken, six-cases, others-taken}
+use Rattle.model.proofs.Promises.Offers.{offers-taken, others-taken}
 use Rattle.model.proofs.Promises.Order.{ordered}
 use Rattle.model.proofs.Promises.History.{asked-once, answers-taken, vouched}
+use Rattle.model.proofs.Promises.Marks.{six-cases, contradiction-told}
 use Rattle.model.proofs.Promises.Plug.{fills-trees, asks-plugs, rows-said}
 use Rattle.model.proofs.Promises.Automata.{one-automaton}
 use Rattle.model.proofs.Promises.Listing.{list-back}
@@ -26,6 +27,7 @@ promised =
       taken-when-due = taken-when-due;
       offers-taken = offers-taken;
       six-cases = six-cases;
+      contradiction-told = contradiction-told;
       others-taken = others-taken;
       room-alone = room-alone;
       counts-told = counts-told;

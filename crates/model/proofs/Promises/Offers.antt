@@ -8,7 +8,7 @@ use Prim.Native.Nat.{ℕ, _+_, _≤_, _<_}
 use native.Mathlib.Omega.{arith}
 use native.Mathlib.Decide.{ℕ-discrete}
 use lib.ListN.{length}
-use borrow.Author.Tests.{lt-ltb, le-leb, leb-true, eq-eqb, ne-eqb}
+use borrow.Author.Tests.{lt-ltb, le-leb, eq-eqb, ne-eqb}
 use Rattle.model.specs.Limits.{mostListed}
 use Rattle.model.specs.Store.{used}
 use Rattle.model.specs.Terms.{Tree, Over, treeAt, symbolsOf, recordFault, knownRow}
@@ -17,16 +17,16 @@ use Rattle.model.specs.Table.{Tables, answerAt, automatonOf}
 use Rattle.model.specs.TableFacts.{Core}
 use Rattle.model.specs.Calls.{offers, answers, isAsking, isProposing, phaseOf, contradicts, verdictIs, sheetOf, faultOf}
 use Rattle.model.specs.Listing.{emitted}
-use Rattle.model.specs.Promise.{OffersTaken, SixCases, OthersTaken}
+use Rattle.model.specs.Promise.{OffersTaken, OthersTaken}
 use Rattle.model.proofs.Laws.Trees.{recordFault-parses}
 use Rattle.model.proofs.Laws.Records.{symbols-back, symbols-faultless, some-symbols, known-tree}
 use Rattle.model.proofs.Laws.Sounds.{sound-facts}
-use Rattle.model.proofs.Laws.Cases.{as-the-sum, agrees}
+use Rattle.model.proofs.Laws.Cases.{agrees}
 use Rattle.model.proofs.Promises.Automata.{one-automaton}
 use Rattle.model.proofs.Promises.Steps.{taken-when-due}
 
 -- 31: the phase is 0 only while proposing
-proposing : (x : Tables) → phaseOf x ≡ 0 → isProposing x ≡ true
+pub proposing : (x : Tables) → phaseOf x ≡ 0 → isProposing x ≡ true
 proposing x e = go (x .accepted) (isAsking x) e
   where
     go : (a b : Bool) → _≡_ {A = ℕ} (cond a 2 (cond b 1 0)) 0 → not b && not a ≡ true
@@ -37,20 +37,6 @@ proposing x e = go (x .accepted) (isAsking x) e
 -- 11 to 15: a record has symbols, and here few of them
 faultless : (ns : List ℕ) (t : Tree) → Over ns t → length (symbolsOf t) ≤ mostListed → recordFault ns (symbolsOf t) ≡ 0
 faultless ns t o l = rw (lt-ltb 0 (length (symbolsOf t)) (some-symbols t), le-leb (length (symbolsOf t)) mostListed l) (symbols-faultless ns t o)
-
--- 33: the six cases are computed, and the answers of sound tables are at most 2
-pub six-cases : SixCases
-six-cases =
-    record {
-      unknown-no = refl;
-      unknown-yes = refl;
-      no-no = refl;
-      no-yes = refl;
-      yes-no = refl;
-      yes-yes = refl;
-      as-the-sum = as-the-sum;
-      in-calls = λ x i m e f. as-the-sum (answerAt (x .answers) i) m (sound-facts x e .nearly .core .bound i) (leb-true m 1 f);
-    }
 
 module _ (x : Tables) (t : Tree) (m : ℕ) (core : Core x) (over : Over (x .store .counts) t) (few : length (symbolsOf t) ≤ mostListed) where
   -- 32: the verdict on the symbols is that on the record

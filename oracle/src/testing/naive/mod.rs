@@ -151,11 +151,11 @@ pub fn offer(words: &mut [u32], lists: &mut Lists, symbols: &[u8], mark: u8) -> 
         if mark > 1 {
             return Err(16);
         }
-        if run.verdict(&record) == (mark == 1) {
-            return Err(32);
-        }
         if run.known(&record) == Some(mark == 0) {
             return Err(33);
+        }
+        if run.verdict(&record) == (mark == 1) {
+            return Err(32);
         }
         run.store(&record)?;
         run.set_known(&record, mark == 1);
