@@ -154,6 +154,8 @@ pub record Corners : Type 0 where
   pub third-offer-taken : told (at 9 4) (offers (1 ∷ 0 ∷ 0 ∷ 0 ∷ []) 1) ≡ seen 0 0 2 3 2
   pub symbol-before-mark : told (fresh 9) (offers (0 ∷ []) 2) ≡ zeros 14
   pub mark-2 : told (fresh 9) (offers op 2) ≡ zeros 16
+  pub contradiction-before-verdict : told (at 9 2) (offers op 0) ≡ zeros 33
+  pub same-no-again : told (at 9 2) (offers (1 ∷ []) 0) ≡ zeros 32
   -- 34 with three rows, which are one too few; taken with four, and with some to spare
   pub row-too-few : told (fresh 3) (offers op 1) ≡ zeros 34
   pub rows-enough : told (fresh 4) (offers op 1) ≡ seen 1 1 0 1 2

@@ -107,6 +107,16 @@ fn chain(leaf: u8, link: u8, length: usize) -> Vec<u8> {
     symbols
 }
 
+/// A run that proposes after an offer of the longest chain: each of its parts is stored, and not accepted.
+fn chain_stored() -> Tables {
+    let mut tables = started(&[1, 0], ROWS_MAX);
+    let Tables { words, lists } = &mut tables;
+    let seen = oracle::offer(words, lists, &chain(1, 0, 1_024), 1);
+    assert_eq!((seen.number, seen.row), (0, 1));
+    assert_eq!(oracle::answer(words, lists, 0).number, 0);
+    tables
+}
+
 fn call_lines() {
     let full = big::full(7_700, 7_800);
     call_line("answer: 7,700 rows added", &full, Call::Answer(1));
@@ -125,6 +135,11 @@ fn call_lines() {
         Call::Offer(long, 0),
     );
     call_line("acceptance on 32, 256, 67", &proposing, Call::Accept);
+    call_line(
+        "offer of 1,023 stored symbols, 32",
+        &chain_stored(),
+        Call::Offer(chain(1, 0, 1_023), 0),
+    );
     let offer = Call::Offer(chain(1, 0, 1_024), 0);
     let deep = big::deep_context(7_000);
     call_line("offer of 1,024 symbols, a context of 7,000", &deep, offer);

@@ -9,7 +9,7 @@ use native.Mathlib.Omega.{arith}
 use Rattle.model.specs.Base.{countTrue, each-nil}
 use Rattle.model.specs.Store.{Store, used, kidsAt, built}
 use Rattle.model.specs.Terms.{Tree, treeWith, holeTree, treeAt, treeOf, storeFrom, knownRow}
-use Rattle.model.specs.Facts.{GoodRow, Good, Parses, parses}
+use Rattle.model.specs.Facts.{GoodRow, Good, Parses}
 use Rattle.model.specs.Room.{roomed}
 use Rattle.model.proofs.Laws.Trees.{tree-kept, one-row}
 use Rattle.model.proofs.Laws.Listed.{Stored, stored, known-or-new}

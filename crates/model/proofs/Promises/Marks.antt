@@ -4,7 +4,7 @@ use mathlib.Core.Path.{_≡_, refl, sym, ap, _∙_}
 use mathlib.Core.Logic.{_≢_, _⊎_, inl, inr}
 use mathlib.Core.Bool.{Bool, true, false, _&&_, not, cond, true≢false}
 use mathlib.Core.List.{List, [], _∷_}
-use Prim.Native.Nat.{ℕ, _+_, _≤_, _<_}
+use Prim.Native.Nat.{ℕ, _+_, _≤_}
 use native.Mathlib.Omega.{arith}
 use native.Mathlib.Decide.{ℕ-discrete}
 use borrow.Author.Tests.{leb-true, le-leb, eqb-true, ne-eqb, not-true}
@@ -14,7 +14,7 @@ use Rattle.model.specs.Terms.{orElse, unless, treeAt, treeOf, recordFaul
 use Rattle.model.specs.Table.{Tables, answerAt}
 use Rattle.model.specs.TableFacts.{Core}
 use Rattle.model.specs.Sound.{isSound}
-use Rattle.model.specs.Calls.{Call, offers, refuses, numberOf, isProposing, phaseOf, markFits, contradicts, verdictIs, offerFault, faultOf, call}
+use Rattle.model.specs.Calls.{Call, offers, refuses, numberOf, isProposing, phaseOf, markFits, contradicts, offerFault, faultOf, call}
 use Rattle.model.specs.Entry.{sizeFits, listsFit, startNumber, callNumber}
 use Rattle.model.specs.Run.{Lent, meant, startedRun, after, Said, saidIn}
 use Rattle.model.specs.Promise.{Due}
