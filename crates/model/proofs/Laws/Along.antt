@@ -2,15 +2,15 @@
 -- Words and lists are encoded and read back; their sizes fit again because the tables are nearly sound.
 use mathlib.Core.Path.{_≡_, refl, sym, ap, _∙_, subst}
 use mathlib.Core.Logic.{_⊎_}
-use mathlib.Core.Bool.{Bool, true, false, _&&_}
+use mathlib.Core.Bool.{Bool, true, false, _&&_, cond}
 use Prim.Native.Nat.{_+_}
 use native.Mathlib.Omega.{arith}
 use lib.ListN.{length}
 use Rattle.model.specs.Store.{used}
 use Rattle.model.specs.Table.{Tables, size}
 use Rattle.model.specs.Sound.{isSound, isNearlySound, contextsFew}
-use Rattle.model.specs.Calls.{Call, leaves, faultOf, doneBy}
-use Rattle.model.specs.Entry.{sizeFits, listsFit, listsOf}
+use Rattle.model.specs.Calls.{Call, refuses, leaves, faultOf, doneBy, call}
+use Rattle.model.specs.Entry.{sizeFits, listsFit, listsOf, callBy}
 use Rattle.model.specs.Run.{Lent, meant, afterCall, isTaken}
 use Rattle.model.specs.Promise.{isLentSound, NearlySound}
 use Rattle.model.proofs.Laws.Tests.{both-true, true-both}
@@ -24,13 +24,18 @@ use Rattle.model.proofs.Promises.Calls.{refused-untouched}
 pub record LentSound (l : Lent) : Type 0 where
   pub size : sizeFits (l .words) ≡ true
   pub lists : listsFit (l .lists) ≡ true
+  pub tested : isSound (meant l) ≡ true
   pub sounds : Sounds (meant l)
 
 pub lent-sound : (l : Lent) → isLentSound l ≡ true → LentSound l
 lent-sound l e =
     let a = both-true (sizeFits (l .words) && listsFit (l .lists)) (isSound (meant l)) e in
     let b = both-true (sizeFits (l .words)) (listsFit (l .lists)) (a .0) in
-    record { size = b .0; lists = b .1; sounds = sound-facts (meant l) (a .1) }
+    record { size = b .0; lists = b .1; tested = a .1; sounds = sound-facts (meant l) (a .1) }
+
+-- there a call is the call on the tables meant
+pub call-meant : (l : Lent) → LentSound l → (k : Call) → callBy (l .words) (l .lists) k ≡ call (meant l) k
+call-meant l s k = λ i. cond (s .size i) (cond (s .lists i) (call (meant l) k) (refuses 30)) (refuses 18)
 
 -- a taken call
 pub record Along (l : Lent) (k : Call) : Type 0 where

@@ -1,6 +1,6 @@
--- The six cases of 33, one by one, say what the sum says that they replace. By the sum, a mark contradicts neither an unknown answer nor its own.
+-- The six cases of 33, one by one, say what the sum says that they replace. By the sum, a mark contradicts neither an unknown answer nor its own, and any other.
 use mathlib.Core.Path.{_≡_, refl, sym, _∙_}
-use mathlib.Core.Logic.{_⊎_, inl, inr}
+use mathlib.Core.Logic.{_≢_, _⊎_, inl, inr}
 use mathlib.Core.Bool.{Bool, true, false, _&&_, not, true≢false}
 use Prim.Native.Nat.{ℕ, zero, suc, _+_, _≤_}
 use native.Mathlib.Omega.{arith}
@@ -34,3 +34,6 @@ agrees v m k (inl e) = let s : theSum v m ≡ false = rw (eq-eqb v 0 e) in as-th
 agrees v m k (inr e) =
     let s : theSum v m ≡ false = rw (ne-eqb v 0 (λ z. omega arith), eq-eqb v (m + 1) e) in
     as-the-sum v m (omega (arith, e, k)) k ∙ s
+
+pub contradicted : (v m : ℕ) → v ≤ 2 → m ≤ 1 → v ≢ 0 → v ≢ m + 1 → contradicts v m ≡ true
+contradicted v m l k n d = let s : theSum v m ≡ true = rw (ne-eqb v 0 n, ne-eqb v (m + 1) d) in as-the-sum v m l k ∙ s

@@ -32,13 +32,29 @@ use Rattle.model.proofs.Laws.Offer.{offer-ok, its-answer}
 use Rattle.model.proofs.Laws.Answer.{answered-core, answered-tidy, answer-hand-ok}
 use Rattle.model.specs.Phase.{idle, holding, filling, Nearly}
 
--- FAULTS that are not there
-pub or-zero : (n m : ℕ) → orElse n m ≡ 0 → (n ≡ 0) × (m ≡ 0)
-or-zero n m e = go (eqb n 0) refl e
+-- FAULTS: the first line does not apply and a later one decides, or it does
+or-cases : (n m k : ℕ) → orElse n m ≡ k → ((n ≡ 0) × (m ≡ k)) ⊎ ((n ≢ 0) × (n ≡ k))
+or-cases n m k e = go (eqb n 0) refl e
   where
-    go : (b : Bool) → eqb n 0 ≡ b → cond b m n ≡ 0 → (n ≡ 0) × (m ≡ 0)
-    go true p q = (eqb-true n 0 p, q)
-    go false p q = absurd (eqb-false n 0 p q)
+    go : (b : Bool) → eqb n 0 ≡ b → cond b m n ≡ k → ((n ≡ 0) × (m ≡ k)) ⊎ ((n ≢ 0) × (n ≡ k))
+    go true p q = inl (eqb-true n 0 p, q)
+    go false p q = inr (eqb-false n 0 p, q)
+
+-- no line applies
+pub or-zero : (n m : ℕ) → orElse n m ≡ 0 → (n ≡ 0) × (m ≡ 0)
+or-zero n m e = go (or-cases n m 0 e)
+  where
+    go : ((n ≡ 0) × (m ≡ 0)) ⊎ ((n ≢ 0) × (n ≡ 0)) → (n ≡ 0) × (m ≡ 0)
+    go (inl p) = p
+    go (inr p) = absurd (p .0 (p .1))
+
+-- the number is that of a later line
+pub or-later : (n m k : ℕ) → n ≢ k → orElse n m ≡ k → (n ≡ 0) × (m ≡ k)
+or-later n m k d e = go (or-cases n m k e)
+  where
+    go : ((n ≡ 0) × (m ≡ k)) ⊎ ((n ≢ 0) × (n ≡ k)) → (n ≡ 0) × (m ≡ k)
+    go (inl p) = p
+    go (inr p) = absurd (d (p .1))
 
 pub unless-true : (z : Bool) (n : ℕ) → n ≢ 0 → unless z n ≡ 0 → z ≡ true
 unless-true true n d e = refl

@@ -1,28 +1,24 @@
 -- What a taken call of a fresh run tells is what looking tells next: the tables left are sound, so looking tells them, and so did the call.
 use mathlib.Core.Path.{_≡_, refl, sym, ap, subst, _∙_}
-use mathlib.Core.Bool.{true, cond, _&&_}
+use mathlib.Core.Bool.{true, cond}
 use mathlib.Core.List.{List, [], _∷_, _++_}
 use Prim.Native.Nat.{ℕ}
 use Rattle.model.specs.Table.{Tables}
-use Rattle.model.specs.Sound.{isSound}
 use Rattle.model.specs.Calls.{Call, looks, Outcome, refuses, leaves, look}
-use Rattle.model.specs.Entry.{sizeFits, listsFit, seenOf, seenBy, callSeen, startNumber, startSeen}
+use Rattle.model.specs.Entry.{seenOf, seenBy, callSeen, startNumber, startSeen}
 use Rattle.model.specs.Run.{Lent, meant, startedRun, afterCall, after}
 use Rattle.model.specs.Promise.{isLentSound, Tells, LooksNext}
 use Rattle.model.specs.declared.Lists.{Lists}
 use Rattle.model.specs.declared.Seen.{Seen}
-use Rattle.model.proofs.Laws.Tests.{both-true}
 use Rattle.model.proofs.Laws.Lent.{start-leaves}
 use Rattle.model.proofs.Laws.Taken.{is-taken}
+use Rattle.model.proofs.Laws.Along.{lent-sound, call-meant}
 use Rattle.model.proofs.Promises.Calls.{counts-told}
 use Rattle.model.proofs.Promises.Sound.{stays-sound}
 
 -- looking at sound tables tells them
 sound-looks : (l : Lent) → isLentSound l ≡ true → callSeen (l .words) (l .lists) looks ≡ seenOf (look (meant l))
-sound-looks l e =
-    let p = both-true (sizeFits (l .words) && listsFit (l .lists)) (isSound (meant l)) e in
-    let q = both-true (sizeFits (l .words)) (listsFit (l .lists)) (p .0) in
-    λ i. seenBy (cond (q .0 i) (cond (q .1 i) (cond (p .1 i) (leaves (meant l)) (refuses 30)) (refuses 30)) (refuses 18))
+sound-looks l e = let s = lent-sound l e in ap seenBy (call-meant l s looks) ∙ λ i. seenBy (cond (s .tested i) (leaves (meant l)) (refuses 30))
 
 -- what tells the tables is what looking at them tells
 told-as-looking : (v : Seen) (x : Tables) → v .number ≡ 0 → Tells v x → seenOf (look x) ≡ v

@@ -2,32 +2,31 @@
 -- The row that the offer looks up is the one with the record's tree; in a run its answer is what was said. Where 32 is given, 33 did not apply.
 use mathlib.Core.Path.{_≡_, refl, sym, ap, _∙_}
 use mathlib.Core.Logic.{_≢_, _⊎_, inl, inr}
-use mathlib.Core.Bool.{Bool, true, false, _&&_, not, cond, true≢false}
+use mathlib.Core.Bool.{Bool, true, false, not, true≢false}
 use mathlib.Core.List.{List, [], _∷_}
 use Prim.Native.Nat.{ℕ, _+_, _≤_}
 use native.Mathlib.Omega.{arith}
 use native.Mathlib.Decide.{ℕ-discrete}
-use borrow.Author.Tests.{leb-true, le-leb, eqb-true, ne-eqb, not-true}
-use lib.Dec.{eqb}
+use borrow.Author.Tests.{leb-true, le-leb, not-true}
 use Rattle.model.specs.Base.{among, In}
-use Rattle.model.specs.Terms.{orElse, unless, treeAt, treeOf, recordFault, knownRow}
+use Rattle.model.specs.Terms.{unless, treeAt, treeOf, recordFault, knownRow}
 use Rattle.model.specs.Table.{Tables, answerAt}
 use Rattle.model.specs.TableFacts.{Core}
 use Rattle.model.specs.Sound.{isSound}
 use Rattle.model.specs.Calls.{Call, offers, refuses, numberOf, isProposing, phaseOf, markFits, contradicts, offerFault, faultOf, call}
-use Rattle.model.specs.Entry.{sizeFits, listsFit, startNumber, callNumber}
+use Rattle.model.specs.Entry.{startNumber, callNumber}
 use Rattle.model.specs.Run.{Lent, meant, startedRun, after, Said, saidIn}
 use Rattle.model.specs.Promise.{Due}
-use Rattle.model.specs.Marks.{theSum, SixCases, ContradictionTold}
+use Rattle.model.specs.Marks.{SixCases, ContradictionTold}
 use Rattle.model.specs.declared.Lists.{Lists}
-use Rattle.model.proofs.Laws.Tests.{both-true}
 use Rattle.model.proofs.Laws.Trees.{recordFault-parses}
 use Rattle.model.proofs.Laws.Settle.{answered-used}
-use Rattle.model.proofs.Laws.Cases.{as-the-sum, not-contradicts}
-use Rattle.model.proofs.Laws.Step.{unless-true}
+use Rattle.model.proofs.Laws.Cases.{as-the-sum, not-contradicts, contradicted}
+use Rattle.model.proofs.Laws.Step.{or-later, unless-true}
 use Rattle.model.proofs.Laws.Faults.{record-small}
 use Rattle.model.proofs.Laws.Known.{known-there}
 use Rattle.model.proofs.Laws.Sounds.{sound-facts}
+use Rattle.model.proofs.Laws.Along.{LentSound, lent-sound, call-meant}
 use Rattle.model.proofs.Promises.Sound.{stays-sound}
 use Rattle.model.proofs.Promises.Steps.{taken-when-due}
 use Rattle.model.proofs.Promises.Offers.{proposing}
@@ -54,9 +53,6 @@ module _ (x : Tables) (core : Core x) (xs : List ℕ) (fits : recordFault (x .st
       ap (answerAt (x .answers)) (known-there (x .store) (core .good) xs (recordFault-parses (x .store .counts) xs fits .0) i (answered-used x core i n) same)
 
 -- 33 on sound tables
-contradicted : (v m : ℕ) → v ≤ 2 → m ≤ 1 → v ≢ 0 → v ≢ m + 1 → contradicts v m ≡ true
-contradicted v m l k n d = let s : theSum v m ≡ true = rw (ne-eqb v 0 n, ne-eqb v (m + 1) d) in as-the-sum v m l k ∙ s
-
 told-33 : (x : Tables) (xs : List ℕ) (m i : ℕ) → isSound x ≡ true → phaseOf x ≡ 0 → recordFault (x .store .counts) xs ≡ 0 → m ≤ 1 →
     treeAt (x .store) i ≡ treeOf (x .store .counts) xs → answerAt (x .answers) i ≢ 0 → answerAt (x .answers) i ≢ m + 1 → call x (offers xs m) ≡ refuses 33
 told-33 x xs m i e p f k t n d =
@@ -67,13 +63,6 @@ told-33 x xs m i e p f k t n d =
     taken-when-due x (offers xs m) e .refused (λ z. omega (arith, z, g)) ∙ ap refuses g
 
 -- 32: the lines before it do not apply
-past : (n r : ℕ) → n ≢ 32 → orElse n r ≡ 32 → (n ≡ 0) × (r ≡ 32)
-past n r d e = go (eqb n 0) refl e
-  where
-    go : (b : Bool) → eqb n 0 ≡ b → cond b r n ≡ 32 → (n ≡ 0) × (r ≡ 32)
-    go true p q = (eqb-true n 0 p, q)
-    go false p q = absurd (d q)
-
 unless-other : (z : Bool) (n : ℕ) → n ≢ 32 → unless z n ≢ 32
 unless-other true n d e = absurd (omega arith)
 unless-other false n d e = d e
@@ -94,10 +83,10 @@ past-33 : (x : Tables) (xs : List ℕ) (m : ℕ) → offerFault x xs m ≡ 32 �
     (recordFault (x .store .counts) xs ≡ 0) × (m ≤ 1) × (contradicts (answerAt (x .answers) (knownRow (x .store) xs)) m ≡ false)
 past-33 x xs m e =
     let against = contradicts (answerAt (x .answers) (knownRow (x .store) xs)) m in
-    let a = past (unless (isProposing x) 31) _ (unless-other (isProposing x) 31 (λ q. omega arith)) e in
-    let b = past (recordFault (x .store .counts) xs) _ (λ q. (let s = record-small (x .store .counts) xs in omega arith)) (a .1) in
-    let c = past (unless (markFits m) 16) _ (unless-other (markFits m) 16 (λ q. omega arith)) (b .1) in
-    let d = past (unless (not against) 33) _ (unless-other (not against) 33 (λ q. omega arith)) (c .1) in
+    let a = or-later (unless (isProposing x) 31) _ 32 (unless-other (isProposing x) 31 (λ q. omega arith)) e in
+    let b = or-later (recordFault (x .store .counts) xs) _ 32 (λ q. (let s = record-small (x .store .counts) xs in omega arith)) (a .1) in
+    let c = or-later (unless (markFits m) 16) _ 32 (unless-other (markFits m) 16 (λ q. omega arith)) (b .1) in
+    let d = or-later (unless (not against) 33) _ 32 (unless-other (not against) 33 (λ q. omega arith)) (c .1) in
     (b .0, leb-true m 1 (unless-true (markFits m) 16 (λ q. omega arith) (c .0)), not-true against (unless-true (not against) 33 (λ q. omega arith) (d .0)))
 
 -- ALONG A RUN from start
@@ -105,25 +94,20 @@ module _ (ws ns : List ℕ) (old : Lists) (ks : List Call) (s : startNumber ws n
   abbrev l : Lent
   l = after (startedRun ws ns old) ks
 
-  sound-now : (sizeFits (l .words) && listsFit (l .lists) ≡ true) × (isSound (meant l) ≡ true)
-  sound-now = both-true (sizeFits (l .words) && listsFit (l .lists)) (isSound (meant l)) (stays-sound ws ns old ks s)
-
-  -- the number that a call returns is that of the tables meant
-  as-meant : (k : Call) → callNumber (l .words) (l .lists) k ≡ numberOf (call (meant l) k)
-  as-meant k = let p = both-true (sizeFits (l .words)) (listsFit (l .lists)) (sound-now .0) in rw (p .0, p .1)
+  now-sound : LentSound l
+  now-sound = lent-sound l (stays-sound ws ns old ks s)
 
   module _ (xs : List ℕ) (m : ℕ) (e : Said) (h : In e (saidIn (startedRun ws ns old) ks)) (t : e .about ≡ treeOf (meant l .store .counts) xs) where
     said-33 : phaseOf (meant l) ≡ 0 → recordFault (meant l .store .counts) xs ≡ 0 → m ≤ 1 → e .mark ≢ m → callNumber (l .words) (l .lists) (offers xs m) ≡ 33
     said-33 p f k d =
         let r = answers-taken ws ns old ks s .stored e h in
-        as-meant (offers xs m) ∙
-        ap numberOf (told-33 (meant l) xs m (r .0) (sound-now .1) p f k (r .2 ∙ t) (λ z. (let a = r .3 in omega arith)) (λ z. d (let a = r .3 in omega arith)))
+        ap numberOf (call-meant l now-sound (offers xs m) ∙ told-33 (meant l) xs m (r .0) (now-sound .tested) p f k (r .2 ∙ t) (λ z. (let a = r .3 in omega arith)) (λ z. d (let a = r .3 in omega arith)))
 
     said-32 : callNumber (l .words) (l .lists) (offers xs m) ≡ 32 → e .mark ≡ m
     said-32 q =
         let r = answers-taken ws ns old ks s .stored e h in
-        let core = sound-facts (meant l) (sound-now .1) .nearly .core in
-        let p = past-33 (meant l) xs m (by-line (meant l) xs m (sound-now .1) (sym (as-meant (offers xs m)) ∙ q)) in
+        let core = now-sound .sounds .nearly .core in
+        let p = past-33 (meant l) xs m (by-line (meant l) xs m (now-sound .tested) (sym (ap numberOf (call-meant l now-sound (offers xs m))) ∙ q)) in
         let n : answerAt (meant l .answers) (r .0) ≢ 0 = λ z. (let a = r .3 in omega arith) in
         let c : contradicts (answerAt (meant l .answers) (r .0)) m ≡ false = ap (λ (v : ℕ). contradicts v m) (sym (looked-up (meant l) core xs (p .0) (r .0) (r .2 ∙ t) n)) ∙ p .2 in
         go (not-contradicts (answerAt (meant l .answers) (r .0)) m (core .bound (r .0)) (p .1) c) n (r .3)
