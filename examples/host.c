@@ -6,6 +6,7 @@
 _Static_assert(sizeof(struct kuldveth_lists) == 1232, "lists without padding");
 _Static_assert(sizeof(struct kuldveth_seen) == 10, "what a call tells, without padding");
 _Static_assert(sizeof(struct kuldveth_emitted) == 8, "what emitting tells, without padding");
+_Static_assert(sizeof(struct kuldveth_judged) == 4, "what the verdict call tells, without padding");
 _Static_assert(sizeof(struct kuldveth_sizes) == 8, "the sizes of a list, without padding");
 _Static_assert(sizeof(struct kuldveth_found) == 4, "a value of a list, without padding");
 _Static_assert(sizeof(struct kuldveth_rule) == 9, "a rule of a list, without padding");
@@ -25,6 +26,24 @@ static void tell(struct kuldveth_seen seen)
         printf("accepted\n");
     else
         printf("propose %d %d %d\n", seen.states, seen.rules, seen.contexts);
+}
+
+/* One line for the verdict on a record. */
+static void judge(const uint8_t *symbols, size_t count)
+{
+    const size_t length = sizeof words / sizeof words[0];
+    const struct kuldveth_judged judged = kuldveth_verdict(words, length, &lists, symbols, count);
+    printf("verdict on");
+    for (size_t i = 0; i < count; i++)
+        printf(" %d", symbols[i]);
+    if (judged.number != 0)
+        printf(": refused %d\n", judged.number);
+    else if (judged.outcome == KULDVETH_ACCEPTS)
+        printf(": accepted\n");
+    else if (judged.outcome == KULDVETH_NOT_FINAL)
+        printf(": not final\n");
+    else
+        printf(": no rule at place %d\n", judged.place);
 }
 
 /* The automaton that a list is: its states, then rule by rule. */
@@ -53,19 +72,25 @@ int main(void)
 {
     const size_t length = sizeof words / sizeof words[0];
     const uint8_t counts[] = {1, 0};
-    const uint8_t op[] = {1, 0};
+    const uint8_t p[] = {1}, op[] = {1, 0}, ooop[] = {1, 0, 0, 0};
 
     if (kuldveth_version() != KULDVETH_VERSION) {
         fprintf(stderr, "the library has version %u, the header %u\n", (unsigned)kuldveth_version(), KULDVETH_VERSION);
         return 1;
     }
     tell(kuldveth_start(words, length, &lists, counts, sizeof counts));
+    judge(op, sizeof op);
+    tell(kuldveth_offer(words, length, &lists, op, sizeof op, 1));
+    judge(op, sizeof op);
+    tell(kuldveth_answer(words, length, &lists, 0));
+    judge(op, sizeof op);
     tell(kuldveth_offer(words, length, &lists, op, sizeof op, 1));
     tell(kuldveth_answer(words, length, &lists, 0));
     tell(kuldveth_offer(words, length, &lists, op, sizeof op, 1));
-    tell(kuldveth_answer(words, length, &lists, 0));
-    tell(kuldveth_offer(words, length, &lists, op, sizeof op, 1));
+    judge(op, sizeof op);
     tell(kuldveth_accept(words, length, &lists));
+    judge(ooop, sizeof ooop);
+    judge(p, sizeof p);
     tell(kuldveth_look(words, length, &lists));
 
     const struct kuldveth_emitted list = kuldveth_emit(words, length, &lists, bytes, sizeof bytes);

@@ -10,9 +10,10 @@
 #include <stddef.h>
 #include <stdint.h>
 
-/* The version of this header (§11): it goes up with each change of a layout or of a call. kuldveth_version() tells that of the
- * library that is linked. Where the two differ, make no other call. */
-#define KULDVETH_VERSION 3
+/* The version of this header (§11): it goes up with each change of a layout or of a call, and with each new call.
+ * kuldveth_version() tells that of the library that is linked. Where the two differ, make no other call. Tables and lists that
+ * calls of version 3 left can be lent as they are. */
+#define KULDVETH_VERSION 4
 
 /* Limits (§11). */
 #define KULDVETH_WORDS_PER_ROW 6
@@ -55,11 +56,22 @@ struct kuldveth_seen {
     uint16_t contexts;
 };
 
-/* What emitting and loading tell (§3.7, §3.8): number 0 and the bytes written or the rules read, or a refusal's number and 0.
+/* What emitting and loading tell (§3.7, §3.9): number 0 and the bytes written or the rules read, or a refusal's number and 0.
  * 8 bytes without padding. */
 struct kuldveth_emitted {
     uint32_t number;
     uint32_t size;
+};
+
+/* Verdicts on a record (§1.4): its root got a final state, or one that is not final, or some symbol of it found no rule. */
+enum { KULDVETH_ACCEPTS = 1, KULDVETH_NOT_FINAL = 2, KULDVETH_NO_RULE = 3 };
+
+/* What the verdict call tells (§3.8): number 0, the outcome, and beside KULDVETH_NO_RULE the place, from 0, of the leftmost
+ * innermost symbol that found no rule, beside the others 0; or a refusal's number and zeros. 4 bytes without padding. */
+struct kuldveth_judged {
+    uint8_t number;
+    uint8_t outcome;
+    uint16_t place;
 };
 
 /* How many symbols, states and rules a list has (§6.3). Of bytes that are no list: number 21 and zeros. */
@@ -139,7 +151,13 @@ struct kuldveth_seen kuldveth_look(const uint32_t *words, size_t words_length, c
 struct kuldveth_emitted kuldveth_emit(const uint32_t *words, size_t words_length, const struct kuldveth_lists *lists,
                                       uint8_t *out, size_t out_length);
 
-/* Loading a list (§3.8): 21. */
+/* The verdict of the proposed automaton on a record (§3.8), symbols as for an offer: 18, 30, 31, 11 to 15. Allowed when emitting
+ * is, changes nothing. An offer is tested against this verdict: where it gets 32, the outcome for its record is KULDVETH_ACCEPTS
+ * with mark 1, and one of the other two with mark 0. */
+struct kuldveth_judged kuldveth_verdict(const uint32_t *words, size_t words_length, const struct kuldveth_lists *lists,
+                                        const uint8_t *symbols, size_t symbols_length);
+
+/* Loading a list (§3.9): 21. */
 struct kuldveth_emitted kuldveth_load(const uint8_t *bytes, size_t bytes_length);
 
 /* What a list says (§6.3): five calls over the host's bytes, of which none is copied or written. Any bytes and any numbers

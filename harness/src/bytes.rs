@@ -1,13 +1,14 @@
-//! The structs that cross, to the byte (docs/SPECIFICATION.md, 2.2, 3.3 and 3.7): one field behind the other,
+//! The structs that cross, to the byte (docs/SPECIFICATION.md, 2.2, 3.3, 3.7 and 3.8): one field behind the other,
 //! the lowest byte of a number first, and no byte without a field.
 
 use oracle::limits::{CONTEXTS_MAX, RULES_MAX, STATES_MAX, SYMBOLS_MAX};
-use oracle::{Emitted, Lists, Seen};
+use oracle::{Emitted, Judged, Lists, Seen};
 use std::mem::size_of;
 
 pub const LISTS_BYTES: usize = 1_232;
 pub const SEEN_BYTES: usize = 10;
 pub const EMITTED_BYTES: usize = 8;
+pub const JUDGED_BYTES: usize = 4;
 
 // The calls are lent these bytes as `Lists`.
 const _: () = assert!(size_of::<Lists>() == LISTS_BYTES);
@@ -70,6 +71,12 @@ pub fn of_emitted(emitted: &Emitted) -> [u8; EMITTED_BYTES] {
     bytes.try_into().expect("every byte has a field")
 }
 
+/// The bytes of what the verdict call tells.
+pub fn of_judged(judged: &Judged) -> [u8; JUDGED_BYTES] {
+    let [low, high] = judged.place.to_le_bytes();
+    [judged.number, judged.outcome, low, high]
+}
+
 /// The bytes that a returned `Seen` has in memory.
 pub fn raw_seen(seen: Seen) -> [u8; SEEN_BYTES] {
     unsafe { std::mem::transmute(seen) }
@@ -78,4 +85,9 @@ pub fn raw_seen(seen: Seen) -> [u8; SEEN_BYTES] {
 /// The bytes that a returned `Emitted` has in memory.
 pub fn raw_emitted(emitted: Emitted) -> [u8; EMITTED_BYTES] {
     unsafe { std::mem::transmute(emitted) }
+}
+
+/// The bytes that a returned `Judged` has in memory.
+pub fn raw_judged(judged: Judged) -> [u8; JUDGED_BYTES] {
+    unsafe { std::mem::transmute(judged) }
 }

@@ -1,8 +1,10 @@
-//! The calls of `crates/kuldveth` that change what is lent, made between guard words.
+//! The calls of `crates/kuldveth` that change what is lent, and the verdict, made between guard words.
 
 use crate::bytes::{lists_of, of_lists, of_seen, raw_seen, LISTS_BYTES};
+use crate::kuldveth;
 use oracle::testing::compare::{Call, Tables};
-use oracle::{Lists, Seen};
+use oracle::{Judged, Lists, Seen};
+use std::fmt::Debug;
 
 // A slice crosses as a pointer and a length. The functions require nothing of what is lent.
 extern "C" {
@@ -50,7 +52,7 @@ pub fn call(words: &mut [u32], lists: &mut Lists, call: &Call) -> Seen {
         Call::Offer(symbols, mark) => offer(words, lists, symbols, *mark),
         Call::Answer(mark) => answer(words, lists, *mark),
         Call::Accept => accept(words, lists),
-        Call::Look => crate::kuldveth::look(words, lists),
+        Call::Look => kuldveth::look(words, lists),
         Call::Emit(_) => panic!("emitting returns no Seen"),
     }
 }
@@ -99,8 +101,12 @@ impl Left {
     }
 }
 
-/// What the library makes of a call on copies of the tables; panics if it writes around them.
-pub fn guarded(tables: &Tables, made: &Call) -> Left {
+/// Makes a call on copies of the tables between guard words, and panics if it writes these: what it returned and left.
+fn between_guards<T>(
+    tables: &Tables,
+    name: &impl Debug,
+    call: impl FnOnce(&mut [u32], &mut Lists) -> T,
+) -> (T, Vec<u32>, [u8; LISTS_BYTES]) {
     let end = GUARD + tables.words.len();
     let mut words = vec![GUARD_WORD; end + GUARD];
     words[GUARD..end].copy_from_slice(&tables.words);
@@ -111,12 +117,28 @@ pub fn guarded(tables: &Tables, made: &Call) -> Left {
     };
     // Any bytes are lists, and these are aligned as the words before them.
     let lists = unsafe { &mut *lent.lists.as_mut_ptr().cast::<Lists>() };
-    let seen = call(&mut words[GUARD..end], lists, made);
+    let returned = call(&mut words[GUARD..end], lists);
     let guards = [&words[..GUARD], &words[end..], &lent.before, &lent.after];
     let kept = |guard: &[u32]| guard.iter().all(|&word| word == GUARD_WORD);
-    assert!(guards.into_iter().all(kept), "{made:?} wrote past an end");
+    assert!(guards.into_iter().all(kept), "{name:?} wrote past an end");
     words.truncate(end);
     words.drain(..GUARD);
-    let lists = lent.lists;
+    (returned, words, lent.lists)
+}
+
+/// What the library makes of a call on copies of the tables; panics if it writes around them.
+pub fn guarded(tables: &Tables, made: &Call) -> Left {
+    let make = |words: &mut [u32], lists: &mut Lists| call(words, lists, made);
+    let (seen, words, lists) = between_guards(tables, made, make);
     Left { seen, words, lists }
+}
+
+/// The verdict by the library on copies of the tables and the symbols; panics if it writes them or around them.
+pub fn judged(tables: &Tables, symbols: &[u8]) -> Judged {
+    let lent = symbols.to_vec();
+    let judge = |words: &mut [u32], lists: &mut Lists| kuldveth::verdict(words, lists, &lent);
+    let (judged, words, lists) = between_guards(tables, &"a verdict", judge);
+    let stayed = words == tables.words && lists == of_lists(&tables.lists) && lent == symbols;
+    assert!(stayed, "the verdict on {symbols:?} changed\n{tables:?}");
+    judged
 }

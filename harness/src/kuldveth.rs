@@ -1,7 +1,7 @@
 //! The calls that `crates/kuldveth` exports, in the oracle's types: field by field they are those of
 //! `crates/model/src/lib.rt`.
 
-use oracle::{Emitted, Found, ListRule, ListSizes, Lists, Seen};
+use oracle::{Emitted, Found, Judged, ListRule, ListSizes, Lists, Seen};
 
 // A slice crosses as a pointer and a length. The functions require nothing of what is lent.
 extern "C" {
@@ -14,6 +14,13 @@ extern "C" {
         out: *mut u8,
         room: usize,
     ) -> Emitted;
+    fn kuldveth_verdict(
+        words: *const u32,
+        size: usize,
+        lists: *const Lists,
+        symbols: *const u8,
+        length: usize,
+    ) -> Judged;
     fn kuldveth_load(bytes: *const u8, size: usize) -> Emitted;
     fn kuldveth_list_sizes(bytes: *const u8, size: usize) -> ListSizes;
     fn kuldveth_list_children(bytes: *const u8, size: usize, symbol: u8) -> Found;
@@ -47,6 +54,11 @@ pub fn emit(words: &[u32], lists: &Lists, out: &mut [u8]) -> Emitted {
             out.len(),
         )
     }
+}
+
+pub fn verdict(words: &[u32], lists: &Lists, symbols: &[u8]) -> Judged {
+    let (first, length) = (symbols.as_ptr(), symbols.len());
+    unsafe { kuldveth_verdict(words.as_ptr(), words.len(), lists, first, length) }
 }
 
 pub fn load(bytes: &[u8]) -> Emitted {

@@ -2,6 +2,7 @@
 //! again by plain means from docs/SPECIFICATION.md, the calls of `crates/kuldveth` beside the oracle.
 
 pub mod aimed;
+pub mod asked;
 pub mod bytes;
 pub mod calls;
 pub mod cases;

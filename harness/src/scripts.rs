@@ -3,10 +3,12 @@
 
 use crate::calls::oracle_call;
 use crate::targets;
-use crate::teaching::{roaming, started, told, truthful};
+use crate::teaching::{proposal, roaming, started, told, truthful};
 use oracle::limits::{RECORD_MAX, SCRIPT_ROWS};
-use oracle::testing::compare::Call;
+use oracle::testing::compare::{Call, Tables};
+use oracle::testing::likely;
 use oracle::testing::random::Random;
+use oracle::testing::target::Target;
 
 const LETTERS: &[u8] = b"abcdefghijklmnopqrstuvwxyzABCDEFGHIJKLMNOPQRSTUVWXYZ";
 
@@ -184,6 +186,17 @@ pub fn any_lines(random: &mut Random) -> Vec<u8> {
     joined(&lines, random)
 }
 
+/// An offer of any record with the mark that the proposal has for it. It gets 32, or 33 if the opposite was said.
+fn agreeing(tables: &Tables, random: &mut Random) -> Call {
+    let (proposed, size) = (proposal(tables), *random.pick(&[4, 20, 300]));
+    let record = match random.percent(50) {
+        true => likely::record(&proposed, random, size),
+        false => Target::random_record(proposed.counts(), random, size),
+    };
+    let mark = proposed.accepts(&record) as u8;
+    Call::Offer(record, mark)
+}
+
 /// A run that a teacher leads, right or often wrong, with lines between that are unread or refused.
 pub fn led(random: &mut Random) -> Vec<u8> {
     let states = random.within(1, 10);
@@ -199,6 +212,10 @@ pub fn led(random: &mut Random) -> Vec<u8> {
             0 => lines.push(random.pick(&UNREAD).to_string()),
             1 if asking => lines.push("ok".to_string()),
             1 => lines.push(random.pick(&["y", "n"]).to_string()),
+            2..=3 if !asking => {
+                let call = agreeing(&tables, random);
+                lines.push(alphabet.call(&call));
+            }
             _ => {
                 let call = match teacher {
                     0 => truthful(&target, &tables),

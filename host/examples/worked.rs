@@ -1,6 +1,6 @@
 //! The worked run (docs/SPECIFICATION.md, §9): o has one child, p none; the archive keeps o[p] alone.
 
-use kuldveth_host::{fits, load, List, Phase, Refusal, Run, Told};
+use kuldveth_host::{fits, load, List, Phase, Refusal, Run, Told, Verdict};
 
 /// One line for what a call told.
 fn show(told: Told) {
@@ -8,6 +8,20 @@ fn show(told: Told) {
         Phase::Proposing => println!("propose {} {} {}", told.states, told.rules, told.contexts),
         Phase::Asking { row } => println!("ask row {row}"),
         Phase::Accepted => println!("accepted"),
+    }
+}
+
+/// One line for the verdict on a record.
+fn judge(run: &Run, symbols: &[u8]) {
+    print!("verdict on");
+    for symbol in symbols {
+        print!(" {symbol}");
+    }
+    match run.verdict(symbols) {
+        Err(refusal) => println!(": refused {}", refusal.number()),
+        Ok(Verdict::Accepted) => println!(": accepted"),
+        Ok(Verdict::NotFinal) => println!(": not final"),
+        Ok(Verdict::NoRule(place)) => println!(": no rule at place {place}"),
     }
 }
 
@@ -32,17 +46,23 @@ fn show_list(list: List) {
 
 fn main() -> Result<(), Refusal> {
     assert!(fits(), "the library has another version");
-    let op = [1, 0];
+    let (p, op, ooop) = ([1], [1, 0], [1, 0, 0, 0]);
     let (mut run, told) = Run::start(5, &[1, 0])?;
     show(told);
+    judge(&run, &op);
     show(run.offer(&op, true)?);
+    judge(&run, &op);
     show(run.answer(false)?);
+    judge(&run, &op);
     show(run.offer(&op, true)?);
     show(run.answer(false)?);
     if let Err(refusal) = run.offer(&op, true) {
         println!("refused {}", refusal.number());
     }
+    judge(&run, &op);
     show(run.accept()?);
+    judge(&run, &ooop);
+    judge(&run, &p);
     show(run.look()?);
     let bytes = run.emit()?;
     print!("emitted 0 {}:", bytes.len());

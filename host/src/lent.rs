@@ -4,7 +4,7 @@
 use std::mem::size_of;
 
 /// The version of these layouts and calls (§11).
-pub const VERSION: u32 = 3;
+pub const VERSION: u32 = 4;
 
 /// Numbers in a row of the record table, and how many rows it may have (§2.1).
 pub const WORDS_PER_ROW: usize = 6;
@@ -58,11 +58,19 @@ pub(crate) struct Seen {
     pub contexts: u16,
 }
 
-/// What emitting and loading tell (§3.7, §3.8).
+/// What emitting and loading tell (§3.7, §3.9).
 #[repr(C)]
 pub(crate) struct Emitted {
     pub number: u32,
     pub size: u32,
+}
+
+/// What the verdict call tells (§3.8).
+#[repr(C)]
+pub(crate) struct Judged {
+    pub number: u8,
+    pub outcome: u8,
+    pub place: u16,
 }
 
 /// How many symbols, states and rules a list has (§6.3).
@@ -97,6 +105,7 @@ pub(crate) struct ListRule {
 const _: () = assert!(size_of::<Lists>() == 2 + 64 + 2 * (2 + 32 + 1 + 256 + 1 + 289 + 2));
 const _: () = assert!(size_of::<Seen>() == 2 + 2 * 4);
 const _: () = assert!(size_of::<Emitted>() == 2 * 4);
+const _: () = assert!(size_of::<Judged>() == 2 + 2);
 const _: () = assert!(size_of::<ListSizes>() == 2 * 4);
 const _: () = assert!(size_of::<Found>() == 2 + 2);
 const _: () = assert!(size_of::<ListRule>() == 9);
@@ -133,6 +142,13 @@ extern "C" {
         out: *mut u8,
         room: usize,
     ) -> Emitted;
+    pub(crate) fn kuldveth_verdict(
+        words: *const u32,
+        size: usize,
+        lists: *const Lists,
+        symbols: *const u8,
+        length: usize,
+    ) -> Judged;
     pub(crate) fn kuldveth_load(bytes: *const u8, size: usize) -> Emitted;
     pub(crate) fn kuldveth_list_sizes(bytes: *const u8, size: usize) -> ListSizes;
     pub(crate) fn kuldveth_list_children(bytes: *const u8, size: usize, symbol: u8) -> Found;

@@ -11,7 +11,7 @@ pub use refusal::Refusal;
 
 use lent::{
     kuldveth_accept, kuldveth_answer, kuldveth_emit, kuldveth_load, kuldveth_look, kuldveth_offer,
-    kuldveth_start, kuldveth_version, Emitted, Seen,
+    kuldveth_start, kuldveth_verdict, kuldveth_version, Emitted, Judged, Seen,
 };
 
 /// The version of the library that is linked (§11).
@@ -42,6 +42,17 @@ pub enum Phase {
     Asking { row: u16 },
     /// The proposal was accepted.
     Accepted,
+}
+
+/// What the proposed automaton says of a record (§1.4).
+#[derive(Clone, Copy, Debug, PartialEq, Eq)]
+pub enum Verdict {
+    /// The root got a final state.
+    Accepted,
+    /// The root got a state that is not final.
+    NotFinal,
+    /// The root got no state. The leftmost innermost symbol that found no rule is at this place of the record, from 0.
+    NoRule(u16),
 }
 
 /// A run with its record table and its lists.
@@ -104,6 +115,13 @@ impl Run {
         Ok(out)
     }
 
+    /// The verdict on a record, children before parent (§3.8). It is the one that an offer is tested against.
+    pub fn verdict(&self, symbols: &[u8]) -> Result<Verdict, Refusal> {
+        let (words, size) = (self.words.as_ptr(), self.words.len());
+        let (list, length) = (symbols.as_ptr(), symbols.len());
+        judged(unsafe { kuldveth_verdict(words, size, &self.lists, list, length) })
+    }
+
     /// The record table: six numbers a row, children by row number (§2.1).
     pub fn words(&self) -> &[u32] {
         &self.words
@@ -131,6 +149,17 @@ fn told(seen: Seen) -> Result<Told, Refusal> {
         states: seen.states,
         rules: seen.rules,
         contexts: seen.contexts,
+    })
+}
+
+fn judged(judged: Judged) -> Result<Verdict, Refusal> {
+    if let Some(refusal) = Refusal::of(judged.number.into()) {
+        return Err(refusal);
+    }
+    Ok(match judged.outcome {
+        1 => Verdict::Accepted,
+        2 => Verdict::NotFinal,
+        _ => Verdict::NoRule(judged.place),
     })
 }
 

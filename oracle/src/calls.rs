@@ -1,7 +1,7 @@
 //! The calls (docs/SPECIFICATION.md, 3). Each checks 18, 30, 31, then its input, and
 //! works on copies until nothing can refuse it any more.
 
-use crate::lent::{Emitted, Lists, Refusal, Seen, ACCEPTED, ASKING, PROPOSING};
+use crate::lent::{Emitted, Judged, Lists, Refusal, Seen, Verdict, ACCEPTED, ASKING, PROPOSING};
 use crate::limits::ROW_WORDS;
 use crate::run::Run;
 use crate::table::{alphabet_fits, check_size, HOLE_WORDS, UNKNOWN};
@@ -47,20 +47,19 @@ fn try_offer(
 ) -> Result<Seen, Refusal> {
     let mut run = Run::read(words, lists)?;
     run.allow(&[PROPOSING])?;
-    let offered = run.read_offer(symbols)?;
+    run.check_listed(symbols)?;
     if mark > 1 {
         return Err(Refusal::OddMark);
     }
-    let known = offered
-        .stored
-        .map_or(UNKNOWN, |row| run.records.answer(row));
+    let stored = run.find_listed(symbols);
+    let known = stored.map_or(UNKNOWN, |row| run.records.answer(row));
     if contradicts(known, mark) {
         return Err(Refusal::AnswerDiffers);
     }
-    if run.accepts(offered.state) == (mark == 1) {
+    if (run.judge(symbols) == Verdict::Accepted) == (mark == 1) {
         return Err(Refusal::VerdictAgrees);
     }
-    let row = run.store_offer(symbols)?;
+    let row = run.store_listed(symbols)?;
     run.store_mark(row, mark);
     run.lists.hand = row;
     run.advance()?;
@@ -118,4 +117,19 @@ fn try_emit(words: &[u32], lists: &Lists, out: &mut [u8]) -> Result<usize, Refus
     let room = out.get_mut(..bytes.len()).ok_or(Refusal::ShortOutput)?;
     room.copy_from_slice(&bytes);
     Ok(bytes.len())
+}
+
+/// Tells the verdict on a record, children before parent (3.8).
+pub fn verdict(words: &[u32], lists: &Lists, symbols: &[u8]) -> Judged {
+    match try_verdict(words, lists, symbols) {
+        Ok(verdict) => verdict.into(),
+        Err(refusal) => refusal.into(),
+    }
+}
+
+fn try_verdict(words: &[u32], lists: &Lists, symbols: &[u8]) -> Result<Verdict, Refusal> {
+    let run = Run::read(words, lists)?;
+    run.allow(&[PROPOSING, ACCEPTED])?;
+    run.check_listed(symbols)?;
+    Ok(run.judge(symbols))
 }

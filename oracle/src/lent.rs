@@ -116,6 +116,47 @@ pub struct Seen {
     pub contexts: u16,
 }
 
+/// The record is accepted (1.4).
+pub const ACCEPTS: u8 = 1;
+/// The root got a state that is not final (1.4).
+pub const NOT_FINAL: u8 = 2;
+/// A symbol found no rule (1.4).
+pub const NO_RULE: u8 = 3;
+
+/// What a verdict tells: number 0, the outcome, and beside `NO_RULE` the place; or a
+/// refusal's number and zeros (3.8).
+#[repr(C)]
+#[derive(Clone, Copy, Debug, Default, PartialEq, Eq)]
+pub struct Judged {
+    pub number: u8,
+    pub outcome: u8,
+    pub place: u16,
+}
+
+/// The verdict on a listed record (1.4).
+#[derive(Clone, Copy, Debug, PartialEq, Eq)]
+pub enum Verdict {
+    Accepted,
+    NotFinal,
+    /// The place, from 0, of the leftmost innermost symbol that found no rule.
+    NoRule(u16),
+}
+
+impl From<Verdict> for Judged {
+    fn from(verdict: Verdict) -> Judged {
+        let (outcome, place) = match verdict {
+            Verdict::Accepted => (ACCEPTS, 0),
+            Verdict::NotFinal => (NOT_FINAL, 0),
+            Verdict::NoRule(place) => (NO_RULE, place),
+        };
+        Judged {
+            number: 0,
+            outcome,
+            place,
+        }
+    }
+}
+
 /// What emitting and loading tell: number 0 and bytes written or rules read,
 /// or a refusal's number and 0.
 #[repr(C)]
@@ -184,6 +225,15 @@ impl From<Refusal> for Seen {
         Seen {
             number: refusal as u8,
             ..Seen::default()
+        }
+    }
+}
+
+impl From<Refusal> for Judged {
+    fn from(refusal: Refusal) -> Judged {
+        Judged {
+            number: refusal as u8,
+            ..Judged::default()
         }
     }
 }

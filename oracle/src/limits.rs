@@ -12,7 +12,7 @@ pub const STATES_MAX: usize = 32;
 pub const RULES_MAX: usize = 256;
 /// Contexts: the hole, and one for each representative and each transition (2.3, T4).
 pub const CONTEXTS_MAX: usize = 1 + STATES_MAX + RULES_MAX;
-/// Symbols of an offer (3.4), and of a question that the script writes out (8).
+/// Symbols of a listed record (3.4, 3.8), and of a question that the script writes out (8).
 pub const RECORD_MAX: usize = 1_024;
 /// Rows that the script program lends (8).
 pub const SCRIPT_ROWS: usize = 2_730;

@@ -114,7 +114,7 @@ pub fn automaton(bytes: &[u8]) -> Option<Automaton> {
     })
 }
 
-/// Loads a list: the count of its rules, or refusal 21 (3.8).
+/// Loads a list: the count of its rules, or refusal 21 (3.9).
 pub fn load(bytes: &[u8]) -> Emitted {
     match automaton(bytes) {
         Some(read) => Emitted {

@@ -1,10 +1,10 @@
 //! The script program: lines in, lines out (docs/SPECIFICATION.md, 8). Records nest
 //! thousands deep, so the reader and the printer keep stacks of their own.
 
-use crate::calls::{accept, answer, offer, start};
-use crate::lent::{Lists, Row, Seen, ACCEPTED, ASKING};
+use crate::calls::{accept, answer, offer, start, verdict};
+use crate::lent::{Lists, Refusal, Row, Seen, ACCEPTED, ASKING, NO_RULE};
 use crate::limits::{RECORD_MAX, ROW_WORDS, SCRIPT_BYTES, SCRIPT_ROWS};
-use std::fmt::Write;
+use std::fmt::{self, Write};
 
 /// The output for an input, of which the first 65,536 bytes count.
 pub fn run(input: &[u8]) -> String {
@@ -19,13 +19,13 @@ pub fn run(input: &[u8]) -> String {
     let Some((mut session, seen)) = first else {
         return "unread\n".to_string();
     };
-    session.tell(seen, &mut out);
+    session.tell(Reply::Seen(seen), &mut out);
     if seen.number != 0 {
         return out;
     }
     for line in lines {
         match session.call(line) {
-            Some(seen) => session.tell(seen, &mut out),
+            Some(reply) => session.tell(reply, &mut out),
             None => out.push_str("unread\n"),
         }
     }
@@ -52,6 +52,14 @@ fn alphabet(line: &[u8]) -> Option<(Vec<u8>, Vec<u8>)> {
     Some((letters, counts))
 }
 
+/// What a line that can be read gets.
+enum Reply {
+    /// What its call told.
+    Seen(Seen),
+    /// 32 to an offer, and the place of the symbol that found no rule.
+    NoRule(u16),
+}
+
 /// A run with the letters of its symbols.
 struct Session {
     letters: Vec<u8>,
@@ -75,23 +83,47 @@ impl Session {
     }
 
     /// Makes the call of a later line; none if it is unread.
-    fn call(&mut self, line: &[u8]) -> Option<Seen> {
+    fn call(&mut self, line: &[u8]) -> Option<Reply> {
         let (words, lists) = (&mut self.words, &mut self.lists);
-        match line {
-            b"y" => Some(answer(words, lists, 1)),
-            b"n" => Some(answer(words, lists, 0)),
-            b"ok" => Some(accept(words, lists)),
+        let seen = match line {
+            b"y" => answer(words, lists, 1),
+            b"n" => answer(words, lists, 0),
+            b"ok" => accept(words, lists),
             [sign @ (b'+' | b'-'), b' ', record @ ..] => {
                 let symbols = read_record(record, &self.letters, lists.alphabet())?;
-                Some(offer(words, lists, &symbols, u8::from(*sign == b'+')))
+                return Some(self.offer(&symbols, u8::from(*sign == b'+')));
             }
-            _ => None,
+            _ => return None,
+        };
+        Some(Reply::Seen(seen))
+    }
+
+    /// Offers a record, and where that gets 32 asks for the verdict on it.
+    fn offer(&mut self, symbols: &[u8], mark: u8) -> Reply {
+        let seen = offer(&mut self.words, &mut self.lists, symbols, mark);
+        if seen.number == Refusal::VerdictAgrees as u8 {
+            let judged = verdict(&self.words, &self.lists, symbols);
+            if judged.outcome == NO_RULE {
+                return Reply::NoRule(judged.place);
+            }
         }
+        Reply::Seen(seen)
     }
 
     /// Writes the output line of a call.
-    fn tell(&self, seen: Seen, out: &mut String) {
-        let written = match (seen.number, seen.phase) {
+    fn tell(&self, reply: Reply, out: &mut String) {
+        let written = match reply {
+            Reply::Seen(seen) => self.tell_seen(seen, out),
+            Reply::NoRule(place) => {
+                writeln!(out, "refused {} {place}", Refusal::VerdictAgrees as u8)
+            }
+        };
+        written.expect("a string takes every line");
+    }
+
+    /// Writes what a call told, or its number.
+    fn tell_seen(&self, seen: Seen, out: &mut String) -> fmt::Result {
+        match (seen.number, seen.phase) {
             (0, ACCEPTED) => writeln!(out, "accepted"),
             (0, ASKING) if self.size_capped(seen.row) > RECORD_MAX => {
                 writeln!(out, "ask row {}", seen.row)
@@ -103,8 +135,7 @@ impl Session {
                 seen.states, seen.rules, seen.contexts
             ),
             (number, _) => writeln!(out, "refused {number}"),
-        };
-        written.expect("a string takes every line");
+        }
     }
 
     fn children(&self, row: Row) -> &[u32] {

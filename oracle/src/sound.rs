@@ -65,7 +65,7 @@ impl Run {
         let hand = self.lists.hand;
         self.records.is_record(hand)
             && self.records.answer(hand) != UNKNOWN
-            && (self.records.answer(hand) == YES) != self.verdict(hand)
+            && (self.records.answer(hand) == YES) != self.accepts(hand)
     }
 }
 

@@ -1,6 +1,7 @@
 // call: the lines that refuse an answer or an offer to sound tables: 31, 11 to 16, 33, 32, the first that applies (§5.3).
 ghost use mathlib.Core.Path.{_≡_};
 ghost use mathlib.Core.Bool.{true};
+ghost use Rattle.model.specs.Automata.{isYes};
 ghost use Rattle.model.specs.Calls.{contradicts, offerFault, faultOf, verdictIs};
 ghost use Rattle.model.specs.Entry.{listsFit, tablesOf};
 ghost use Rattle.bank.specs.Bank.{Bank};
@@ -11,6 +12,7 @@ ghost use Rattle.call_faults.specs.Lines.{InputFault, Tested};
 use bank::rows;
 use call::Said;
 use model::Lists;
+use model::Verdict;
 
 mod answer; // answer.rt: the lines that refuse an answer
 
@@ -37,6 +39,17 @@ fn input_fault(lists: Lists, symbols: &[u8], mark: u8) -> u8
     0
 }
 
+// Whether a verdict is yes.
+fn is_yes(verdict: Verdict) -> bool
+    ensures { λ r. ⌜ r ≡ isYes verdict ⌝ }
+{
+    match verdict {
+        Verdict::Accepted => true,
+        Verdict::NotFinal => false,
+        Verdict::NoRule(_) => false,
+    }
+}
+
 // Whether the mark is the verdict of the proposed automaton, on an offer that 31 and 11 to 16 do not refuse.
 fn verdict_is(
     words: &[u32],
@@ -52,17 +65,8 @@ fn verdict_is(
         × Tested lists (now symbols) mark ⌝ }
     ensures { λ r. ⌜ r ≡ verdictIs (tablesOf (now (words .entry)) lists) (now (symbols .entry)) mark ⌝ }
 {
-    let letters = lists.letters as usize;
-    let counts = lists.counts;
-    let yes = table_verdict::accepts_list(
-        words,
-        &counts[..letters],
-        lists.used,
-        index,
-        reps,
-        symbols,
-    );
-    yes == (mark == 1)
+    let verdict = call_verdict::verdict_of(words, lists, symbols, index, reps);
+    is_yes(verdict) == (mark == 1)
 }
 
 // Whether the mark contradicts the stored answer, in six cases (§5.2).

@@ -3,10 +3,11 @@
 ghost use mathlib.Core.Path.{_≡_};
 ghost use Rattle.model.specs.Limits.{version};
 ghost use Rattle.model.specs.Calls.{offers, answers, accept as acceptCall, looks};
-ghost use Rattle.model.specs.Entry.{startSeen, startWords, startLists, callSeen, callWords, callLists, emitSeen, emitOut, loadSeen};
+ghost use Rattle.model.specs.Entry.{startSeen, startWords, startLists, callSeen, callWords, callLists, emitSeen, emitOut, judgeSeen, loadSeen};
 ghost use Rattle.model.specs.View.{sizesSeen, childrenSeen, finalSeen, ruleSeen, targetSeen};
 use model::Emitted;
 use model::Found;
+use model::Judged;
 use model::ListRule;
 use model::ListSizes;
 use model::Lists;
@@ -91,7 +92,15 @@ pub extern "C" fn kuldveth_emit(words: &[u32], lists: &Lists, out: &mut [u8]) ->
     call_read::emit(words, *lists, out)
 }
 
-// Loading a list (§3.8): 21, or the count of its rules.
+// The verdict of the proposed automaton on a listed record (§3.8): changes nothing.
+#[no_mangle]
+pub extern "C" fn kuldveth_verdict(words: &[u32], lists: &Lists, symbols: &[u8]) -> Judged
+    ensures { λ r. ⌜ r ≡ judgeSeen (now (words .entry)) (now (lists .entry)) (now (symbols .entry)) ⌝ }
+{
+    call_read::verdict(words, *lists, symbols)
+}
+
+// Loading a list (§3.9): 21, or the count of its rules.
 #[no_mangle]
 pub extern "C" fn kuldveth_load(bytes: &[u8]) -> Emitted
     ensures { λ r. ⌜ r ≡ loadSeen (now (bytes .entry)) ⌝ }

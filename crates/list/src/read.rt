@@ -176,7 +176,7 @@ fn read_finals(counts: &[u8], bytes: &[u8]) -> Emitted
     read_rules(counts, finals, rest(bytes))
 }
 
-// Load (§3.8): the count of rules of bytes that are a list (§6.2), and 21 for all others.
+// Load (§3.9): the count of rules of bytes that are a list (§6.2), and 21 for all others.
 pub fn load(bytes: &[u8]) -> Emitted
     ensures { λ r. ⌜ r ≡ loadSeen (now (bytes .entry)) ⌝ }
 {

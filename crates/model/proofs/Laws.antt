@@ -22,6 +22,7 @@ pub mod Plug
 pub mod Listed
 pub mod Records
 pub mod Verdict
+pub mod NoRule
 -- the emitted list: blocks, rule bodies, written and read
 pub mod Blocks
 pub mod Heads
@@ -73,6 +74,7 @@ pub mod Due
 pub mod Asks
 -- lent words and lists, call by call
 pub mod Along
+pub mod Arrays
 pub mod LentPart
 -- runs: call after call
 pub mod RunStep

@@ -6,6 +6,7 @@ pub mod Listing
 pub mod Steps
 pub mod Order
 pub mod Automata
+pub mod Verdicts
 pub mod Offers
 pub mod Learns
 pub mod History

@@ -8,6 +8,7 @@ use lib.ListN.{length, getD, drop}
 use Rattle.model.specs.Base.{all, same, top}
 use Rattle.model.specs.Store.{Store, fold}
 use Rattle.model.specs.Terms.{Tree, tree, evalTree, evalForest}
+use Rattle.model.specs.declared.Verdict.{Verdict}
 
 -- A RULE: symbol and child states give one state. Finals: one number a state, 1 if it is final
 pub record Rule : Type 0 where
@@ -92,23 +93,32 @@ abbrev pub acceptsRow : Automaton → Store → (row : ℕ) → Bool
 acceptsRow d x i = isFinal (d .finals) (rowState (d .rules) x i)
 
 -- of a listed record, by a stack of states; stops at the first symbol that finds no rule, and says its place
-pub data Verdict : Type 0 where
-  gives : (state : ℕ) → Verdict
-  stuck : (place : ℕ) → Verdict
+pub data RunEnd : Type 0 where
+  gives : (state : ℕ) → RunEnd
+  stuck : (place : ℕ) → RunEnd
 
-abbrev pub goOn : (place : ℕ) → Option ℕ → (ℕ → Verdict) → Verdict
+abbrev pub goOn : (place : ℕ) → Option ℕ → (ℕ → RunEnd) → RunEnd
 goOn p none next = stuck p
 goOn p (some q) next = next q
 
-unfoldable pub runFrom : Automaton → (place : ℕ) → (symbols stack : List ℕ) → Verdict
+unfoldable pub runFrom : Automaton → (place : ℕ) → (symbols stack : List ℕ) → RunEnd
 runFrom d p [] [] = stuck p
 runFrom d p [] (q ∷ qs) = gives q
 runFrom d p (a ∷ xs) qs =
     goOn p (targetIn a (top (getD (d .counts) a 0) qs) (d .rules)) (λ (q : ℕ). runFrom d (suc p) xs (q ∷ drop (getD (d .counts) a 0) qs))
 
-abbrev pub isYes : Automaton → Verdict → Bool
-isYes d (gives q) = isFinal (d .finals) (some q)
-isYes d (stuck p) = false
+-- THE VERDICT on a listed record (§1.4): accepted; a state that is not final; or no rule, at a place
+abbrev pub verdictBy : (finals : List ℕ) → RunEnd → Verdict
+verdictBy fs (gives q) = cond (isFinal fs (some q)) Verdict.Accepted Verdict.NotFinal
+verdictBy fs (stuck p) = Verdict.NoRule p
+
+abbrev pub verdictOn : Automaton → (symbols : List ℕ) → Verdict
+verdictOn d xs = verdictBy (d .finals) (runFrom d 0 xs [])
+
+abbrev pub isYes : Verdict → Bool
+isYes Verdict.Accepted = true
+isYes Verdict.NotFinal = false
+isYes (Verdict.NoRule p) = false
 
 abbrev pub acceptsList : Automaton → (symbols : List ℕ) → Bool
-acceptsList d xs = isYes d (runFrom d 0 xs [])
+acceptsList d xs = isYes (verdictOn d xs)

@@ -6,7 +6,7 @@ use lib.Dec.{ltb, leb, eqb}
 use lib.ListN.{length}
 use Rattle.model.specs.Store.{Store, holeNode}
 use Rattle.model.specs.Terms.{orElse, unless, recordFault, knownRow}
-use Rattle.model.specs.Automata.{acceptsList}
+use Rattle.model.specs.Automata.{verdictOn, isYes}
 use Rattle.model.specs.Table.{Tables, tables, answerAt, automatonOf}
 use Rattle.model.specs.Sound.{alphabetFits, isSound}
 use Rattle.model.specs.Listing.{Sheet, emitted}
@@ -18,6 +18,7 @@ pub data Call : Type 0 where
   accept : Call
   looks : Call
   emits : (room : ℕ) → Call
+  judges : (symbols : List ℕ) → Call
 
 -- a call refuses with a number and changes nothing, or is taken and leaves tables
 pub data Outcome : Type 0 where
@@ -71,7 +72,7 @@ contradicts v m =
     false)))))
 
 abbrev pub verdictIs : Tables → (symbols : List ℕ) → (mark : ℕ) → Bool
-verdictIs x xs m = eqb (cond (acceptsList (automatonOf x) xs) 1 0) m
+verdictIs x xs m = eqb (cond (isYes (verdictOn (automatonOf x) xs)) 1 0) m
 
 abbrev pub offerFault : Tables → (symbols : List ℕ) → (mark : ℕ) → ℕ
 offerFault x xs m =
@@ -93,12 +94,17 @@ sheetOf x = record { automaton = automatonOf x }
 abbrev pub emitFault : Tables → (room : ℕ) → ℕ
 emitFault x r = orElse (unless (not (isAsking x)) 31) (unless (leb (length (emitted (sheetOf x))) r) 20)
 
+-- a verdict (§3.8) is allowed when emitting is
+abbrev pub judgeFault : Tables → (symbols : List ℕ) → ℕ
+judgeFault x xs = orElse (unless (not (isAsking x)) 31) (recordFault (x .store .counts) xs)
+
 abbrev pub faultOf : Tables → Call → ℕ
 faultOf x (offers xs m) = offerFault x xs m
 faultOf x (answers m) = answerFault x m
 faultOf x accept = acceptFault x
 faultOf x looks = 0
 faultOf x (emits r) = emitFault x r
+faultOf x (judges xs) = judgeFault x xs
 
 -- WHAT A CALL LEAVES where no fault applies
 abbrev pub endOf : Ended → Outcome
@@ -112,6 +118,7 @@ doneBy x (answers m) = endOf (answered x m)
 doneBy x accept = leaves (tables (x .store) (x .answers) (x .s) (x .t) (x .c) (x .hand) (x .asked) true)
 doneBy x looks = leaves x
 doneBy x (emits r) = leaves x
+doneBy x (judges xs) = leaves x
 
 -- A CALL: 30, then its own lines, then its step
 abbrev pub call : Tables → Call → Outcome

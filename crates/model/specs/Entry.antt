@@ -8,12 +8,15 @@ use lib.ListN.{length, getD, take, drop, replicate}
 use Rattle.model.specs.Limits.{rowWidth, mostRows, mostSymbols, mostStates, mostRules, mostContexts, mostChildren}
 use Rattle.model.specs.Base.{isIn, over}
 use Rattle.model.specs.Store.{Node, Store}
-use Rattle.model.specs.Table.{Tables, tables}
+use Rattle.model.specs.Automata.{verdictOn}
+use Rattle.model.specs.Table.{Tables, tables, automatonOf}
 use Rattle.model.specs.Listing.{emitted, Read, broken, loaded, readList}
-use Rattle.model.specs.Calls.{Call, emits, Outcome, refuses, leaves, numberOf, Look, look, sheetOf, call, startFault, started}
+use Rattle.model.specs.Calls.{Call, emits, judges, Outcome, refuses, leaves, numberOf, Look, look, sheetOf, call, startFault, started}
 use Rattle.model.specs.declared.Lists.{Lists}
 use Rattle.model.specs.declared.Seen.{Seen}
 use Rattle.model.specs.declared.Emitted.{Emitted}
+use Rattle.model.specs.declared.Verdict.{Verdict}
+use Rattle.model.specs.declared.Judged.{Judged}
 
 -- WORDS (§2.1): six numbers a row; whole rows, 1 to 16,384
 abbrev pub rowsLent : (words : List ℕ) → ℕ
@@ -188,7 +191,23 @@ emitSeen ws l o = emittedBy (callBy ws l (emits (length o)))
 abbrev pub emitOut : (words : List ℕ) → Lists → (out : List ℕ) → List ℕ
 emitOut ws l o = outBy o (callBy ws l (emits (length o)))
 
--- LOADING (§3.8): 21 alone; the count of rules
+-- THE VERDICT (§3.8): 18, 30, 31, 11 to 15; then the outcome's number, and the place of a missing rule
+abbrev pub judged : (number outcome place : ℕ) → Judged
+judged n k p = record { number = n; outcome = k; place = p }
+
+abbrev pub judgedAs : Verdict → Judged
+judgedAs Verdict.Accepted = judged 0 1 0
+judgedAs Verdict.NotFinal = judged 0 2 0
+judgedAs (Verdict.NoRule p) = judged 0 3 p
+
+abbrev pub judgedBy : (symbols : List ℕ) → Outcome → Judged
+judgedBy xs (refuses n) = judged n 0 0
+judgedBy xs (leaves x) = judgedAs (verdictOn (automatonOf x) xs)
+
+abbrev pub judgeSeen : (words : List ℕ) → Lists → (symbols : List ℕ) → Judged
+judgeSeen ws l xs = judgedBy xs (callBy ws l (judges xs))
+
+-- LOADING (§3.9): 21 alone; the count of rules
 abbrev pub loadedBy : Read → Emitted
 loadedBy broken = record { number = 21; size = 0 }
 loadedBy (loaded a) = record { number = 0; size = length (a .automaton .rules) }

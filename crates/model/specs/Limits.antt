@@ -33,10 +33,10 @@ mostRules = 256
 abbrev pub mostContexts : ℕ
 mostContexts = 289
 
--- an offered record has 1 to 1,024 symbols (§3.4)
+-- a listed record has 1 to 1,024 symbols (§3.4, §3.8)
 abbrev pub mostListed : ℕ
 mostListed = 1024
 
 -- which layouts and calls a host has before it (§11)
 abbrev pub version : ℕ
-version = 3
+version = 4

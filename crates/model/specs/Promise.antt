@@ -16,7 +16,7 @@ use Rattle.model.specs.Sound.{alphabetFits, isSound, isNearlySound, cont
 use Rattle.model.specs.Phase.{Sounds}
 use Rattle.model.specs.Listing.{Sheet, emitted, loaded, readList, finalsFit}
 use Rattle.model.specs.Steps.{lost, search, noneUnknown, unknown, seek, grow}
-use Rattle.model.specs.Calls.{Call, offers, answers, accept, looks, emits, refuses, numberOf, isAsking, phaseOf, sheetOf, faultOf, call}
+use Rattle.model.specs.Calls.{Call, offers, answers, accept, looks, emits, judges, refuses, numberOf, isAsking, phaseOf, sheetOf, faultOf, call}
 use Rattle.model.specs.Entry.{sizeFits, listsFit, Arrays, startNumber, startSeen, callNumber, callSeen}
 use Rattle.model.specs.Due.{RowsShort, StatesShort, TransitionsShort}
 use Rattle.model.specs.Run.{Lent, meant, startedRun, afterCall, after, isTaken, takenOnly, taken, shown, grows, Said, said, saidIn, offeredBy, askedBy, heardIn, agreesWith}
@@ -29,13 +29,14 @@ use Rattle.model.specs.declared.Seen.{Seen}
 abbrev pub RefusedUntouched : Type 0
 RefusedUntouched = (l : Lent) (k : Call) → isTaken l k ≡ false → afterCall l k ≡ l
 
--- looking and emitting change nothing, in lists whose arrays have the lengths of §2.2
+-- looking, emitting and the verdict change nothing, in lists whose arrays have the lengths of §2.2
 abbrev pub onlyReads : Call → Bool
 onlyReads (offers xs m) = false
 onlyReads (answers m) = false
 onlyReads accept = false
 onlyReads looks = true
 onlyReads (emits r) = true
+onlyReads (judges xs) = true
 
 abbrev pub ReadsUntouched : Type 0
 ReadsUntouched = (l : Lent) (k : Call) → Arrays (l .lists) → onlyReads k ≡ true → afterCall l k ≡ l
@@ -93,12 +94,13 @@ OffersTaken =
     among (numberOf (call x (offers (symbolsOf t) m))) (0 ∷ 34 ∷ 35 ∷ 36 ∷ []) ≡ true
 
 -- the other calls are not refused by a line too many either: an answer of 0 or 1 while asking, acceptance while proposing, a look,
--- an emission with enough room while no question is open
+-- an emission with enough room while no question is open, a verdict on a record listed without a fault then
 pub record OthersTaken : Type 0 where
   pub answer : (x : Tables) (m : ℕ) → isSound x ≡ true → phaseOf x ≡ 1 → m ≤ 1 → among (numberOf (call x (answers m))) (0 ∷ 34 ∷ 35 ∷ 36 ∷ []) ≡ true
   pub acceptance : (x : Tables) → isSound x ≡ true → phaseOf x ≡ 0 → numberOf (call x accept) ≡ 0
   pub look : (x : Tables) → isSound x ≡ true → numberOf (call x looks) ≡ 0
   pub emission : (x : Tables) (room : ℕ) → isSound x ≡ true → x .asked ≡ 0 → length (emitted (sheetOf x)) ≤ room → numberOf (call x (emits room)) ≡ 0
+  pub verdict : (x : Tables) (xs : List ℕ) → isSound x ≡ true → x .asked ≡ 0 → recordFault (x .store .counts) xs ≡ 0 → numberOf (call x (judges xs)) ≡ 0
 
 -- the counts told are the lengths of S, T and C, the phase and row told are the tables'
 pub record Tells (seen : Seen) (x : Tables) : Type 0 where

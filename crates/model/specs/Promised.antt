@@ -1,9 +1,10 @@
 -- Every promise at once, in the order of the demands (§7.3): one record, of which proofs/Promises/All.antt has the one value.
 use Rattle.model.specs.Due.{RoomAlone}
 use Rattle.model.specs.Marks.{SixCases, ContradictionTold}
+use Rattle.model.specs.Verdicts.{VerdictTold}
 use Rattle.model.specs.Promise.{RefusedUntouched, ReadsUntouched, UnsoundRefused, SoundMeans, StaysSound, StaysNearlySound, SearchEnds, TakenWhenDue, OffersTaken, OthersTaken, CountsTold, LooksNext, Ordered, AskedOnce, AnswersTaken, OneAutomaton, ListBack, Vouched, GrowsEach, LearnsEach, TakenAlone}
 use Rattle.model.specs.Plug.{FillsTrees, AsksPlugs, RowsSaid}
-use Rattle.model.specs.Worked.{Runs, Corners, PremisesHold}
+use Rattle.model.specs.Worked.{Runs, Corners, Judgements, PremisesHold}
 
 pub record Promised : Type 0 where
   -- what a call leaves
@@ -30,6 +31,7 @@ pub record Promised : Type 0 where
   pub asked-once : AskedOnce
   pub answers-taken : AnswersTaken
   pub one-automaton : OneAutomaton
+  pub verdict-told : VerdictTold
   pub list-back : ListBack
   pub vouched : Vouched
   -- whole runs
@@ -39,4 +41,5 @@ pub record Promised : Type 0 where
   -- the worked runs
   pub runs : Runs
   pub corners : Corners
+  pub judgements : Judgements
   pub premises-hold : PremisesHold

@@ -8,7 +8,7 @@ use Rattle.model.specs.Store.{Store}
 use Rattle.model.specs.Terms.{Tree, treeAt, treeOf}
 use Rattle.model.specs.Automata.{Automaton, accepts}
 use Rattle.model.specs.Table.{Tables, size}
-use Rattle.model.specs.Calls.{Call, offers, answers, accept, looks, emits, isAsking, phaseOf}
+use Rattle.model.specs.Calls.{Call, offers, answers, accept, looks, emits, judges, isAsking, phaseOf}
 use Rattle.model.specs.Entry.{tablesOf, callNumber, callWords, callLists, startWords, startLists}
 use Rattle.model.specs.declared.Lists.{Lists}
 
@@ -45,6 +45,7 @@ takesOne l (answers m) = 0
 takesOne l accept = 0
 takesOne l looks = 0
 takesOne l (emits r) = 0
+takesOne l (judges xs) = 0
 
 unfoldable pub taken : Lent → List Call → ℕ
 taken l [] = 0
@@ -60,6 +61,7 @@ isShown l (answers m) = proposesNow l (answers m)
 isShown l accept = false
 isShown l looks = false
 isShown l (emits r) = false
+isShown l (judges xs) = false
 
 unfoldable pub shownBy : Lent → List Call → ℕ
 shownBy l [] = 0
@@ -96,6 +98,7 @@ saidBy l (answers m) = ifTaken l (answers m) (said (treeAt (meant l .store) (mea
 saidBy l accept = []
 saidBy l looks = []
 saidBy l (emits r) = []
+saidBy l (judges xs) = []
 
 unfoldable pub saidIn : Lent → List Call → List Said
 saidIn l [] = []
@@ -108,6 +111,7 @@ offeredBy l (answers m) = []
 offeredBy l accept = []
 offeredBy l looks = []
 offeredBy l (emits r) = []
+offeredBy l (judges xs) = []
 
 abbrev pub questionOf : Tables → List Tree
 questionOf x = cond (isAsking x) (treeAt (x .store) (x .asked) ∷ []) []
@@ -118,6 +122,7 @@ askedBy l (answers m) = ifTaken l (answers m) (questionOf (meant (afterCall l (a
 askedBy l accept = []
 askedBy l looks = []
 askedBy l (emits r) = []
+askedBy l (judges xs) = []
 
 unfoldable pub heardIn : Lent → List Call → List Tree
 heardIn l [] = []

@@ -9,11 +9,12 @@ use Rattle.model.specs.Base.{all}
 use Rattle.model.specs.Automata.{Automaton, isDeterministic}
 use Rattle.model.specs.Listing.{Read, loaded, readList}
 use Rattle.model.specs.Calls.{Call, offers, answers, accept, looks, emits}
-use Rattle.model.specs.Entry.{startNumber, startSeen, startWords, startLists, callNumber, callSeen, emitOut, emitSeen, loadSeen}
+use Rattle.model.specs.Entry.{startNumber, startSeen, startWords, startLists, callNumber, callSeen, emitOut, emitSeen, loadSeen, judged, judgeSeen}
 use Rattle.model.specs.Run.{Lent, startedRun, after, saidIn, agreesWith}
 use Rattle.model.specs.declared.Lists.{Lists}
 use Rattle.model.specs.declared.Seen.{Seen}
 use Rattle.model.specs.declared.Emitted.{Emitted}
+use Rattle.model.specs.declared.Judged.{Judged}
 
 -- o is symbol 0 with one child, p is 1 with none; what is lent holds other numbers before the start
 abbrev pub counts : List ℕ
@@ -178,6 +179,32 @@ pub record Corners : Type 0 where
   pub read-back : loadSeen theList ≡ wrote 0 2
   pub nothing-read : loadSeen [] ≡ wrote 21 0
   pub byte-more : loadSeen (theList ++ (0 ∷ [])) ≡ wrote 21 0
+
+-- VERDICTS along the run: the outcome and the place, or a refusal and zeros
+abbrev pub judging : Lent → (symbols : List ℕ) → Judged
+judging l xs = judgeSeen (l .words) (l .lists) xs
+
+abbrev pub ooop : List ℕ
+ooop = 1 ∷ 0 ∷ 0 ∷ 0 ∷ []
+
+pub record Judgements : Type 0 where
+  -- the empty automaton has no rule for p; after line 3 there is one, and none for o[p]; at the end none for o[o[p]]
+  pub fresh-run : judging (fresh 9) op ≡ judged 0 3 0
+  pub after-line-3 : judging (at 9 2) ooop ≡ judged 0 3 1
+  pub at-the-end : judging (at 9 4) ooop ≡ judged 0 3 2
+  pub not-final : judging (at 9 4) (1 ∷ []) ≡ judged 0 2 0
+  pub accepted : judging (at 9 4) op ≡ judged 0 1 0
+  -- an accepted run has verdicts, one that asks has none
+  pub when-accepted : judging (at 9 5) ooop ≡ judged 0 3 2
+  pub while-asking : judging (at 9 1) [] ≡ judged 31 0 0
+  -- 11 to 15, of which 12 comes before 13; 18 and 30 before all
+  pub nothing : judging (at 9 4) [] ≡ judged 11 0 0
+  pub too-long : judging (at 9 4) (replicate (mostListed + 1) 2) ≡ judged 12 0 0
+  pub unknown-symbol : judging (at 9 4) (1 ∷ 2 ∷ []) ≡ judged 13 0 0
+  pub few-children : judging (at 9 4) (0 ∷ []) ≡ judged 14 0 0
+  pub many-trees : judging (at 9 4) (1 ∷ 1 ∷ []) ≡ judged 15 0 0
+  pub not-whole-rows : judgeSeen (7 ∷ fresh 9 .words) oldLists [] ≡ judged 18 0 0
+  pub not-sound : judgeSeen (fresh 9 .words) oldLists [] ≡ judged 30 0 0
 
 -- the premises of LearnsEach hold for this run and its own automaton
 pub record PremisesHold : Type 0 where

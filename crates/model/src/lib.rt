@@ -15,7 +15,7 @@ pub struct State(pub u16);
 pub struct Context(pub u16);
 
 // The run's own lists (§2.2). A count says how much of the array after it is meant; in `hand` and `asked` 0 is none; `accepted` is 0 or 1.
-// Order and widths of the fields leave no padding, here and in the two structs below: a byte without a field would be what the stack held.
+// Order and widths of the fields leave no padding, here and in the structs below: a byte without a field would be what the stack held.
 #[repr(C)]
 pub struct Lists {
     pub letters: u8,
@@ -43,11 +43,26 @@ pub struct Seen {
     pub contexts: u16,
 }
 
-// What emitting and loading return (§3.7, §3.8): bytes written, or rules read.
+// What emitting and loading return (§3.7, §3.9): bytes written, or rules read.
 #[repr(C)]
 pub struct Emitted {
     pub number: u32,
     pub size: u32,
+}
+
+// The verdict on a listed record (§1.4): accepted, a state that is not final, or no rule at the place of a symbol.
+pub enum Verdict {
+    Accepted,
+    NotFinal,
+    NoRule(u16),
+}
+
+// What the verdict call returns (§3.8): a verdict by its numbers. A refusal has its number and zeros.
+#[repr(C)]
+pub struct Judged {
+    pub number: u8,
+    pub outcome: u8,
+    pub place: u16,
 }
 
 // How many symbols, states and rules a list has (§6.3).

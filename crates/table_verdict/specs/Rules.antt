@@ -1,7 +1,7 @@
 -- The hypothesis by its representatives: a state is told by the row of its representative, and 0 is none.
 -- Runs and verdicts are defined over the representatives alone; where they are those of rules (Ruled), the laws say that these are model's.
 use mathlib.Core.Path.{_≡_}
-use mathlib.Core.Bool.{Bool, false, _&&_, _||_, not, cond}
+use mathlib.Core.Bool.{Bool, _&&_, _||_, not, cond}
 use mathlib.Core.List.{List, [], _∷_, map}
 use mathlib.Core.Option.{Option, none, some}
 use Prim.Native.Nat.{ℕ, suc, _≤_, _<_}
@@ -10,9 +10,10 @@ use lib.ListN.{length, getD, take, drop}
 use Rattle.model.specs.Limits.{mostRows, mostStates}
 use Rattle.model.specs.Base.{In, Each, Distinct, among, placeOf, top}
 use Rattle.model.specs.Store.{Store, used, symbolAt, countOf, kidsAt, fold, findRow}
-use Rattle.model.specs.Automata.{Rule, Automaton, Verdict, gives, stuck}
+use Rattle.model.specs.Automata.{Rule, Automaton, RunEnd, gives, stuck}
 use Rattle.model.specs.Table.{answerAt, finalsOf}
 use Rattle.model.specs.Entry.{storeOf, answersIn}
+use Rattle.model.specs.declared.Verdict.{Verdict}
 use Rattle.table.specs.Answers.{stateAt}
 use Rattle.table_verdict.specs.declared.Led.{Led}
 
@@ -45,16 +46,16 @@ runBy x reps p (a ∷ xs) ks =
 abbrev pub ledList : Store → (reps symbols : List ℕ) → Led
 ledList x reps xs = runBy x reps 0 xs []
 
--- VERDICTS: yes where the representative was answered yes
+-- VERDICTS: by the answer of the representative, which is yes at a final state
 abbrev pub acceptsBy : Store → (answers reps : List ℕ) → (row : ℕ) → Bool
 acceptsBy x w reps i = not (eqb (repRow x reps i) 0) && eqb (answerAt w (repRow x reps i)) 2
 
-abbrev pub isYesBy : (answers : List ℕ) → Led → Bool
-isYesBy w (Led.To k) = eqb (answerAt w (k .0)) 2
-isYesBy w (Led.Stuck p) = false
+abbrev pub ledVerdict : (answers : List ℕ) → Led → Verdict
+ledVerdict w (Led.To k) = cond (eqb (answerAt w (k .0)) 2) Verdict.Accepted Verdict.NotFinal
+ledVerdict w (Led.Stuck p) = Verdict.NoRule p
 
-abbrev pub acceptsListBy : Store → (answers reps symbols : List ℕ) → Bool
-acceptsListBy x w reps xs = isYesBy w (ledList x reps xs)
+abbrev pub verdictListBy : Store → (answers reps symbols : List ℕ) → Verdict
+verdictListBy x w reps xs = ledVerdict w (ledList x reps xs)
 
 -- A RULE for each transition: its target is the place of its representative
 abbrev pub ruleBy : Store → (s reps : List ℕ) → (transition : ℕ) → Rule
@@ -86,6 +87,6 @@ repOf s none = 0
 repOf s (some q) = getD s q 0
 
 -- a run on a listed record: the representative of its state, or the place of the first symbol without a rule
-abbrev pub ledBy : (s : List ℕ) → Verdict → Led
+abbrev pub ledBy : (s : List ℕ) → RunEnd → Led
 ledBy s (gives q) = Led.To (record { 0 = getD s q 0 })
 ledBy s (stuck p) = Led.Stuck p

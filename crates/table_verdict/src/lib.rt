@@ -1,7 +1,7 @@
 // table: the proposed automaton at work: the representative of each transition, and the verdict on stored and on listed records (§1.5).
 // A rule is found through the index: the row with this symbol over the children's representatives, if it is a transition.
 ghost use mathlib.Core.Path.{_≡_};
-ghost use mathlib.Core.Bool.{true};
+ghost use mathlib.Core.Bool.{true, cond};
 ghost use Prim.Native.Nat.{ℕ, _<_, _≤_};
 ghost use lib.Dec.{eqb};
 ghost use lib.ListN.{length, getD, take};
@@ -9,17 +9,19 @@ ghost use Rattle.model.specs.Limits.{mostListed, mostStates};
 ghost use Rattle.model.specs.Base.{noRepeats};
 ghost use Rattle.model.specs.Facts.{Parses};
 ghost use Rattle.model.specs.Entry.{storeOf, answersIn};
+ghost use Rattle.model.specs.declared.Verdict.{Verdict};
 ghost use Rattle.bank.specs.Rows.{answerIn, Within};
 ghost use Rattle.bank.specs.Index.{Finding, findIn};
 ghost use Rattle.bank.specs.Bank.{Bank};
 ghost use Rattle.bank.specs.Notes.{roomIn, columnIn, repsIn};
 ghost use Rattle.table.specs.Answers.{Sized};
-ghost use Rattle.table_verdict.specs.Rules.{RepsBy, RepsIn, repRow, ledList, acceptsBy, acceptsListBy};
+ghost use Rattle.table_verdict.specs.Rules.{RepsBy, RepsIn, repRow, ledList, acceptsBy, verdictListBy};
 use bank::index;
 use bank::notes;
 use bank::notes::NOTE_WIDTH;
 use bank::rows;
 use model::Row;
+use model::Verdict;
 use model::limits::MOST_LISTED;
 use model::limits::MOST_STATES;
 
@@ -186,7 +188,7 @@ fn is_final(words: &[u32], rep: Row) -> bool
 // Where a run on a listed record ends: at the representative of its state, or stuck at the first symbol without a rule.
 pub enum Led {
     To(Row),
-    Stuck(usize),
+    Stuck(u16),
 }
 
 // The run on a listed record, by a stack of representatives.
@@ -215,7 +217,7 @@ pub fn run_list(
         let places = bank_listed::top_places(&stack, height, count);
         let rep = target_of(words, used, index, reps, symbol, places);
         if rep.0 == 0 {
-            return Led::Stuck(at);
+            return Led::Stuck(at as u16);
         }
         height -= count;
         stack[height] = rep.0;
@@ -225,15 +227,26 @@ pub fn run_list(
     Led::To(Row(stack[0]))
 }
 
+// The verdict where a run ended at a state, by its representative.
+fn verdict_at(words: &[u32], rep: Row) -> Verdict
+    requires { ⌜ Within (now words) (rep .0) ⌝ }
+    ensures { λ r. ⌜ r ≡ cond (eqb (answerIn (now (words .entry)) (rep .0)) 2) Verdict.Accepted Verdict.NotFinal ⌝ }
+{
+    if is_final(words, rep) {
+        return Verdict::Accepted;
+    }
+    Verdict::NotFinal
+}
+
 // The verdict on a listed record.
-pub fn accepts_list(
+pub fn verdict_on(
     words: &[u32],
     counts: &[u8],
     used: u16,
     index: &[u16],
     reps: &[u16],
     symbols: &[u8],
-) -> bool
+) -> Verdict
     requires { ⌜ Bank (now words) (now counts) used (now index)
         × RepsIn used (now reps)
         × Parses (now counts) 0 (now symbols)
@@ -241,10 +254,10 @@ pub fn accepts_list(
     ensures { λ r.
         let x = storeOf (now (words .entry)) (now (counts .entry)) used in
         let answers = answersIn used (now (words .entry)) in
-        ⌜ r ≡ acceptsListBy x answers (now (reps .entry)) (now (symbols .entry)) ⌝ }
+        ⌜ r ≡ verdictListBy x answers (now (reps .entry)) (now (symbols .entry)) ⌝ }
 {
     match run_list(words, counts, used, index, reps, symbols) {
-        Led::To(rep) => is_final(words, rep),
-        Led::Stuck(_) => false,
+        Led::To(rep) => verdict_at(words, rep),
+        Led::Stuck(place) => Verdict::NoRule(place),
     }
 }

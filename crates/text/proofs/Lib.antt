@@ -1,5 +1,6 @@
 pub mod Worked
 pub mod Runs
+pub mod Places
 pub mod Steps
 pub mod Known
 pub mod Forwards

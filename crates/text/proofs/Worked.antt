@@ -29,4 +29,5 @@ script-runs =
       not-a-line = refl;
       brackets = refl;
       refusals = refl;
+      fell-off = refl;
     }

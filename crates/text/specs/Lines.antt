@@ -9,6 +9,7 @@ use Rattle.model.specs.Base.{same}
 use Rattle.model.specs.Store.{Store}
 use Rattle.model.specs.Calls.{Call, offers, answers, accept}
 use Rattle.model.specs.declared.Seen.{Seen}
+use Rattle.model.specs.declared.Judged.{Judged}
 use Rattle.model.specs.Terms.{sizeOf}
 use Rattle.text.specs.Bytes.{newline, space, plus, minus, decimal, acceptedWord, askWord, proposeWord, refusedWord, rowWord, unreadWord, yesWord, noWord, okWord, mostInput}
 use Rattle.text.specs.Written.{rowText}
@@ -52,6 +53,13 @@ acceptedText = ended acceptedWord
 
 abbrev pub refusedText : (number : ℕ) → List ℕ
 refusedText n = ended (numbered refusedWord n)
+
+-- an offer that got 32, by the verdict asked next: beside outcome 3 the place of the symbol that found no rule (§3.8)
+abbrev pub placeText : (place : ℕ) → List ℕ
+placeText p = ended (numbered (numbered refusedWord 32) p)
+
+abbrev pub agreedText : Judged → List ℕ
+agreedText v = cond (eqb (v .outcome) 3) (placeText (v .place)) (refusedText 32)
 
 abbrev pub proposeText : (states rules contexts : ℕ) → List ℕ
 proposeText s t c = ended (numbered (numbered (numbered proposeWord s) t) c)

@@ -3,21 +3,27 @@ use mathlib.Core.Path.{_≡_}
 use mathlib.Core.Logic.{_≢_}
 use mathlib.Core.Bool.{true}
 use mathlib.Core.List.{List, [], _∷_}
+use mathlib.Core.Option.{none}
 use Prim.Native.Nat.{ℕ, _≤_, _<_}
 use lib.ListN.{length, getD}
 use Rattle.model.specs.Limits.{mostChildren}
 use Rattle.model.specs.Base.{Distinct, Each}
 use Rattle.model.specs.Store.{Store, used}
 use Rattle.model.specs.Terms.{Tree, Over, treeAt, treeOf, symbolsOf}
+use Rattle.model.specs.Automata.{stateOf}
+use Rattle.model.specs.Table.{automatonOf}
 use Rattle.model.specs.Sound.{alphabetFits}
+use Rattle.model.specs.Calls.{offers}
 use Rattle.model.specs.Facts.{Good, IsRecord}
-use Rattle.model.specs.Entry.{startNumber}
+use Rattle.model.specs.Entry.{tablesOf, startNumber, callNumber}
 use Rattle.model.specs.Run.{startedRun, after}
+use Rattle.model.specs.Verdicts.{NoRuleAt}
 use Rattle.text.specs.Bytes.{isLetter}
 use Rattle.text.specs.Alphabet.{alphabet, alphabetOf}
 use Rattle.text.specs.Written.{textOf, rowText}
 use Rattle.text.specs.Reading.{readText}
-use Rattle.text.specs.Script.{repliedTo, callsIn, leftAfter}
+use Rattle.text.specs.Lines.{calls, refusedText, placeText}
+use Rattle.text.specs.Script.{heard, repliedTo, callsIn, leftAfter}
 use Rattle.text.specs.declared.Script.{Script}
 
 -- letters and counts as a first line gives them
@@ -52,3 +58,11 @@ pub record ScriptIsRun : Type 0 where
       startNumber words counts ≡ 0 →
       leftAfter words z (line ∷ lines) ≡
       after (startedRun words counts (z .lists)) (callsIn (repliedTo words z line .words) (repliedTo words z line .script) lines)
+
+-- 32 IN A SCRIPT is told with the place of the leftmost innermost symbol that found no rule; with none where the rules give the root a state
+pub record PlaceTold : Type 0 where
+  pub no-rule : (words : List ℕ) (z : Script) (xs : List ℕ) (m p : ℕ) → callNumber words (z .lists) (offers xs m) ≡ 32 →
+      NoRuleAt (automatonOf (tablesOf words (z .lists))) xs p → heard words z (calls (offers xs m)) .text ≡ placeText p
+  pub with-state : (words : List ℕ) (z : Script) (xs : List ℕ) (m : ℕ) → callNumber words (z .lists) (offers xs m) ≡ 32 →
+      let d = automatonOf (tablesOf words (z .lists)) in
+      stateOf d (treeOf (d .counts) xs) ≢ none → heard words z (calls (offers xs m)) .text ≡ refusedText 32

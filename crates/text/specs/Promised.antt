@@ -1,5 +1,5 @@
 -- Every promise about records and scripts as text at once (§8): one record, of which proofs/All.antt has the one value.
-use Rattle.text.specs.Promise.{FirstLine, ReadExactly, RoundTrip, ScriptIsRun}
+use Rattle.text.specs.Promise.{FirstLine, ReadExactly, RoundTrip, ScriptIsRun, PlaceTold}
 use Rattle.text.specs.Worked.{ScriptRuns}
 
 pub record Promised : Type 0 where
@@ -9,5 +9,6 @@ pub record Promised : Type 0 where
   pub round-trip : RoundTrip
   -- a script
   pub script-is-run : ScriptIsRun
+  pub place-told : PlaceTold
   -- the worked run and the corners
   pub script-runs : ScriptRuns

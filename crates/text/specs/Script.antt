@@ -6,14 +6,14 @@ use lib.Dec.{ltb, eqb}
 use lib.ListN.{take, replicate}
 use Rattle.model.specs.Limits.{rowWidth, mostSymbols}
 use Rattle.model.specs.Base.{over}
-use Rattle.model.specs.Calls.{Call}
-use Rattle.model.specs.Entry.{tablesOf, zeroLists, startSeen, startWords, startLists, startNumber, callSeen, callWords, callLists}
+use Rattle.model.specs.Calls.{Call, offers, answers, accept, looks, emits, judges}
+use Rattle.model.specs.Entry.{tablesOf, zeroLists, startSeen, startWords, startLists, startNumber, callNumber, callSeen, callWords, callLists, judgeSeen}
 use Rattle.model.specs.Run.{Lent}
 use Rattle.model.specs.declared.Lists.{Lists}
 use Rattle.model.specs.declared.Seen.{Seen}
 use Rattle.text.specs.Bytes.{newline, mostInput, replyRoom}
 use Rattle.text.specs.Alphabet.{Alphabet, noAlphabet, alphabet, alphabetOf}
-use Rattle.text.specs.Lines.{Line, unreadLine, calls, lineOf, unreadText, seenText}
+use Rattle.text.specs.Lines.{Line, unreadLine, calls, lineOf, unreadText, agreedText, seenText}
 use Rattle.text.specs.declared.Script.{Script}
 
 -- WHAT A LINE GETS: the output line, [] for none, and what stands after it
@@ -47,11 +47,24 @@ opened ws z (alphabet ls ns) =
     (told (startWords ws ns) (script 1 (over ls (z .letters)) (startLists ws ns (z .lists))) (startSeen ws ns))
     (told ws (script 2 (z .letters) (z .lists)) (startSeen ws ns))
 
+-- an offer was made: where it got 32 the verdict on its record is asked, which changes nothing
+abbrev pub offerTold : (words : List ℕ) → Script → (symbols : List ℕ) → Seen → Reply
+offerTold ws z xs v = cond (eqb (v .number) 32) (reply (agreedText (judgeSeen ws (z .lists) xs)) ws z) (told ws z v)
+
+-- what was seen of a call is told by the call
+abbrev pub callTold : (words : List ℕ) → Script → Call → Seen → Reply
+callTold ws z (offers xs m) v = offerTold ws z xs v
+callTold ws z (answers m) v = told ws z v
+callTold ws z accept v = told ws z v
+callTold ws z looks v = told ws z v
+callTold ws z (emits r) v = told ws z v
+callTold ws z (judges xs) v = told ws z v
+
 -- A LATER LINE (§8.3): unread, it is no call
 abbrev pub heard : (words : List ℕ) → Script → Line → Reply
 heard ws z unreadLine = reply unreadText ws z
 heard ws z (calls k) =
-    told (callWords ws (z .lists) k) (script (z .stage) (z .letters) (callLists ws (z .lists) k)) (callSeen ws (z .lists) k)
+    callTold (callWords ws (z .lists) k) (script (z .stage) (z .letters) (callLists ws (z .lists) k)) k (callSeen ws (z .lists) k)
 
 -- ANY LINE: nothing is said and nothing changes once the script has ended, nor where a reply may not fit
 abbrev pub repliedTo : (words : List ℕ) → Script → (line : List ℕ) → Reply
@@ -81,14 +94,22 @@ freshScript = script 0 (replicate mostSymbols 0) zeroLists
 abbrev pub outputOf : (input : List ℕ) → List ℕ
 outputOf bs = repliesTo (replicate (rowWidth * scriptRows) 0) freshScript (linesFrom [] (take mostInput bs))
 
--- A SCRIPT AS A RUN: the calls of its later lines in order, of which an unread line makes none, and the tables that lines leave
-abbrev pub callIn : Line → List Call
-callIn unreadLine = []
-callIn (calls k) = k ∷ []
+-- A SCRIPT AS A RUN: the calls of its later lines in order, and the tables that lines leave. An unread line makes no call, an offer that got 32 two
+abbrev pub verdictAfter : (number : ℕ) → Call → List Call
+verdictAfter n (offers xs m) = cond (eqb n 32) (judges xs ∷ []) []
+verdictAfter n (answers m) = []
+verdictAfter n accept = []
+verdictAfter n looks = []
+verdictAfter n (emits r) = []
+verdictAfter n (judges xs) = []
+
+abbrev pub callIn : (words : List ℕ) → Script → Line → List Call
+callIn ws z unreadLine = []
+callIn ws z (calls k) = k ∷ verdictAfter (callNumber ws (z .lists) k) k
 
 unfoldable pub callsIn : (words : List ℕ) → Script → (lines : List (List ℕ)) → List Call
 callsIn ws z [] = []
-callsIn ws z (l ∷ ls) = callIn (lineOf (lettersOf z) (countsOf z) l) ++ callsIn (repliedTo ws z l .words) (repliedTo ws z l .script) ls
+callsIn ws z (l ∷ ls) = callIn ws z (lineOf (lettersOf z) (countsOf z) l) ++ callsIn (repliedTo ws z l .words) (repliedTo ws z l .script) ls
 
 abbrev pub lentOf : (words : List ℕ) → Script → Lent
 lentOf ws z = record { words = ws; lists = z .lists }

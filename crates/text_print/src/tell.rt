@@ -8,10 +8,11 @@ ghost use Rattle.model.specs.Base.{over};
 ghost use Rattle.model.specs.Entry.{storeOf};
 ghost use Rattle.bank.specs.Bank.{Stored};
 ghost use Rattle.list.specs.Put.{putAt};
-ghost use Rattle.text.specs.Bytes.{space, digitAt, decimal, replyRoom, questionRoom};
-ghost use Rattle.text.specs.Lines.{unreadText, refusedText, proposeText, acceptedText, questionText, askText, seenText};
+ghost use Rattle.text.specs.Bytes.{space, digitAt, decimal, refusedWord, replyRoom, questionRoom};
+ghost use Rattle.text.specs.Lines.{numbered, unreadText, refusedText, placeText, agreedText, proposeText, acceptedText, questionText, askText, seenText};
 ghost use Rattle.text_print.specs.Tells.{Tellable};
 use crate::print;
+use model::Judged;
 use model::Row;
 use model::Seen;
 use model::limits::MOST_LISTED;
@@ -73,17 +74,51 @@ fn tell_accepted(out: &mut [u8]) -> usize
     list::put_bytes(out, 0, &line)
 }
 
+// The word for a refusal and its number, at the beginning.
+fn put_refused(number: u8, out: &mut [u8]) -> usize
+    requires { ⌜ replyRoom ≤ length (now out) ⌝ }
+    ensures { λ r. ⌜ (r ≡ length (numbered refusedWord number)) × (r ≤ length refusedWord + 6) ⌝ }
+    ensures out { λ r. ⌜ now (out .exit) ≡ putAt 0 (numbered refusedWord number) (now (out .entry)) ⌝ }
+{
+    let word = [b'r', b'e', b'f', b'u', b's', b'e', b'd'];
+    let at = list::put_bytes(out, 0, &word);
+    put_number(number as u16, out, at)
+}
+
 // A refusal, with its number.
 fn tell_refused(number: u8, out: &mut [u8]) -> usize
     requires { ⌜ replyRoom ≤ length (now out) ⌝ }
     ensures { λ r. ⌜ r ≡ length (refusedText number) ⌝ }
     ensures out { λ r. ⌜ now (out .exit) ≡ over (refusedText number) (now (out .entry)) ⌝ }
 {
-    let word = [b'r', b'e', b'f', b'u', b's', b'e', b'd'];
-    let at = list::put_bytes(out, 0, &word);
-    let end = put_number(number as u16, out, at);
+    let end = put_refused(number, out);
     out[end] = b'\n';
     end + 1
+}
+
+// A refusal by 32, with the place of the symbol that found no rule.
+fn tell_place(place: u16, out: &mut [u8]) -> usize
+    requires { ⌜ replyRoom ≤ length (now out) ⌝ }
+    ensures { λ r. ⌜ r ≡ length (placeText place) ⌝ }
+    ensures out { λ r. ⌜ now (out .exit) ≡ over (placeText place) (now (out .entry)) ⌝ }
+{
+    let at = put_refused(32, out);
+    let end = put_number(place, out, at);
+    out[end] = b'\n';
+    end + 1
+}
+
+// An offer that got 32: the place of the symbol that found no rule, if the verdict has one.
+pub fn tell_agreed(judged: Judged, out: &mut [u8]) -> usize
+    requires { ⌜ replyRoom ≤ length (now out) ⌝ }
+    ensures { λ r. ⌜ r ≡ length (agreedText judged) ⌝ }
+    ensures out { λ r. ⌜ now (out .exit) ≡ over (agreedText judged) (now (out .entry)) ⌝ }
+{
+    let outcome = judged.outcome;
+    if outcome == 3 {
+        return tell_place(judged.place, out);
+    }
+    tell_refused(32, out)
 }
 
 // A proposal, with its counts of states, rules and contexts.

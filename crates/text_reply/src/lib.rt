@@ -4,15 +4,17 @@ ghost use mathlib.Core.Path.{_≡_};
 ghost use Prim.Native.Nat.{_≤_, min};
 ghost use lib.ListN.{length, drop};
 ghost use Rattle.model.specs.Limits.{mostSymbols};
+ghost use Rattle.model.specs.Entry.{judgeSeen};
 ghost use Rattle.text.specs.Bytes.{mostInput, replyRoom};
 ghost use Rattle.text.specs.Reading.{readText};
 ghost use Rattle.text.specs.Alphabet.{alphabetOf};
-ghost use Rattle.text.specs.Lines.{lineOf, offering, unreadText};
-ghost use Rattle.text.specs.Script.{reply as replyWith, script as scriptOf, told as toldOf, freshScript, lettersOf, countsOf, opened as openedOf, heard, replyTo};
+ghost use Rattle.text.specs.Lines.{lineOf, offering, unreadText, agreedText};
+ghost use Rattle.text.specs.Script.{reply as replyWith, script as scriptOf, told as toldOf, offerTold, freshScript, lettersOf, countsOf, opened as openedOf, heard, replyTo};
 ghost use Rattle.text_read.specs.Reads.{TextAs};
 ghost use Rattle.text_print.specs.Tells.{Tellable};
 ghost use Rattle.text_reply.specs.Replies.{ReplyAs};
 use call::Done;
+use model::Lists;
 use model::Seen;
 use model::limits::MOST_SYMBOLS;
 use run_lists::change;
@@ -104,6 +106,42 @@ fn made(words: &[u32], script: Script, done: Done, out: &mut [u8]) -> Replied
     told(words, after, done.seen, out)
 }
 
+// An offer that got 32: the verdict on its record is asked, and its place told. It leaves these lists and the words.
+fn agreed(words: &[u32], script: Script, lists: Lists, symbols: &[u8], out: &mut [u8]) -> Replied
+    requires { ⌜ replyRoom ≤ length (now out) ⌝ }
+    ensures { λ r.
+        let after = scriptOf (script .stage) (script .letters) lists in
+        let text = agreedText (judgeSeen (now (words .entry)) lists (now (symbols .entry))) in
+        ⌜ ReplyAs (replyWith text (now (words .entry)) after) r (now (words .entry)) (now (out .entry)) (now (out .exit)) ⌝ }
+{
+    let judged = call_read::verdict(words, lists, symbols);
+    let size = tell::tell_agreed(judged, out);
+    let mut after = script;
+    after.lists = lists;
+    Replied {
+        size: size,
+        script: after,
+    }
+}
+
+// An offer that was made: told as any call, but where it got 32 with the verdict on its record.
+fn offered(words: &[u32], script: Script, done: Done, symbols: &[u8], out: &mut [u8]) -> Replied
+    requires { let after = scriptOf (script .stage) (script .letters) (done .lists) in
+        ⌜ Tellable (now words) (countsOf after) (done .lists .used) (done .seen)
+        × (replyRoom ≤ length (now out)) ⌝ }
+    ensures { λ r.
+        let after = scriptOf (script .stage) (script .letters) (done .lists) in
+        let reply = offerTold (now (words .entry)) after (now (symbols .entry)) (done .seen) in
+        ⌜ ReplyAs reply r (now (words .entry)) (now (out .entry)) (now (out .exit)) ⌝ }
+{
+    let seen = done.seen;
+    let number = seen.number;
+    if number == 32 {
+        return agreed(words, script, done.lists, symbols, out);
+    }
+    made(words, script, done, out)
+}
+
 // The first line: unread or refused, it ends the script.
 fn first(words: &mut [u32], script: Script, line: &[u8], out: &mut [u8]) -> Replied
     requires { ⌜ replyRoom ≤ length (now out) ⌝ }
@@ -164,8 +202,8 @@ fn offer(words: &mut [u32], script: Script, line: &[u8], mark: u8, out: &mut [u8
     if size == 0 {
         return unread(words, script, out);
     }
-    let offered = call_room::offer(words, script.lists, &text[..size], mark);
-    made(words, script, offered, out)
+    let done = call_room::offer(words, script.lists, &text[..size], mark);
+    offered(words, script, done, &text[..size], out)
 }
 
 // A later line.

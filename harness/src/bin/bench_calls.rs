@@ -1,5 +1,5 @@
-//! Times of whole learning runs, of single calls on full tables, of emitting, loading and the calls about a list, library and
-//! oracle in turn.
+//! Times of whole learning runs, of single calls on full tables, of verdicts, emitting, loading and the calls about a list,
+//! library and oracle in turn.
 //! docs/BENCHMARKS.md says what the lines mean.
 
 use harness::calls::{call, oracle_call};
@@ -12,7 +12,7 @@ use harness::teaching::started;
 use oracle::limits::ROWS_MAX;
 use oracle::testing::big;
 use oracle::testing::compare::{Call, Tables};
-use oracle::{Lists, Seen, View};
+use oracle::{Lists, Seen, View, ACCEPTS};
 use std::fmt::Debug;
 use std::time::{Duration, Instant};
 
@@ -196,6 +196,33 @@ fn same_line<T: PartialEq + Debug>(
     line(name, least.0, least.1);
 }
 
+/// One line of a verdict on a record that is accepted, so that every symbol of it finds a rule.
+fn verdict_line(name: &str, Tables { words, lists }: &Tables, symbols: &[u8]) {
+    assert_eq!(oracle::verdict(words, lists, symbols).outcome, ACCEPTS);
+    same_line(
+        name,
+        || kuldveth::verdict(words, lists, symbols),
+        || oracle::verdict(words, lists, symbols),
+    );
+}
+
+fn verdict_lines() {
+    let longest = [chain(0, 1, 1_023), vec![8]].concat();
+    let proposing = big::proposing(66);
+    verdict_line(
+        "verdict of 1,024 symbols on 32, 256, 67",
+        &proposing,
+        &longest,
+    );
+    let mut worked = started(&[1, 0], 5);
+    let Tables { words, lists } = &mut worked;
+    for _ in 0..2 {
+        oracle::offer(words, lists, &[1, 0], 1);
+        oracle::answer(words, lists, 0);
+    }
+    verdict_line("verdict of 2 symbols on 2, 2, 2", &worked, &[1, 0]);
+}
+
 fn list_lines() {
     let Tables { words, lists } = big::proposing(66);
     let (mut found, mut expected) = (vec![0; 4_096], vec![0; 4_096]);
@@ -239,6 +266,7 @@ fn main() {
         runs_line(states, ROWS_MAX);
     }
     call_lines();
+    verdict_lines();
     collided_lines();
     list_lines();
 }

@@ -82,6 +82,7 @@ pub fn added(aim: Aim, room: usize, random: &mut Random, met: &mut Met) -> Table
         if tables.lists.asked != 0 {
             break;
         }
+        met.verdicts(&tables);
         allow_from(used, &tables, &mut nodes);
     }
     tables
@@ -104,6 +105,7 @@ pub fn lent(tables: Tables, rows: usize, rounds: &[(Aim, usize)], met: &mut Met)
         }
         for call in [1, 0, 0, 1].map(Call::Answer) {
             met.call(&mut tables, &call);
+            met.verdicts(&tables);
         }
     }
 }

@@ -1,11 +1,13 @@
 //! One call by both, and what the calls of a case met.
 
+use super::shrink::smaller_call;
 use crate::bytes::{of_emitted, raw_emitted};
 use crate::calls::{guarded, oracle_call};
 use crate::kuldveth;
 use oracle::testing::compare::{Call, Tables};
+use oracle::testing::shrink::smallest;
+use oracle::testing::verdicts::beside_offer;
 use oracle::{Emitted, Seen, ACCEPTED, ASKING};
-use std::time::{Duration, Instant};
 
 /// What the oracle makes of a call on copies of the tables.
 fn expected(tables: &Tables, call: &Call) -> (Seen, Tables) {
@@ -38,56 +40,16 @@ pub fn both(tables: &mut Tables, call: &Call) -> Seen {
     seen
 }
 
-/// How long a smaller input is looked for. A call on a full table takes milliseconds, and there are thousands of rows to
-/// take away.
-const SHRINKING: Duration = Duration::from_secs(10);
-
 /// Panics with the smallest input found on which both differ.
-fn report(mut tables: Tables, mut call: Call) -> ! {
-    let begin = Instant::now();
-    let differs =
-        |(tables, call): &(Tables, Call)| begin.elapsed() < SHRINKING && differ(tables, call);
-    while let Some(found) = smaller(&tables, &call).into_iter().find(differs) {
-        (tables, call) = found;
-    }
+fn report(tables: Tables, call: Call) -> ! {
+    let differ = |(tables, call): &(Tables, Call)| differ(tables, call);
+    let (tables, call) = smallest((tables, call), smaller_call, differ);
     let found = guarded(&tables, &call);
     let (seen, left) = (found.seen, found.tables());
     let (expected, right) = expected(&tables, &call);
     panic!(
         "{call:?} over\n{tables:?}\nlibrary: {seen:?}\n{left:?}\noracle: {expected:?}\n{right:?}"
     );
-}
-
-/// Inputs with one part less.
-fn smaller(tables: &Tables, call: &Call) -> Vec<(Tables, Call)> {
-    let mut found = Vec::new();
-    let mut with = |change: &dyn Fn(&mut Tables)| {
-        let mut smaller = tables.clone();
-        change(&mut smaller);
-        if smaller != *tables {
-            found.push((smaller, call.clone()));
-        }
-    };
-    with(&|it| it.words.truncate(it.lists.used as usize * 6));
-    with(&|it| {
-        let rows = (it.words.len() / 6 + it.lists.used as usize) / 2;
-        it.words.truncate(rows * 6);
-    });
-    with(&|it| it.words.truncate(it.words.len().saturating_sub(6)));
-    with(&|it| it.lists.used = it.lists.used.saturating_sub(1));
-    with(&|it| it.lists.contexts = it.lists.contexts.saturating_sub(1));
-    with(&|it| it.lists.rules = it.lists.rules.saturating_sub(1));
-    with(&|it| it.lists.states = it.lists.states.saturating_sub(1));
-    with(&|it| it.lists.hand = 0);
-    with(&|it| it.lists.asked = 0);
-    if let Call::Offer(symbols, mark) = call {
-        for place in 0..symbols.len().min(40) {
-            let mut fewer = symbols.clone();
-            fewer.remove(place);
-            found.push((tables.clone(), Call::Offer(fewer, *mark)));
-        }
-    }
-    found
 }
 
 /// Room for the longest list.
@@ -134,6 +96,9 @@ pub struct Met {
     pub numbers: [usize; 256],
     /// The numbers of emitting and loading, which are not among those.
     pub listed: [usize; 256],
+    /// Those of verdicts, and how often each outcome was told.
+    pub judged: [usize; 256],
+    pub outcomes: [usize; 4],
     pub asking: usize,
     pub in_hand: usize,
     pub accepted: usize,
@@ -149,6 +114,8 @@ impl Default for Met {
         Met {
             numbers: [0; 256],
             listed: [0; 256],
+            judged: [0; 256],
+            outcomes: [0; 4],
             asking: 0,
             in_hand: 0,
             accepted: 0,
@@ -160,10 +127,14 @@ impl Default for Met {
 }
 
 impl Met {
-    /// Makes the call by both and counts what came of it.
+    /// Makes the call by both and counts what came of it. An offer fits the verdict on its record.
     pub fn call(&mut self, tables: &mut Tables, call: &Call) -> Seen {
         let hand = tables.lists.hand;
+        let foretold = self.foretold(tables, call);
         let seen = both(tables, call);
+        if let Some((judged, mark)) = foretold {
+            beside_offer(&tables.lists, judged, mark, seen.number);
+        }
         self.numbers[seen.number as usize] += 1;
         if seen.number == 0 {
             self.asking += usize::from(seen.phase == ASKING);
@@ -193,7 +164,8 @@ impl Met {
 
     /// Calls made.
     pub fn calls(&self) -> usize {
-        self.numbers.iter().chain(&self.listed).sum()
+        let numbers = [&self.numbers, &self.listed, &self.judged];
+        numbers.into_iter().flatten().sum()
     }
 
     /// Makes the call on a copy.
@@ -207,10 +179,14 @@ impl Met {
         assert_eq!(seen.number, number, "{call:?} on\n{tables:?}");
     }
 
-    /// A taken call returns what a look right after it does (3.1).
+    /// A taken call returns what a look right after it does (3.1). Both are asked for verdicts on what it left.
     pub fn look_again(&mut self, tables: &Tables, seen: Seen) {
         if seen.number == 0 {
             assert_eq!(self.try_call(tables, &Call::Look), seen);
+            // While asking every verdict gets 31, and one table in eight is enough.
+            if seen.phase != ASKING || tables.lists.used.is_multiple_of(8) {
+                self.verdicts(tables);
+            }
         }
     }
 
@@ -231,11 +207,12 @@ impl Met {
 
 impl std::fmt::Display for Met {
     fn fmt(&self, out: &mut std::fmt::Formatter) -> std::fmt::Result {
-        for numbers in [&self.numbers, &self.listed] {
+        for numbers in [&self.numbers, &self.listed, &self.judged] {
             let numbers = numbers.iter().enumerate().filter(|(_, &met)| met > 0);
             write!(out, "{:?} ", numbers.collect::<Vec<_>>())?;
         }
         let Met {
+            outcomes,
             asking,
             in_hand,
             accepted,
@@ -246,7 +223,7 @@ impl std::fmt::Display for Met {
         } = self;
         write!(
             out,
-            "asking {asking} in hand {in_hand} accepted {accepted} "
+            "outcomes {outcomes:?} asking {asking} in hand {in_hand} accepted {accepted} "
         )?;
         write!(out, "moved {moved} overfull {overfull} most {most:?}")
     }

@@ -1,6 +1,6 @@
 //! Sound tables with one field damaged, every field in turn, and every call on them.
 
-use super::compare::{Met, LIST_MAX};
+use super::compare::Met;
 use crate::strange::Strange;
 use crate::teacher::Taught;
 use oracle::limits::ROW_WORDS;
@@ -41,7 +41,7 @@ impl Damaged<'_> {
                 self.met.try_call(&self.tables, call);
             }
         }
-        self.met.emit(&self.tables, LIST_MAX);
+        self.met.emit_and_judge(&self.tables);
     }
 
     /// Makes the calls with one field set to each of some values, and puts it back.

@@ -1,6 +1,6 @@
 //! Tables from elsewhere, sound or nearly so: every call on them, and a run that goes on from them.
 
-use super::compare::{Met, LIST_MAX};
+use super::compare::Met;
 use super::refusals::try_all;
 use crate::strange::{shuffled, Strange};
 use crate::teacher::Taught;
@@ -37,7 +37,7 @@ pub fn every_call(tables: &Tables, random: &mut Random, met: &mut Met) {
             met.overfull += 1;
         }
     }
-    met.emit(tables, LIST_MAX);
+    met.emit_and_judge(tables);
 }
 
 /// Goes on for so many calls, answers by the target most of the time.

@@ -1,6 +1,6 @@
 //! Emitting and loading: every proposal of a run written by both, with too little room, just enough and more; read again.
 
-use super::compare::{Met, LIST_MAX};
+use super::compare::Met;
 use crate::targets;
 use crate::teaching::truthful;
 use oracle::limits::ROW_WORDS;
@@ -10,7 +10,7 @@ use oracle::Lists;
 
 /// Emits with each room that matters, and reads the list again.
 pub fn try_rooms(tables: &Tables, met: &mut Met) {
-    let (emitted, bytes) = met.emit(tables, LIST_MAX);
+    let (emitted, bytes) = met.emit_and_judge(tables);
     if emitted.number != 0 {
         met.emit(tables, 0);
         return;

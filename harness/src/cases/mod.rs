@@ -8,10 +8,13 @@ pub mod deep;
 pub mod elsewhere;
 pub mod emitted;
 pub mod fresh;
+pub mod judging;
 pub mod lists;
 pub mod refusals;
 pub mod rubbish;
 pub mod shortages;
+pub mod shrink;
+pub mod verdict;
 pub mod view;
 
 use compare::Met;
@@ -23,7 +26,7 @@ use std::thread;
 type Kind = fn(&mut Random, &mut Met);
 
 /// The kinds of random cases, one after the other by case number.
-const KINDS: [(&str, Kind); 18] = [
+const KINDS: [(&str, Kind); 19] = [
     ("truthful teacher", fresh::truthful_teacher),
     ("contradictory teacher", fresh::contradictory_teacher),
     ("random teacher", fresh::random_teacher),
@@ -61,9 +64,12 @@ const KINDS: [(&str, Kind); 18] = [
     ("marks against what was said", |random, met| {
         (0..20).for_each(|_| {
             random_run(random, 80, &mut Marks::default(), |tables, call| {
-                met.call(tables, call)
+                judging::call_and_judge(tables, call, met)
             });
         });
+    }),
+    ("verdicts over trees", |random, met| {
+        (0..20).for_each(|_| judging::over_trees(random, met));
     }),
 ];
 

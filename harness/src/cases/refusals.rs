@@ -32,7 +32,12 @@ pub fn try_all(tables: &Tables, random: &mut Random, met: &mut Met) {
     }
     match (tables.lists.asked, tables.lists.accepted) {
         (0, 0) => proposing(tables, random, met),
-        (0, _) => closed(tables, met, &[offer(&[], 7), Call::Answer(2), Call::Accept]),
+        (0, _) => {
+            closed(tables, met, &[offer(&[], 7), Call::Answer(2), Call::Accept]);
+            for (symbols, number) in faults(tables, random) {
+                met.verdict_refused(tables, &symbols, number);
+            }
+        }
         _ => {
             closed(tables, met, &[offer(&[], 7), Call::Accept]);
             let mark = *random.pick(&[2, 3, 128, 255]);
@@ -71,22 +76,31 @@ fn unsound(tables: &Tables, random: &mut Random, met: &mut Met) {
     }
 }
 
-fn proposing(tables: &Tables, random: &mut Random, met: &mut Met) {
-    let letters = tables.lists.letters;
-    let counts = &tables.lists.counts[..letters as usize];
-    closed(tables, met, &[Call::Answer(0), Call::Answer(9)]);
-    met.refused(tables, &offer(&[], 9), 11);
-    let long = random.pick(&[1_025, 1_026, 5_000]);
-    met.refused(tables, &offer(&vec![letters; *long], 9), 12);
-    met.refused(tables, &offer(&[letters], 9), 13);
+/// Listed records with a fault, and its number: 11, 12, 13 or 14, 15.
+fn faults(tables: &Tables, random: &mut Random) -> Vec<(Vec<u8>, u8)> {
+    let (letters, counts) = (tables.lists.letters, tables.lists.alphabet());
+    let long = *random.pick(&[1_025, 1_026, 5_000]);
+    let mut found = vec![(vec![], 11), (vec![letters; long], 12), (vec![letters], 13)];
     if let Some(inner) = counts.iter().position(|&count| count > 0) {
-        met.refused(tables, &offer(&[inner as u8, letters], 9), 14);
+        found.push((vec![inner as u8, letters], 14));
     }
     if let Some(leaf) = counts.iter().position(|&count| count == 0) {
         let leaf = leaf as u8;
-        met.refused(tables, &offer(&[leaf, 255], 9), 13);
-        met.refused(tables, &offer(&[leaf, leaf], 9), 15);
-        met.refused(tables, &offer(&vec![leaf; 1_024], 9), 15);
+        found.push((vec![leaf, 255], 13));
+        found.push((vec![leaf, leaf], 15));
+        found.push((vec![leaf; 1_024], 15));
+    }
+    found
+}
+
+fn proposing(tables: &Tables, random: &mut Random, met: &mut Met) {
+    closed(tables, met, &[Call::Answer(0), Call::Answer(9)]);
+    for (symbols, number) in faults(tables, random) {
+        met.refused(tables, &offer(&symbols, 9), number);
+    }
+    let counts = tables.lists.alphabet();
+    if let Some(leaf) = counts.iter().position(|&count| count == 0) {
+        let leaf = leaf as u8;
         met.refused(tables, &offer(&[leaf], 2), 16);
         let verdict = proposal(tables).accepts(&[leaf]) as u8;
         let number = match answer_of(tables, leaf) {

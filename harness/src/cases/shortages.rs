@@ -27,12 +27,13 @@ fn calls(target: &Target, mut teacher: impl FnMut(&Tables) -> Call) -> (Vec<Call
     (made, tables)
 }
 
-/// The other calls that the phase allows, and some that it does not.
+/// The other calls that the phase allows, and some that it does not; verdicts.
 pub fn others(tables: &Tables, met: &mut Met) {
     let calls = [Call::Answer(0), Call::Answer(1), Call::Answer(2)];
     calls.iter().for_each(|call| _ = met.try_call(tables, call));
     met.try_call(tables, &Call::Accept);
     met.try_call(tables, &Call::Look);
+    met.verdicts(tables);
 }
 
 /// The run with every count of rows up to what it needs: it stops with 34 and no other number.

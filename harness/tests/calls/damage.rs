@@ -21,6 +21,7 @@ fn fresh_tables() {
     assert_eq!(left, [0; 4]);
     met.at_least(2_000, [0, 30, 31]);
     met.at_least(200, [32, 33, 34]);
+    met.judged_at_least(2_000, [30, 31]);
 }
 
 #[test]
@@ -44,6 +45,7 @@ fn runs() {
         damaged_run(random, &mut met);
     });
     met.at_least(300, [0, 18, 30, 31]);
+    met.judged_at_least(20, [13, 14, 15, 18, 30, 31]);
 }
 
 /// On a stack of 4 MB: the deepest fills take more than a test has by itself.
@@ -67,4 +69,5 @@ fn damaged_full_tables() {
         several_fields(tables, 1, random, &mut met);
     });
     met.at_least(20, [0, 30]);
+    met.judged_at_least(1, [18, 30, 31]);
 }

@@ -6,13 +6,14 @@ use oracle::limits::ROW_WORDS;
 use oracle::testing::big;
 use oracle::testing::compare::{Call, Tables};
 
-/// Makes calls one after the other on tables, in a thread of its own.
+/// Makes calls one after the other on tables, in a thread of its own, and asks for verdicts on what they leave.
 fn on_a_small_stack(mut tables: Tables, calls: Vec<Call>) -> (Tables, Vec<u8>) {
     let run = move || {
         let mut met = Met::default();
         let calls = calls.iter();
         let numbers = calls.map(|call| met.call(&mut tables, call).number);
         let numbers = numbers.collect();
+        met.verdicts(&tables);
         (tables, numbers)
     };
     cases::on_a_small_stack(run).unwrap()

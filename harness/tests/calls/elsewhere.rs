@@ -11,6 +11,7 @@ fn changed_trees() {
         elsewhere::changed_trees(random, &mut met);
     });
     met.at_least(300, [30, 31, 32, 33, 34]);
+    met.judged_at_least(300, (11..=15).chain([18, 30, 31]));
     assert!(met.moved > 2_000 && met.overfull > 100, "{met}");
 }
 

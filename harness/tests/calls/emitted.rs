@@ -13,6 +13,7 @@ fn every_proposal_of_random_runs() {
         emitted::random_run(random, &mut met);
     });
     met.listed_at_least(1_000, [0, 20, 31]);
+    met.judged_at_least(100, [31]);
 }
 
 #[test]

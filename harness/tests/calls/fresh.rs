@@ -12,6 +12,7 @@ fn truthful_teachers() {
     });
     assert!(met.accepted > 1_000 && met.in_hand > 100, "{met}");
     met.at_least(20, (11..=18).chain(30..=33));
+    met.judged_at_least(500, (11..=15).chain([18, 30, 31]));
 }
 
 /// Automata of up to 32 states over all rows there may be, to their acceptance.
@@ -30,6 +31,7 @@ fn contradictory_teachers() {
         fresh::contradictory_teacher(random, &mut met);
     });
     met.at_least(50, (11..=18).chain(30..=34));
+    met.judged_at_least(500, (11..=15).chain([18, 30, 31]));
     assert!(met.in_hand > 1_000 && met.moved > 500, "{met}");
 }
 
@@ -40,4 +42,5 @@ fn random_teachers() {
         fresh::random_teacher(random, &mut met);
     });
     met.at_least(50, [0, 11, 13, 14, 15, 16, 31, 32, 33]);
+    met.judged_at_least(50, (11..=15).chain([31]));
 }

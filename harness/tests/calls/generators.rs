@@ -2,8 +2,10 @@
 //! symbol at all, one record, no row left.
 
 use harness::aimed::Aim;
+use harness::asked;
 use harness::cases::colliding;
 use harness::cases::compare::Met;
+use harness::cases::rubbish;
 use harness::colliding::{ALL, FEW};
 use harness::crowded::Crowded;
 use harness::difference::difference;
@@ -131,6 +133,25 @@ fn tables_and_listed_records() {
         assert!(counts.contains(&0) || symbols.is_empty());
         let strange = strange(counts, rows, 301, case);
         assert!(strange.records.len() <= rows);
+    });
+}
+
+/// Records to ask a verdict on: from sound tables that allow few or none, from rubbish, and the same from the same tables.
+#[test]
+fn records_to_judge() {
+    each_case(266, 0..2_400, |case, random| {
+        let counts = ALPHABETS[case as usize % ALPHABETS.len()];
+        let tables = strange(counts, random.within(0, 9), 30, case).tables;
+        let draw = &mut asked::random_of(&tables);
+        let symbols = asked::any(&tables, draw);
+        let again = asked::any(&tables, &mut asked::random_of(&tables));
+        assert!(symbols.len() <= 3_000 && symbols == again);
+        let stored = asked::stored_or_over(&tables, draw);
+        assert!(counts.contains(&0) || stored.is_none());
+        for sort in [rubbish::random_tables, rubbish::small_numbers] {
+            let symbols = asked::any(&sort(random), draw);
+            assert!(symbols.len() <= 3_000);
+        }
     });
 }
 

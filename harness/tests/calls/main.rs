@@ -12,6 +12,7 @@ mod generators;
 mod shortages;
 mod sizes;
 mod stored;
+mod verdict;
 mod view;
 mod watch;
 mod worked;

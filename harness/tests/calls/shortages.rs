@@ -23,6 +23,7 @@ fn random_runs() {
         random_run(random, &mut met);
     });
     met.at_least(5_000, [34]);
+    met.judged_at_least(50, (11..=15).chain([31]));
 }
 
 /// A chain of 1,023 links and its answers, with rows that end around every call.

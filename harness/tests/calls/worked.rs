@@ -3,7 +3,8 @@
 use harness::cases::compare::Met;
 use oracle::limits::ROW_WORDS;
 use oracle::testing::compare::{Call, Tables};
-use oracle::{Lists, Seen, ACCEPTED, ASKING, PROPOSING};
+use oracle::{Judged, Lists, Seen, ACCEPTED, ASKING, PROPOSING};
+use oracle::{ACCEPTS, NOT_FINAL, NO_RULE};
 
 /// Tables before a start, full of rubbish.
 fn lent(rows: usize) -> Tables {
@@ -101,6 +102,34 @@ fn refusals() {
     let third = after(3, 9);
     met.refused(&third, &offer(&[1], 1), 33);
     met.refused(&third, &offer(&[1, 0], 0), 33);
+}
+
+/// The verdicts on `p`, `o[p]` and `o[o[o[p]]]` after each line, as number, outcome and place.
+#[test]
+fn verdicts() {
+    let asking = [(31, 0, 0); 3];
+    let last = [(0, NOT_FINAL, 0), (0, ACCEPTS, 0), (0, NO_RULE, 2)];
+    let due = [
+        [(0, NO_RULE, 0); 3],
+        asking,
+        [(0, NOT_FINAL, 0), (0, NO_RULE, 1), (0, NO_RULE, 1)],
+        asking,
+        last,
+        last,
+    ];
+    let mut met = Met::default();
+    let records: [&[u8]; 3] = [&[1], &[1, 0], &[1, 0, 0, 0]];
+    for (line, due) in due.into_iter().enumerate() {
+        let tables = after(line + 1, 9);
+        for (record, (number, outcome, place)) in records.into_iter().zip(due) {
+            let due = Judged {
+                number,
+                outcome,
+                place,
+            };
+            assert_eq!(met.verdict(&tables, record), due, "{record:?}, {line}");
+        }
+    }
 }
 
 /// Offers of p under so many o's, and what comes of them.

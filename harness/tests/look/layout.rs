@@ -5,6 +5,7 @@ use harness::kuldveth;
 use oracle::limits::{
     CONTEXTS_MAX, RECORD_MAX, ROWS_MAX, ROW_WORDS, RULES_MAX, STATES_MAX, SYMBOLS_MAX,
 };
+use oracle::{ACCEPTS, NOT_FINAL, NO_RULE};
 
 /// Each limit under its name in the model and in the oracle, and its number there.
 const LIMITS: [(&str, &str, usize); 7] = [
@@ -16,6 +17,9 @@ const LIMITS: [(&str, &str, usize); 7] = [
     ("MOST_CONTEXTS", "CONTEXTS_MAX", CONTEXTS_MAX),
     ("MOST_LISTED", "RECORD_MAX", RECORD_MAX),
 ];
+
+/// The structs that calls of a run lend and return.
+const RUNS: [&str; 4] = ["Lists", "Seen", "Emitted", "Judged"];
 
 const MODEL: &str = include_str!("../../../crates/model/src/lib.rt");
 const MODEL_LIMITS: &str = include_str!("../../../crates/model/src/limits.rt");
@@ -74,8 +78,7 @@ fn bytes_of(kind: &str) -> usize {
 #[test]
 fn fields_are_those_of_the_model() {
     let lent = include_str!("../../../oracle/src/lent.rs");
-    let names = ["Lists", "Seen", "Emitted", "ListSizes", "Found", "ListRule"];
-    for name in names {
+    for name in RUNS.into_iter().chain(["ListSizes", "Found", "ListRule"]) {
         let oracle: Vec<String> = fields(lent, name).into_iter().map(in_the_model).collect();
         assert_eq!(fields(MODEL, name), oracle);
         assert!(MODEL.contains(&format!("#[repr(C)]\npub struct {name}")));
@@ -92,7 +95,7 @@ fn limits_are_those_of_the_model() {
 
 #[test]
 fn fields_are_those_of_the_header() {
-    for name in ["Lists", "Seen", "Emitted"] {
+    for name in RUNS {
         let start = HEADER.find(&format!("struct kuldveth_{} {{", name.to_lowercase()));
         let body = &HEADER[start.unwrap()..];
         let lines = body[..body.find("\n};").unwrap()].lines().skip(1);
@@ -104,7 +107,7 @@ fn fields_are_those_of_the_header() {
 #[test]
 fn fields_are_those_of_the_host() {
     let host = HOST.replace("pub(crate) struct", "pub struct");
-    for name in ["Lists", "Seen", "Emitted"] {
+    for name in RUNS {
         let line = |it: &(String, String, usize)| format!("pub {}: {},", it.0, it.1);
         let model: Vec<String> = model_fields(name).iter().map(line).collect();
         assert_eq!(fields(&host, name), model);
@@ -118,6 +121,7 @@ fn bytes_are_those_of_the_specification() {
         ("2.2", "Lists", 1_232),
         ("3.3", "Seen", 10),
         ("3.7", "Emitted", 8),
+        ("3.8", "Judged", 4),
     ];
     for (section, name, size) in sections {
         let start = SPECIFICATION.find(&format!("\n### {section} ")).unwrap() + 1;
@@ -134,6 +138,18 @@ fn bytes_are_those_of_the_specification() {
         }
         assert_eq!((at, rows.next()), (size, None), "{name}");
     }
+}
+
+/// The header has the oracle's numbers for the outcomes of a verdict, and SPECIFICATION tells them in that order.
+#[test]
+fn outcomes_are_those_of_the_header() {
+    let names = format!(
+        "\nenum {{ KULDVETH_ACCEPTS = {ACCEPTS}, KULDVETH_NOT_FINAL = {NOT_FINAL}, KULDVETH_NO_RULE = {NO_RULE} }};\n"
+    );
+    let words = format!(
+        "| {ACCEPTS} accepted, {NOT_FINAL} not final, {NO_RULE} no rule; 0 beside a refusal |"
+    );
+    assert!(HEADER.contains(&names) && SPECIFICATION.contains(&words));
 }
 
 #[test]

@@ -1,7 +1,7 @@
 //! One script by both programs, and what its lines got.
 
 use harness::program;
-use std::collections::BTreeMap;
+use std::collections::{BTreeMap, BTreeSet};
 use std::time::{Duration, Instant};
 
 /// Runs a script by both; what both wrote. Panics with the smallest script found on which they differ.
@@ -42,22 +42,26 @@ fn report(input: &[u8]) -> ! {
     );
 }
 
-/// How often each sort of reply came.
+/// How often each sort of reply came, and the places that were told.
 #[derive(Default)]
 pub struct Met {
     replies: BTreeMap<String, usize>,
+    places: BTreeSet<usize>,
 }
 
 impl Met {
-    /// Runs a script by both and counts its replies: refusals by number, the others by their word.
+    /// Runs a script by both and counts its replies: refusals by number, with or without a place, the others by their word.
     pub fn script(&mut self, input: &[u8]) {
         for reply in both(input).lines() {
-            let mut words = reply.split(' ');
-            let word = words.next().unwrap_or("").to_string();
-            let sort = match (word.as_str(), words.next()) {
-                ("refused", Some(number)) => format!("refused {number}"),
-                ("ask", Some("row")) => "ask row".to_string(),
-                _ => word,
+            let words: Vec<&str> = reply.split(' ').collect();
+            let sort = match words[..] {
+                ["refused", number, place] => {
+                    self.places.insert(place.parse().expect("a place"));
+                    format!("refused {number} K")
+                }
+                ["refused", number] => format!("refused {number}"),
+                ["ask", "row", _] => "ask row".to_string(),
+                _ => words[0].to_string(),
             };
             *self.replies.entry(sort).or_default() += 1;
         }
@@ -69,7 +73,12 @@ impl Met {
         let shown: Vec<String> = sorts
             .map(|(sort, times)| format!("{sort}: {times}"))
             .collect();
-        println!("{name}: {}", shown.join(", "));
+        println!("{name}: {}; places {:?}", shown.join(", "), self.places);
+    }
+
+    /// Panics if fewer different places were told.
+    pub fn places_at_least(&self, places: usize) {
+        assert!(self.places.len() >= places, "{:?}", self.places);
     }
 
     /// Panics if one of these came fewer times, or if a reply came that no script can get.
@@ -82,5 +91,7 @@ impl Met {
             let sort = format!("refused {number}");
             assert!(!self.replies.contains_key(&sort), "{:?}", self.replies);
         }
+        let placed = self.replies.keys().filter(|sort| sort.ends_with(" K"));
+        placed.for_each(|sort| assert_eq!(sort, "refused 32 K"));
     }
 }

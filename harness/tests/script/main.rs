@@ -4,6 +4,7 @@ mod compare;
 mod deep;
 mod first;
 mod pieces;
+mod places;
 mod random;
 mod survey;
 mod talk;

@@ -16,7 +16,8 @@ fn any_lines() {
         10,
         &["refused 12", "refused 17", "refused 31", "refused 32"],
     );
-    met.at_least(10, &["refused 33"]);
+    met.at_least(10, &["refused 33", "refused 32 K"]);
+    met.places_at_least(10);
 }
 
 #[test]
@@ -25,7 +26,8 @@ fn led_runs() {
     each_case(302, 0..1_000, |_, random| met.script(&scripts::led(random)));
     met.show("runs that a teacher leads");
     met.at_least(100, &["propose", "ask", "accepted", "unread"]);
-    met.at_least(100, &["refused 31"]);
+    met.at_least(100, &["refused 31", "refused 32", "refused 32 K"]);
+    met.places_at_least(20);
 }
 
 #[test]

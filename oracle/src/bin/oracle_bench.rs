@@ -33,6 +33,15 @@ fn call_time(name: &str, tables: &Tables, call: Call) {
     println!("call    {name:<42} {time:>12.2?}   {seen:?}");
 }
 
+/// The time of a verdict on a record.
+fn verdict_time(name: &str, tables: &Tables, symbols: &[u8]) {
+    let judged = oracle::verdict(&tables.words, &tables.lists, symbols);
+    let time = least_time(|| {
+        std::hint::black_box(oracle::verdict(&tables.words, &tables.lists, symbols));
+    });
+    println!("verdict {name:<42} {time:>12.2?}   {judged:?}");
+}
+
 fn main() {
     let full = big::full(8_000, 0);
     look_time("full: 32 states, 256 rules, 288 contexts", &full);
@@ -43,6 +52,7 @@ fn main() {
     let mut long = vec![0u8];
     long.resize(1_022, 1);
     long.extend([8, 8]);
+    verdict_time("proposing: on 1,024 symbols", &proposing, &long);
     call_time(
         "proposing: offer of 1,024 symbols",
         &proposing,

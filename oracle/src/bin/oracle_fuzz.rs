@@ -4,6 +4,7 @@
 use oracle::testing::cases::{self, Met};
 use oracle::testing::checked;
 use oracle::testing::random::Random;
+use oracle::testing::verdicts;
 use oracle::testing::watch::watch;
 
 fn run(seed: u64, case: u64, met: &mut Met) {
@@ -14,6 +15,7 @@ fn run(seed: u64, case: u64, met: &mut Met) {
         2 => cases::fresh_case(random, met),
         3 => cases::damaged_case(random, met),
         4 => cases::rubbish_case(random, met),
+        5 => verdicts::long_case(random, &mut met.verdicts),
         _ => cases::elsewhere_case(random, met),
     }
 }

@@ -1,11 +1,12 @@
 //! One random case of each kind, from a seed: the tests run fixed counts of them, the
 //! fuzz program as many as it is asked for.
 
-use super::compare::{agree, fast, Call, Tables};
+use super::compare::{agree, fast, judge, Call, Tables};
 use super::damage::{damage, unfolds_small};
 use super::elsewhere::Loose;
 use super::random::Random;
 use super::target::Target;
+use super::verdicts::{any_list, Verdicts};
 use crate::lent::{Lists, ASKING, PROPOSING};
 use crate::limits::ROW_WORDS;
 
@@ -23,6 +24,7 @@ pub struct Met {
     pub moved: usize,
     /// Taken calls that left more contexts than T4 allows.
     pub overfull: usize,
+    pub verdicts: Verdicts,
 }
 
 impl Met {
@@ -36,6 +38,7 @@ impl Met {
         self.shortages += other.shortages;
         self.moved += other.moved;
         self.overfull += other.overfull;
+        self.verdicts.add(&other.verdicts);
     }
 
     fn count(&mut self, tables: &mut Tables) -> bool {
@@ -61,6 +64,12 @@ impl Met {
         }
         self.shortages += usize::from(matches!(seen.number, 34..=36));
         seen.number
+    }
+
+    /// The verdict on some list of symbols.
+    fn judge(&mut self, tables: &Tables, counts: &[u8], random: &mut Random) {
+        let judged = judge(tables, &any_list(counts, random));
+        self.verdicts.count(judged);
     }
 }
 
@@ -114,6 +123,7 @@ fn fresh(target: &Target, random: &mut Random, most: usize, met: &mut Met) -> Ta
         if !unfolds_small(&tables) {
             break;
         }
+        met.judge(&tables, target.counts(), random);
         let call = next_call(&tables, target, random);
         assert_ne!(met.agree(&mut tables, call), 30, "a fresh run is sound");
     }
@@ -136,6 +146,7 @@ fn go_on(mut tables: Tables, target: &Target, random: &mut Random, met: &mut Met
             return;
         }
         let sound = met.count(&mut tables);
+        met.judge(&tables, target.counts(), random);
         let trial = [
             Call::Accept,
             Call::Emit(200),
@@ -228,6 +239,7 @@ pub fn damaged_case(random: &mut Random, met: &mut Met) {
         for call in calls {
             met.agree(&mut damaged.clone(), call);
         }
+        met.judge(&damaged, target.counts(), random);
         if sound && damaged.lists.alphabet() == target.counts() {
             go_on(damaged, &target, random, met);
         }
@@ -261,5 +273,6 @@ pub fn rubbish_case(random: &mut Random, met: &mut Met) {
         ] {
             met.agree(&mut tables.clone(), call);
         }
+        met.judge(&tables, &[0, 1, 2], random);
     }
 }

@@ -6,8 +6,9 @@ use super::random::Random;
 use super::reading::proposal;
 use super::refusals;
 use super::target::{smallest_difference, Target};
-use crate::calls::{accept, answer, look, offer, start};
-use crate::lent::{Lists, Row, Seen, ACCEPTED, ASKING, PROPOSING};
+use super::verdicts::{as_listed, beside_offer};
+use crate::calls::{accept, answer, look, offer, start, verdict};
+use crate::lent::{Lists, Row, Seen, ACCEPTED, ACCEPTS, ASKING, PROPOSING};
 use crate::limits::{ROWS_MAX, ROW_WORDS};
 use std::collections::HashSet;
 
@@ -45,7 +46,9 @@ impl<'a> Checked<'a> {
     /// Offers a record; the claims are checked if it is taken.
     pub fn offer(&mut self, symbols: &[u8], mark: u8) -> Seen {
         let before = (self.words.clone(), self.lists.clone());
+        let judged = verdict(&self.words, &self.lists, symbols);
         let seen = offer(&mut self.words, &mut self.lists, symbols, mark);
+        beside_offer(&before.1, judged, mark, seen.number);
         if seen.number == 0 {
             self.taken += 1;
             let offered = self.stored(symbols).expect("a taken offer is stored");
@@ -274,8 +277,10 @@ fn learn_within(target: &Target, large: bool, rows: usize, random: &mut Random) 
         };
         let tried = (0..if large { 20 } else { 0 })
             .map(|_| Target::random_record(target.counts(), random, 60));
-        let mut differing =
-            tried.filter(|record| target.accepts(record) != proposed.accepts(record));
+        let mut differing = tried.filter(|record| {
+            let judged = as_listed(&run.words, &run.lists, &proposed, record);
+            target.accepts(record) != (judged.outcome == ACCEPTS)
+        });
         let record = differing.next().unwrap_or(smallest);
         let mark = target.accepts(&record) as u8;
         // The opposite mark is the verdict; 33 comes first, where the record was spoken of.

@@ -1,11 +1,12 @@
 //! The fast learner against the naive one: every returned value, word, list and byte.
 
 use super::naive;
+use super::shrink::{smaller, smallest};
+use super::verdicts::beside_offer;
 use crate::calls;
-use crate::lent::{Emitted, Lists, Seen};
+use crate::lent::{Emitted, Judged, Lists, Seen};
 use crate::limits::ROW_WORDS;
 use std::fmt;
-use std::time::{Duration, Instant};
 
 /// Lent tables.
 #[derive(Clone, PartialEq, Eq)]
@@ -145,67 +146,68 @@ pub fn slow(tables: &Tables, call: &Call) -> Outcome {
     }
 }
 
-fn differ(tables: &Tables, call: &Call) -> bool {
-    fast(tables, call) != slow(tables, call)
-}
-
 /// Makes the call with both learners and leaves the tables as it left them. Panics with
-/// the smallest input found if they differ in anything.
+/// the smallest input found if they differ in anything. The verdict on an offered record is
+/// the same by both as well, and fits what the offer gets.
 pub fn agree(tables: &mut Tables, call: &Call) -> Seen {
     let outcome = fast(tables, call);
     if outcome != slow(tables, call) {
-        let (tables, call) = smallest(tables.clone(), call.clone());
+        let differ = |(tables, call): &(Tables, Call)| fast(tables, call) != slow(tables, call);
+        let (tables, call) = smallest((tables.clone(), call.clone()), smaller_calls, differ);
         panic!(
             "the learners differ on {call:?} over\n{tables:?}\nfast: {:?}\nnaive: {:?}",
             fast(&tables, &call),
             slow(&tables, &call)
         );
     }
+    if let Call::Offer(symbols, mark) = call {
+        let judged = judge(tables, symbols);
+        beside_offer(&tables.lists, judged, *mark, outcome.seen.number);
+    }
     *tables = outcome.tables;
     outcome.seen
 }
 
-/// How long a smaller input is looked for.
-const SHRINKING: Duration = Duration::from_secs(10);
-
-/// Takes parts away as long as the learners still differ and there is time.
-fn smallest(mut tables: Tables, mut call: Call) -> (Tables, Call) {
-    let begin = Instant::now();
-    let differs =
-        |(tables, call): &(Tables, Call)| begin.elapsed() < SHRINKING && differ(tables, call);
-    while let Some(found) = smaller_inputs(&tables, &call).into_iter().find(differs) {
-        (tables, call) = found;
-    }
-    (tables, call)
+/// A call with one part less, of the tables or of an offered record.
+fn smaller_calls((tables, call): &(Tables, Call)) -> Vec<(Tables, Call)> {
+    let symbols = match call {
+        Call::Offer(symbols, _) => &symbols[..],
+        _ => &[],
+    };
+    let with = |symbols: Vec<u8>| match call {
+        Call::Offer(_, mark) => Call::Offer(symbols, *mark),
+        other => other.clone(),
+    };
+    let parts = smaller(tables, symbols).into_iter();
+    parts
+        .map(|(tables, symbols)| (tables, with(symbols)))
+        .collect()
 }
 
-/// Inputs with one part less.
-fn smaller_inputs(tables: &Tables, call: &Call) -> Vec<(Tables, Call)> {
-    let mut found = Vec::new();
-    let mut with = |change: &dyn Fn(&mut Tables)| {
-        let mut smaller = tables.clone();
-        change(&mut smaller);
-        if smaller != *tables {
-            found.push((smaller, call.clone()));
-        }
-    };
-    with(&|it| it.words.truncate(it.lists.used as usize * ROW_WORDS));
-    with(&|it| it.lists.used = it.lists.used.saturating_sub(1));
-    with(&|it| it.lists.contexts = it.lists.contexts.saturating_sub(1));
-    with(&|it| it.lists.rules = it.lists.rules.saturating_sub(1));
-    with(&|it| it.lists.states = it.lists.states.saturating_sub(1));
-    with(&|it| it.lists.letters = it.lists.letters.saturating_sub(1));
-    with(&|it| it.lists.hand = 0);
-    with(&|it| it.lists.asked = 0);
-    for row in 1..tables.words.len() / ROW_WORDS {
-        with(&|it| it.words[row * ROW_WORDS + 1] = 0);
+/// The verdict on a record by both, the fast learner first.
+fn verdicts(tables: &Tables, symbols: &[u8]) -> (Judged, Judged) {
+    let Tables { words, lists } = tables;
+    (
+        calls::verdict(words, lists, symbols),
+        naive::verdict(words, lists, symbols),
+    )
+}
+
+/// The verdict on a listed record, of the right form or not, by both learners. Panics with
+/// the smallest input found if they differ.
+pub fn judge(tables: &Tables, symbols: &[u8]) -> Judged {
+    let (judged, naive) = verdicts(tables, symbols);
+    if judged != naive {
+        let (tables, symbols) = smallest(
+            (tables.clone(), symbols.to_vec()),
+            |(tables, symbols)| smaller(tables, symbols),
+            |(tables, symbols)| {
+                let (fast, naive) = verdicts(tables, symbols);
+                fast != naive
+            },
+        );
+        let both = verdicts(&tables, &symbols);
+        panic!("the verdicts on {symbols:?} differ: {both:?} over\n{tables:?}");
     }
-    if let Call::Offer(symbols, mark) = call {
-        for place in 0..symbols.len() {
-            let mut fewer = symbols.clone();
-            fewer.remove(place);
-            found.push((tables.clone(), Call::Offer(fewer, *mark)));
-        }
-    }
-    found
+    judged
 }

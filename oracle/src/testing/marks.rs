@@ -4,6 +4,7 @@ use super::compare::{Call, Tables};
 use super::random::Random;
 use super::reading::{proposal, symbols};
 use super::target::{smallest_difference, Target};
+use super::verdicts::{as_listed, beside_offer, Verdicts};
 use crate::lent::{Lists, Seen};
 use crate::limits::ROW_WORDS;
 use std::collections::HashMap;
@@ -19,6 +20,8 @@ pub struct Marks {
     pub agreed: usize,
     /// Neither.
     pub others: usize,
+    /// The verdicts on the records that got 32.
+    pub verdicts: Verdicts,
 }
 
 /// A run, and what its taken calls said of records, which are known by their symbols.
@@ -48,10 +51,13 @@ impl<Make: FnMut(&mut Tables, &Call) -> Seen> Run<Make> {
     }
 
     /// Offers a record to a copy of the tables. It gets 33 exactly if the opposite was said of it. If 32 came first, the number
-    /// would be the same, or 32 in place of 33.
+    /// would be the same, or 32 in place of 33. The verdict asked for alone is the one that the offer is tested against.
     fn check(&mut self, proposed: &Target, record: &[u8], mark: u8, marks: &mut Marks) {
         let call = Call::Offer(record.to_vec(), mark);
         let now = (self.make)(&mut self.tables.clone(), &call).number;
+        let Tables { words, lists } = &self.tables;
+        let judged = as_listed(words, lists, proposed, record);
+        beside_offer(lists, judged, mark, now);
         let opposite = self.said.get(record) == Some(&(1 - mark));
         let same = proposed.accepts(record) == (mark == 1);
         assert_eq!(now == 33, opposite, "{call:?} on\n{:?}", self.tables);
@@ -63,7 +69,10 @@ impl<Make: FnMut(&mut Tables, &Call) -> Seen> Run<Make> {
         match (before, now) {
             (32, 33) => marks.changed += 1,
             (33, 33) => marks.contradicted += 1,
-            (32, 32) => marks.agreed += 1,
+            (32, 32) => {
+                marks.agreed += 1;
+                marks.verdicts.count(judged);
+            }
             _ => {
                 assert_eq!(before, now, "{call:?} on\n{:?}", self.tables);
                 assert_ne!(now, 32, "{call:?} on\n{:?}", self.tables);

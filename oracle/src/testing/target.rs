@@ -56,7 +56,7 @@ impl Target {
         self.rules.get(&(symbol, children?)).copied()
     }
 
-    fn state(&self, symbol: u8, children: &[Option<u8>]) -> Option<u8> {
+    pub fn state(&self, symbol: u8, children: &[Option<u8>]) -> Option<u8> {
         let rule = self.rule(symbol, children)?;
         Some(self.automaton.rules[rule].target)
     }
@@ -65,16 +65,23 @@ impl Target {
         state.is_some_and(|state| self.automaton.finals[state as usize])
     }
 
-    /// Whether a record, children before parent, is in the language.
-    pub fn accepts(&self, symbols: &[u8]) -> bool {
+    /// The state at each symbol of a record, children before parent.
+    pub fn place_states(&self, symbols: &[u8]) -> Vec<Option<u8>> {
         let mut states: Vec<Option<u8>> = Vec::new();
-        for &symbol in symbols {
+        let at = |&symbol: &u8| {
             let rest = states.len() - self.counts()[symbol as usize] as usize;
             let state = self.state(symbol, &states[rest..]);
             states.truncate(rest);
             states.push(state);
-        }
-        self.is_final(states[0])
+            state
+        };
+        symbols.iter().map(at).collect()
+    }
+
+    /// Whether a record, children before parent, is in the language.
+    pub fn accepts(&self, symbols: &[u8]) -> bool {
+        let states = self.place_states(symbols);
+        self.is_final(states[symbols.len() - 1])
     }
 
     /// The state of every used row, with a state of the reader's choice at the hole.
@@ -143,7 +150,7 @@ impl Target {
 }
 
 /// The last tree of a forest written children before parent.
-fn last_tree(symbols: &[u8], counts: &[u8]) -> Vec<u8> {
+pub fn last_tree(symbols: &[u8], counts: &[u8]) -> Vec<u8> {
     let mut wanted = 1;
     let mut first = symbols.len();
     while wanted > 0 {

@@ -6,7 +6,7 @@ use oracle::testing::compare::{fast, Call, Tables};
 use oracle::testing::damage::damage;
 use oracle::testing::random::Random;
 use oracle::testing::watch::each_case;
-use oracle::Lists;
+use oracle::{verdict, Judged, Lists};
 
 fn calls() -> [Call; 7] {
     [
@@ -20,8 +20,16 @@ fn calls() -> [Call; 7] {
     ]
 }
 
-/// Makes every call; a refused one leaves the tables as they were.
+/// Makes every call; a refused one leaves the tables as they were, and tells no verdict.
 fn survive(tables: &Tables) {
+    for symbols in [&[][..], &[0], &[1, 0], &[0, 1]] {
+        let judged = verdict(&tables.words, &tables.lists, symbols);
+        let told = Judged {
+            number: judged.number,
+            ..Judged::default()
+        };
+        assert_eq!(judged == told, judged.number != 0, "{symbols:?}");
+    }
     for call in calls() {
         let outcome = fast(tables, &call);
         if outcome.seen.number != 0 || outcome.emitted.number != 0 {

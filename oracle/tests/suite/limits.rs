@@ -8,7 +8,7 @@ use oracle::testing::watch::each_case;
 use oracle::{Automaton, Rule, Seen};
 
 /// The language of the one chain with so many links, which has one state more.
-fn one_chain(links: u8) -> Target {
+pub fn one_chain(links: u8) -> Target {
     let mut rules: Vec<(u8, Vec<u8>, u8)> = vec![(1, vec![], 0)];
     rules.extend((0..links).map(|state| (0, vec![state], state + 1)));
     let borrowed: Vec<(u8, &[u8], u8)> = rules

@@ -10,3 +10,4 @@ mod naive;
 mod run;
 mod script;
 mod survey;
+mod verdict;

@@ -20,6 +20,9 @@ fn cases(seed: u64, count: u64, case: fn(&mut Random, &mut Met)) -> Met {
 fn fresh_runs() {
     let met = cases(21, 6_000, fresh_case);
     assert!(met.unsound == 0 && met.calls > 40_000 && met.shortages > 500);
+    let verdicts = met.verdicts;
+    assert!(verdicts.accepted > 2_000 && verdicts.not_final > 2_000);
+    assert!(verdicts.first > 2_000 && verdicts.later > 2_000 && verdicts.refused > 2_000);
 }
 
 #[test]
@@ -28,6 +31,9 @@ fn tables_from_elsewhere() {
     assert!(met.unsound > 500 && met.proposing > 2_000 && met.asking > 5_000);
     assert!(met.in_hand > 3_000 && met.moved > 4_000 && met.accepted > 100);
     assert!(met.overfull > 100 && met.shortages > 500);
+    let verdicts = met.verdicts;
+    assert!(verdicts.accepted > 2_000 && verdicts.not_final > 2_000);
+    assert!(verdicts.first > 2_000 && verdicts.later > 2_000 && verdicts.refused > 2_000);
 }
 
 #[test]
@@ -63,6 +69,9 @@ fn marks_in_runs() {
     println!("{marks:?}");
     assert!(marks.changed > 3_000 && marks.contradicted > 30_000);
     assert!(marks.agreed > 30_000 && marks.others > 5_000);
+    let verdicts = marks.verdicts;
+    assert!(verdicts.accepted > 2_000 && verdicts.not_final > 2_000);
+    assert!(verdicts.first > 2_000 && verdicts.later > 2_000 && verdicts.refused == 0);
 }
 
 #[test]

@@ -2,7 +2,8 @@
 //! Symbol 0 is `o` with one child, symbol 1 is `p` without.
 
 use oracle::limits::ROW_WORDS;
-use oracle::{accept, answer, automaton, emit, load, look, offer, start, Emitted, Lists, Seen};
+use oracle::{accept, answer, automaton, emit, load, look, offer, start};
+use oracle::{Emitted, Judged, Lists, Seen};
 
 const O: u8 = 0;
 const P: u8 = 1;
@@ -277,4 +278,9 @@ fn layout() {
     );
     assert_eq!(offset_of!(Emitted, size), 4);
     assert_eq!((size_of::<Seen>(), size_of::<Emitted>()), (10, 8));
+    assert_eq!(
+        (offset_of!(Judged, outcome), offset_of!(Judged, place)),
+        (1, 2)
+    );
+    assert_eq!(size_of::<Judged>(), 4);
 }

@@ -88,7 +88,7 @@ fn read_lines() {
 #[test]
 fn refusals() {
     let told = |lines: &str| last(format!("o 1 p 0\n{lines}").as_bytes());
-    assert_eq!(told("- o[p]"), "refused 32");
+    assert_eq!(told("- o[p]"), "refused 32 0");
     assert_eq!(told("y"), "refused 31");
     assert_eq!(told("n"), "refused 31");
     assert_eq!(told("+ o[p]\nok"), "refused 31");
@@ -96,6 +96,24 @@ fn refusals() {
     assert_eq!(told("+ o[p]\nn\n+ p"), "refused 33");
     assert_eq!(told("+ o[p]\nn\n- o[p]"), "refused 33");
     assert_eq!(told("ok"), "accepted");
+}
+
+/// A place is told where a record is refused because a symbol found no rule.
+#[test]
+fn places() {
+    let told = |lines: &str| last(format!("o 1 p 0\n{lines}").as_bytes());
+    assert_eq!(told("- p"), "refused 32 0");
+    assert_eq!(told("+ o[p]\nn\n- p"), "refused 32", "not final");
+    assert_eq!(told("+ o[p]\nn\n- o[o[p]]"), "refused 32 1");
+    let learnt = "+ o[p]\nn\n+ o[p]\nn\n";
+    assert_eq!(told(&format!("{learnt}- o[o[o[p]]]")), "refused 32 2");
+    assert_eq!(told(&format!("{learnt}+ o[p]")), "refused 32", "accepted");
+    assert_eq!(told(&format!("{learnt}- o[p]")), "refused 33");
+    assert_eq!(told(&format!("{learnt}ok\n- o[o[p]]")), "refused 31");
+    let fan = "+ p\n+ b[p,p]\n- ";
+    let told = |lines: String| last(format!("b 2 p 0 q 0\n{lines}").as_bytes());
+    assert_eq!(told(format!("{fan}b[b[p,p],b[q,p]]")), "refused 32 3");
+    assert_eq!(told(format!("{fan}b[b[p,q],b[q,p]]")), "refused 32 1");
 }
 
 /// One output line for each input line, whatever the lines are.
@@ -117,6 +135,13 @@ fn random_lines() {
         assert!(told.lines().all(known), "{input:?} gave {told:?}");
         for number in [11, 13, 14, 15, 16, 18, 30] {
             assert!(!told.contains(&format!("refused {number}")), "{input:?}");
+        }
+        for (line, reply) in input.lines().zip(told.lines()) {
+            if let Some(place) = reply.strip_prefix("refused 32 ") {
+                let symbols = line.chars().filter(char::is_ascii_alphabetic).count();
+                let place: usize = place.parse().expect("a number");
+                assert!(line.starts_with("- ") && place < symbols, "{input:?}");
+            }
         }
     });
 }

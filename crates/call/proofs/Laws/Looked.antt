@@ -1,7 +1,6 @@
 -- Looking, line by line: 18, 30, then what looking tells; and what it tells of lists within their arrays.
--- Each line that does not apply leaves the rest to decide; the counts are the lengths of S, T and C. Looking at the used rows is looking at all.
-use mathlib.Core.Path.{_≡_, sym, ap}
-use mathlib.Core.Logic.{_≢_}
+-- Each line that does not apply leaves the rest to decide; the counts are the lengths of S, T and C. Looking at the used rows is looking at all, and so is a verdict.
+use mathlib.Core.Path.{_≡_, refl, sym, ap}
 use mathlib.Core.Bool.{Bool, true, false, not, cond}
 use mathlib.Core.List.{List}
 use Prim.Native.Nat.{ℕ, _*_, _≤_}
@@ -11,11 +10,11 @@ use lib.ListN.{length, take}
 use lib.Seq.{length-take-le}
 use Rattle.model.specs.Limits.{rowWidth}
 use Rattle.model.specs.Sound.{isSound}
-use Rattle.model.specs.Calls.{Outcome, refuses, leaves, numberOf, looks, look, phaseOf}
-use Rattle.model.specs.Entry.{sizeFits, listsFit, tablesOf, seenOf, seenBy, refused, callBy, callSeen}
+use Rattle.model.specs.Calls.{Outcome, refuses, leaves, looks, look, phaseOf}
+use Rattle.model.specs.Entry.{sizeFits, listsFit, tablesOf, seenOf, seenBy, refused, callSeen, judgeSeen}
 use Rattle.model.specs.declared.Lists.{Lists}
 use Rattle.model.specs.declared.Seen.{Seen}
-use Rattle.model.proofs.Laws.LentPart.{part-fits, seen-part}
+use Rattle.model.proofs.Laws.LentPart.{part-fits, reads-fit, seen-part, judged-part}
 
 module _ (ws : List ℕ) (l : Lists) where
   abbrev told : (fits within sound : Bool) → Outcome
@@ -34,16 +33,6 @@ module _ (ws : List ℕ) (l : Lists) where
 
       pub looked : isSound (tablesOf ws l) ≡ true → seenOf (look (tablesOf ws l)) ≡ callSeen ws l looks
       looked e = sym (λ i. seenBy (told (s i) (f i) (e i)))
-
-  -- looking adds no row, so the rows lent are enough
-  told-number : (a b c : Bool) → numberOf (told a b c) ≢ 34
-  told-number true true true e = absurd (omega arith)
-  told-number true true false e = absurd (omega arith)
-  told-number true false c e = absurd (omega arith)
-  told-number false b c e = absurd (omega arith)
-
-  not-short : numberOf (callBy ws l looks) ≢ 34
-  not-short = told-number (sizeFits ws) (listsFit l) (isSound (tablesOf ws l))
 
   -- the phase
   pub phase-accepted : l .accepted ≡ 1 → 2 ≡ phaseOf (tablesOf ws l)
@@ -70,4 +59,7 @@ module _ (ws : List ℕ) (l : Lists) (s : sizeFits ws ≡ true) (f : listsFit l 
   used-fit = part-fits ws l (l .used) s f some within (omega arith)
 
   pub used-looked : callSeen (take (rowWidth * l .used) ws) l looks ≡ callSeen ws l looks
-  used-looked = sym (seen-part ws l (l .used) s f some within (omega arith) looks (not-short (take (rowWidth * l .used) ws) l))
+  used-looked = sym (seen-part ws l (l .used) s f some within (omega arith) looks (reads-fit (take (rowWidth * l .used) ws) l looks refl))
+
+  pub used-judged : (xs : List ℕ) → judgeSeen (take (rowWidth * l .used) ws) l xs ≡ judgeSeen ws l xs
+  used-judged xs = sym (judged-part ws l (l .used) s f some within (omega arith) xs)

@@ -11,7 +11,7 @@ use lib.ListN.{getD, drop, length-drop}
 use Rattle.model.specs.Store.{Store, used, countOf, padded, findRow}
 use Rattle.model.specs.Base.{top}
 use Rattle.model.specs.Terms.{orElse, unless, recordFault, knownFrom, knownRow}
-use Rattle.model.specs.Automata.{acceptsList}
+use Rattle.model.specs.Automata.{verdictOn, isYes}
 use Rattle.model.specs.Table.{Tables, answerAt, automatonOf}
 use Rattle.model.specs.Calls.{markFits, contradicts, verdictIs, offerFault}
 use Rattle.model.specs.Facts.{Parses}
@@ -22,11 +22,6 @@ use Rattle.model.proofs.Laws.Tests.{by-equal}
 use Rattle.bank.specs.Bank.{Bank}
 use Rattle.bank.proofs.Laws.Words.{used-of}
 use Rattle.run_lists.specs.Members.{countsIn}
-use Rattle.table_verdict.specs.Rules.{RepsIn, acceptsListBy}
-use Rattle.bank.proofs.Laws.Children.{few-rows}
-use Rattle.table_verdict.proofs.Laws.States.{reps-ruled}
-use Rattle.table_verdict.proofs.Laws.Verdict.{accepts-list-is}
-use Rattle.sound.specs.Proposal.{Proposal}
 use Rattle.call_faults.specs.Lines.{Tested}
 
 -- THE LINES
@@ -76,20 +71,13 @@ module _ (ws : List ℕ) (l : Lists) (xs : List ℕ) (m : ℕ) where
     pub line-last : contradicts v m ≡ false → (b : Bool) → b ≡ verdictIs (tablesOf ws l) xs m → unless (not b) 32 ≡ offerFault (tablesOf ws l) xs m
     line-last e b p = sym (fitting ∙ λ i. orElse (unless (not (e i)) 33) (unless (not (sym p i)) 32))
 
--- THE VERDICT against the mark
-mark-is : (b : Bool) (m : ℕ) → m ≤ 1 → Bool·beq b (eqb m 1) ≡ true → eqb (cond b 1 0) m ≡ true
-mark-is true zero h e = absurd (true≢false (sym e))
-mark-is false zero h e = refl
-mark-is true (suc zero) h e = refl
-mark-is false (suc zero) h e = absurd (true≢false (sym e))
-mark-is b (suc (suc m)) h e = absurd (omega arith)
-
-mark-other : (b : Bool) (m : ℕ) → m ≤ 1 → Bool·beq b (eqb m 1) ≡ false → eqb (cond b 1 0) m ≡ false
-mark-other true zero h e = refl
-mark-other false zero h e = absurd (true≢false e)
-mark-other true (suc zero) h e = absurd (true≢false e)
-mark-other false (suc zero) h e = refl
-mark-other b (suc (suc m)) h e = absurd (omega arith)
+-- THE VERDICT against the mark, as truth values and as numbers
+mark-is : (b : Bool) (m : ℕ) → m ≤ 1 → Bool·beq b (eqb m 1) ≡ eqb (cond b 1 0) m
+mark-is true zero h = refl
+mark-is false zero h = refl
+mark-is true (suc zero) h = refl
+mark-is false (suc zero) h = refl
+mark-is b (suc (suc m)) h = absurd (omega arith)
 
 -- THE ROW OF A LISTED RECORD is a used one or row 0
 find-within : (x : Store) → 1 ≤ used x → (a : ℕ) (ks : List ℕ) → findRow x a ks < used x
@@ -113,32 +101,6 @@ known-within x s (a ∷ xs) is h =
 pub known-row-within : (ws ns : List ℕ) (n : ℕ) {ix : List ℕ} → Bank ws ns n ix → (xs : List ℕ) → knownRow (storeOf ws ns n) xs < n
 known-row-within ws ns n r xs = omega (arith, known-within (storeOf ws ns n) (r .good .start) xs [] (r .good .start), used-of ws ns n)
 
--- THE PROPOSAL: its representatives can be read, and its verdict is the automaton's
-module _ (ws : List ℕ) (l : Lists) {index reps : List ℕ} (r : Bank ws (countsIn l) (l .used) index) (d : Proposal ws l reps) where
-  pub offer-reps : RepsIn (l .used) reps
-  offer-reps = reps-ruled r (d .ruled)
-
-  abbrev guess : Bool → ℕ → Bool
-  guess b m = eqb (cond b 1 0) m
-
-  module _ (xs : List ℕ) (m : ℕ) (y : Bool) (h : m ≤ 1) (q : Parses (countsIn l) 0 xs)
-      (p : y ≡ acceptsListBy (storeOf ws (countsIn l) (l .used)) (answersIn (l .used) ws) reps xs) where
-    verdict-of : y ≡ acceptsList (automatonOf (tablesOf ws l)) xs
-    verdict-of =
-        p ∙ accepts-list-is (r .good) (d .ruled) (few-rows r) (answersIn (l .used) ws) xs q ∙ ap (λ A. acceptsList A xs) (d .is)
-
-    verdict-by : verdictIs (tablesOf ws l) xs m ≡ eqb (cond y 1 0) m
-    verdict-by = λ i. guess (sym verdict-of i) m
-
-    verdict-same : Bool·beq y (eqb m 1) ≡ true → verdictIs (tablesOf ws l) xs m ≡ true
-    verdict-same q = verdict-by ∙ mark-is y m h q
-
-    verdict-other : Bool·beq y (eqb m 1) ≡ false → verdictIs (tablesOf ws l) xs m ≡ false
-    verdict-other q = verdict-by ∙ mark-other y m h q
-
-    pub verdict-told : Bool·beq y (eqb m 1) ≡ verdictIs (tablesOf ws l) xs m
-    verdict-told = go (Bool·beq y (eqb m 1)) refl
-      where
-        go : (b : Bool) → Bool·beq y (eqb m 1) ≡ b → b ≡ verdictIs (tablesOf ws l) xs m
-        go true q = sym (verdict-same q)
-        go false q = sym (verdict-other q)
+-- 32 asks whether the verdict is the mark
+pub verdict-told : (x : Tables) (xs : List ℕ) (m : ℕ) (y : Bool) → m ≤ 1 → y ≡ isYes (verdictOn (automatonOf x) xs) → Bool·beq y (eqb m 1) ≡ verdictIs x xs m
+verdict-told x xs m y h p = mark-is y m h ∙ ap (λ (b : Bool). eqb (cond b 1 0) m) p

@@ -37,8 +37,11 @@ returns c =
     refusal (s .args .words .now) (s .args .lists) (s .args .out .now) (n .result)
     (lent-refused (s .args .words .now) (s .args .lists) (emits (length (s .args .out .now))) (n .result) (n .ensures) (c .before .if1 .taken)) (c .refuse .result) (c .refuse .ensures)
 
+slice-aggregate-read : tie.Need-slice-aggregate-read
+slice-aggregate-read c = search needs
+
 read-requires : tie.Need-read-requires
-read-requires c κs = (size-true (c .before), lists-true (c .before))
+read-requires c κs = (size-true (c .before .before), lists-true (c .before .before))
 
 same-length : tie.Need-same-length
 same-length c = search needs
@@ -47,4 +50,4 @@ returns-2 : tie.Need-returns-2
 returns-2 c = search needs
 
 pub emit-spec : {M : Type 1} → statement M
-emit-spec = tie.close (tie.spec lent-fault-requires cast-refuse refuse-requires returns read-requires same-length returns-2)
+emit-spec = tie.close (tie.spec lent-fault-requires cast-refuse refuse-requires returns slice-aggregate-read read-requires same-length returns-2)

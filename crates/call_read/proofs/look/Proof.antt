@@ -32,28 +32,31 @@ returns c =
     let n = c .before .before .lent-fault in
     c .refusal .ensures ∙ sym (ap seenBy (lent-refused (s .args .words .now) (s .args .lists) looks (n .result) (n .ensures) (c .before .if1 .taken)))
 
-look-number-requires : tie.Need-look-number-requires
-look-number-requires c κs = (size-true c, lists-true c)
+slice-aggregate-read-used : tie.Need-slice-aggregate-read-used
+slice-aggregate-read-used c = search needs
+
+read-used-requires : tie.Need-read-used-requires
+read-used-requires c κs = (size-true (c .before), lists-true (c .before))
 
 refusal-requires-2 : tie.Need-refusal-requires-2
 refusal-requires-2 c κs = search needs
 
 returns-2 : tie.Need-returns-2
 returns-2 c =
-    let e : tie.Else1 = c .before .before .before in
+    let n : tie.After-read-used = c .before .before .before .before in
+    let e : tie.Else1 = n .before .before in
     let s = e .before .before .before in
-    let n = c .before .before .look-number in
-    c .refusal2 .ensures ∙ number-other (s .args .words .now) (s .args .lists) (size-true e) (lists-true e) (λ z. c .before .if2 .taken (n .ensures ∙ z))
+    c .refusal2 .ensures ∙ number-other (s .args .words .now) (s .args .lists) (size-true e) (lists-true e) (λ z. c .before .if2 .taken (n .read-used .ensures ∙ z))
 
 told-requires : tie.Need-told-requires
-told-requires c κs = lists-true (c .before .before)
+told-requires c κs = lists-true (c .before .before .before .before .before)
 
 returns-3 : tie.Need-returns-3
 returns-3 c =
-    let e : tie.Else1 = c .before .before .before in
+    let n : tie.After-read-used = c .before .before .before .before in
+    let e : tie.Else1 = n .before .before in
     let s = e .before .before .before in
-    let n = c .before .before .look-number in
-    c .told .ensures (s .args .words .now) ∙ number-none (s .args .words .now) (s .args .lists) (size-true e) (lists-true e) (sym (n .ensures) ∙ c .before .if2 .left)
+    c .told .ensures (s .args .words .now) ∙ number-none (s .args .words .now) (s .args .lists) (size-true e) (lists-true e) (sym (n .read-used .ensures) ∙ c .before .if2 .left)
 
 pub look-spec : {M : Type 1} → statement M
 look-spec =
@@ -62,7 +65,8 @@ look-spec =
     lent-fault-requires
     refusal-requires
     returns
-    look-number-requires
+    slice-aggregate-read-used
+    read-used-requires
     refusal-requires-2
     returns-2
     told-requires

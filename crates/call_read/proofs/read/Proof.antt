@@ -10,7 +10,7 @@ is-small-requires c κs = search needs
 
 read-small-requires : tie.Need-read-small-requires
 read-small-requires c κs =
-    let s = c .before .before .before .before .before in
+    let s = c .before .before .before .before .before .before in
     let k = c .before .before .is-small .ensures (c .before .if1 .taken) in
     let w = sizeFits-facts (s .args .words .now) (s .pre .0) in
     (s .pre .0, s .pre .1, omega (arith, w .whole, k .0), k .1)

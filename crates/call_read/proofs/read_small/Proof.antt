@@ -18,7 +18,7 @@ slice-aggregate-read-in-3 c = search needs
 
 read-in-requires : tie.Need-read-in-requires
 read-in-requires c κs =
-    let s = c .before .before .before .before .before .before in
+    let s = c .before .before .before .before .before .before .before in
     (s .pre .0, s .pre .1, room-for smallRows (s .pre .2) (omega arith) (omega arith) refl (omega (arith, s .pre .3)) refl)
 
 same-length : tie.Need-same-length

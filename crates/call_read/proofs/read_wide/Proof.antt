@@ -19,7 +19,7 @@ slice-aggregate-read-in-3 c = search needs
 
 read-in-requires : tie.Need-read-in-requires
 read-in-requires c κs =
-    let s = c .before .before .before .before .before .before in
+    let s = c .before .before .before .before .before .before .before in
     let f = listsFit-facts (s .args .lists) (s .pre .1) in
     (s .pre .0, s .pre .1, room-for mostRows (words-few (s .args .words .now) (s .pre .0)) (omega arith) (omega arith) refl (omega (arith, f .rules)) refl)
 

@@ -16,7 +16,7 @@ use Rattle.model.specs.Terms.{Tree, treeAt, treeOf}
 use Rattle.model.specs.Automata.{Automaton, isFinal, rowState, accepts}
 use Rattle.model.specs.Table.{Tables, answerAt}
 use Rattle.model.specs.TableFacts.{Core, Agree}
-use Rattle.model.specs.Calls.{Call, offers, answers, accept, looks, emits}
+use Rattle.model.specs.Calls.{Call, offers, answers, accept, looks, emits, judges}
 use Rattle.model.specs.Entry.{startNumber}
 use Rattle.model.specs.Run.{Lent, meant, afterCall, after, startedRun, isTaken, Said, said, saidBy, saidIn, agreesWith}
 use Rattle.model.specs.declared.Lists.{Lists}
@@ -27,7 +27,7 @@ use Rattle.model.proofs.Laws.Verdict.{state-as-tree, state-ext}
 use Rattle.model.proofs.Laws.Settle.{Keeps, answered-used}
 use Rattle.model.proofs.Laws.Step.{Marked, mark-small}
 use Rattle.model.proofs.Laws.Lent.{start-back}
-use Rattle.model.proofs.Laws.Took.{Took, took-offer, took-answer, took-accept, took-look, took-emit}
+use Rattle.model.proofs.Laws.Took.{Took, took-offer, took-answer, took-accept, took-look, took-emit, took-judge}
 use Rattle.model.proofs.Laws.Along.{along}
 use Rattle.model.proofs.Laws.Fresh.{core-of}
 use Rattle.model.proofs.Laws.RunStep.{FreshLent, fresh-sounds, RunStep, still, opens, shows, run-step}
@@ -40,6 +40,7 @@ toldBy x (answers m) = said (treeAt (x .store) (x .asked)) m ∷ []
 toldBy x accept = []
 toldBy x looks = []
 toldBy x (emits r) = []
+toldBy x (judges xs) = []
 
 said-told : {P : Said → Type 0} (l : Lent) (q : Call) → isTaken l q ≡ true → Each P (saidBy l q) → Each P (toldBy (meant l) q)
 said-told {P} l (offers xs m) e g = subst (λ (b : Bool). Each P (cond b (toldBy (meant l) (offers xs m)) [])) e g
@@ -47,6 +48,7 @@ said-told {P} l (answers m) e g = subst (λ (b : Bool). Each P (cond b (toldBy (
 said-told l accept e g = g
 said-told l looks e g = g
 said-told l (emits r) e g = g
+said-told l (judges xs) e g = g
 
 module _ (d : Automaton) where
   abbrev AgreeOn : Tables → Type 0
@@ -105,6 +107,7 @@ module _ (d : Automaton) where
   agree-took x k a (took-accept b c) g = record { bound = a .bound; hole = a .hole; says = a .says }
   agree-took x k a took-look g = a
   agree-took x k a took-emit g = a
+  agree-took x k a took-judge g = a
 
   agree-call : (l : Lent) (k n : ℕ) → FreshLent l k n → (q : Call) → AgreeOn (meant l) → Each (λ (e : Said). agreesWith d e ≡ true) (saidBy l q) → AgreeOn (meant (afterCall l q))
   agree-call l k n f q a g = go (isTaken l q) refl

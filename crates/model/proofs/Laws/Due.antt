@@ -18,7 +18,7 @@ use Rattle.model.specs.TableFacts.{Core, Known, SearchEnd, ends-new}
 use Rattle.model.specs.Sound.{isSound}
 use Rattle.model.specs.Phase.{Sounds}
 use Rattle.model.specs.Steps.{Ended, Search, lost, atNewTransition, grow}
-use Rattle.model.specs.Calls.{Call, offers, answers, accept, looks, emits, refuses, numberOf, faultOf, endOf, doneBy, call}
+use Rattle.model.specs.Calls.{Call, offers, answers, accept, looks, emits, judges, refuses, numberOf, faultOf, endOf, doneBy, call}
 use Rattle.model.specs.Room.{withRoom}
 use Rattle.model.specs.Reached.{Begins, Settles, searchOf}
 use Rattle.model.specs.Due.{StatesShort, TransitionsShort, UsesAll, in-left, at-states, at-transitions, RowsShort}
@@ -197,6 +197,7 @@ needs x (answers m) f d = answer-needs x m
 needs x accept f d = absurd (d refl)
 needs x looks f d = absurd (d refl)
 needs x (emits r) f d = absurd (d refl)
+needs x (judges xs) f d = absurd (d refl)
 
 module _ (x : Tables) (s : Sounds x) (k : Call) (e : isSound x ≡ true) (f : faultOf x k ≡ 0) where
   needs-of : (n : ℕ) → n ≢ 0 → call x k ≡ refuses n → StepNeeds x k

@@ -8,7 +8,7 @@ use lib.Dec.{ltb, leb, eqb}
 use lib.ListN.{length, getD}
 use Rattle.model.specs.Terms.{orElse, unless, lengthFits, symbolsFault, recordFault, knownRow}
 use Rattle.model.specs.Table.{Tables, answerAt}
-use Rattle.model.specs.Calls.{Call, offers, answers, accept, looks, emits, isAsking, isProposing, markFits, contradicts, verdictIs, sheetOf, faultOf}
+use Rattle.model.specs.Calls.{Call, offers, answers, accept, looks, emits, judges, isAsking, isProposing, markFits, contradicts, verdictIs, sheetOf, faultOf}
 use Rattle.model.specs.Listing.{emitted}
 
 cond-small : (b : Bool) (n m l : ℕ) → n ≤ l → m ≤ l → cond b n m ≤ l
@@ -46,3 +46,5 @@ fault-small x accept = unless-small (isProposing x) 31 33 (omega arith)
 fault-small x looks = omega arith
 fault-small x (emits r) =
     or-small (unless (not (isAsking x)) 31) _ 33 (unless-small (not (isAsking x)) 31 33 (omega arith)) (unless-small (leb (length (emitted (sheetOf x))) r) 20 33 (omega arith))
+fault-small x (judges xs) =
+    or-small (unless (not (isAsking x)) 31) _ 33 (unless-small (not (isAsking x)) 31 33 (omega arith)) (let s = record-small (x .store .counts) xs in omega arith)

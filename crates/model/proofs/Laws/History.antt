@@ -14,7 +14,7 @@ use Rattle.model.specs.Terms.{Tree, Within, treeAt, treeOf}
 use Rattle.model.specs.Table.{Tables, answerAt}
 use Rattle.model.specs.Facts.{Good}
 use Rattle.model.specs.TableFacts.{Core, Open}
-use Rattle.model.specs.Calls.{Call, offers, answers, accept, looks, emits, isAsking}
+use Rattle.model.specs.Calls.{Call, offers, answers, accept, looks, emits, judges, isAsking}
 use Rattle.model.specs.Run.{Lent, meant, afterCall, after, isTaken, Said, said, saidBy, saidIn, offeredBy, questionOf, askedBy, heardIn}
 use Rattle.model.specs.Promise.{Holds}
 use Rattle.model.proofs.Laws.Lists.{no-in, in-one, in-left, in-right, in-either}
@@ -27,7 +27,7 @@ use Rattle.model.proofs.Laws.Settle.{Keeps, answered-used}
 use Rattle.model.specs.Phase.{Phase, idle, holding, filling, Nearly, Sounds}
 use Rattle.model.proofs.Laws.Step.{Marked, Left}
 use Rattle.model.proofs.Laws.ReflectLists.{record-of, record-back}
-use Rattle.model.proofs.Laws.Took.{Took, took-offer, took-answer, took-accept, took-look, took-emit}
+use Rattle.model.proofs.Laws.Took.{Took, took-offer, took-answer, took-accept, took-look, took-emit, took-judge}
 use Rattle.model.proofs.Laws.Along.{along}
 use Rattle.model.proofs.Laws.RunStep.{FreshLent, fresh-sounds, RunStep, still, opens, shows, run-step}
 use Rattle.model.proofs.Promises.Calls.{refused-untouched}
@@ -241,6 +241,10 @@ abbrev pub SpokenBy : Lent → Call → Type 0
 SpokenBy l q = Spoken (meant l) (meant (afterCall l q)) (saidBy l q) (offeredBy l q) (askedBy l q)
 
 module _ (l : Lent) where
+  -- a call that reads says nothing
+  quiet-spoken : {v : Tables} → v ≡ meant l → Spoken (meant l) v [] [] []
+  quiet-spoken w = subst (λ (v : Tables). Spoken (meant l) v [] [] []) (sym w) (spoken-none (meant l) (meant l) (keeps-refl (meant l)) refl)
+
   took-spoken : (q : Call) (y : Tables) → isTaken l q ≡ true → meant (afterCall l q) ≡ y → Took (meant l) q y → SpokenBy l q
   took-spoken (offers xs m) y e w (took-offer z i o k t f) =
       subst
@@ -257,11 +261,12 @@ module _ (l : Lent) where
       (spoken-mark (meant l) z y (meant l .asked) m (treeAt (meant l .store) (meant l .asked)) k (ap (λ (s : Store). treeAt s (meant l .asked)) t) f (λ n. refl) [] (λ u j. absurd (no-in j))))
   took-spoken accept y e w (took-accept a r) =
       subst (λ (v : Tables). Spoken (meant l) v [] [] []) (sym w) (spoken-none (meant l) y (record { ext = ext-refl (meant l .store); answers = λ i. refl }) refl)
-  took-spoken looks y e w took-look = subst (λ (v : Tables). Spoken (meant l) v [] [] []) (sym w) (spoken-none (meant l) y (keeps-refl (meant l)) refl)
-  took-spoken (emits r) y e w took-emit = subst (λ (v : Tables). Spoken (meant l) v [] [] []) (sym w) (spoken-none (meant l) y (keeps-refl (meant l)) refl)
+  took-spoken looks y e w took-look = quiet-spoken w
+  took-spoken (emits r) y e w took-emit = quiet-spoken w
+  took-spoken (judges xs) y e w took-judge = quiet-spoken w
 
   untouched : (q : Call) → isTaken l q ≡ false → Spoken (meant l) (meant (afterCall l q)) [] [] []
-  untouched q e = subst (λ (v : Lent). Spoken (meant l) (meant v) [] [] []) (sym (refused-untouched l q e)) (spoken-none (meant l) (meant l) (keeps-refl (meant l)) refl)
+  untouched q e = quiet-spoken (ap meant (refused-untouched l q e))
 
   refused-spoken : (q : Call) → isTaken l q ≡ false → SpokenBy l q
   refused-spoken (offers xs m) e = rw e (untouched (offers xs m) e)
@@ -269,6 +274,7 @@ module _ (l : Lent) where
   refused-spoken accept e = untouched accept e
   refused-spoken looks e = untouched looks e
   refused-spoken (emits r) e = untouched (emits r) e
+  refused-spoken (judges xs) e = untouched (judges xs) e
 
   spoken-by : Sounds (meant l) → (q : Call) → SpokenBy l q
   spoken-by s q = go (isTaken l q) refl

@@ -19,7 +19,7 @@ use Rattle.model.specs.Table.{Tables, tables, answerAt, answersOf}
 use Rattle.model.specs.Sound.{isSound}
 use Rattle.model.specs.Listing.{emitted}
 use Rattle.model.specs.Steps.{Shortage, ofRows, ofStates, ofTransitions, ofTurns, Ended, short, asks, proposes, blanked, Search, lost, atNewTransition, atUnknown, atDifference, search, Sought, noneUnknown, unknown, seek, grow, opened, proposed, settledBy, settled, withContext, putBy, putDown, searched, advance, takenBy, offered, answered}
-use Rattle.model.specs.Calls.{Call, offers, answers, accept, looks, emits, refuses, numberOf, isAsking, isProposing, markFits, contradicts, faultOf, endOf, doneBy, call}
+use Rattle.model.specs.Calls.{Call, offers, answers, accept, looks, emits, judges, refuses, numberOf, isAsking, isProposing, markFits, contradicts, faultOf, endOf, doneBy, call}
 use Rattle.model.specs.Room.{roomed, withRoom, leftWithRoom}
 use Rattle.model.proofs.Laws.Room.{frames-room, known-room, answers-room, search-room, seek-room, automaton-room, sound-room}
 
@@ -155,6 +155,7 @@ module _ (r : ℕ) where
   fault-room x accept = refl
   fault-room x looks = refl
   fault-room x (emits n) = λ i. orElse (unless (not (isAsking x)) 31) (unless (leb (length (emitted (record { automaton = automaton-room r x i }))) n) 20)
+  fault-room x (judges xs) = refl
 
   module _ (x : Tables) (h : x .store .room ≤ r) where
     done-room : (k : Call) → numberOf (doneBy x k) ≢ 34 → doneBy (withRoom r x) k ≡ leftWithRoom r (doneBy x k)
@@ -165,6 +166,7 @@ module _ (r : ℕ) where
     done-room accept d = refl
     done-room looks d = refl
     done-room (emits n) d = refl
+    done-room (judges xs) d = refl
 
     pub call-room : used (x .store) ≤ x .store .room → (k : Call) → numberOf (call x k) ≢ 34 → call (withRoom r x) k ≡ leftWithRoom r (call x k)
     call-room u k d =

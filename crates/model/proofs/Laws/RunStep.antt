@@ -17,7 +17,7 @@ use Rattle.model.specs.Table.{Tables, tables, size}
 use Rattle.model.specs.Sound.{alphabetFits}
 use Rattle.model.specs.Steps.{Ended, asks, proposes, offered, answered, takenBy}
 use Rattle.model.specs.TableFacts.{Tidy, Open}
-use Rattle.model.specs.Calls.{isProposing, Call, offers, answers, accept, looks, emits, isAsking, phaseOf, doneBy, leaves, started}
+use Rattle.model.specs.Calls.{isProposing, Call, offers, answers, accept, looks, emits, judges, isAsking, phaseOf, doneBy, leaves, started}
 use Rattle.model.specs.Entry.{sizeFits, listsFit, rowsLent, startNumber}
 use Rattle.model.specs.Run.{Lent, meant, afterCall, after, startedRun, isTaken, takesOne, taken, isShown, shownBy, growsFrom}
 use Rattle.model.specs.declared.Lists.{Lists}
@@ -236,6 +236,8 @@ module _ (l : Lent) (k n : ℕ) (f : FreshLent l k n) where
       go looks false e = refused-step looks e refl refl
       go (emits r) true e = quiet-run (emits r) (along l sounds (emits r) e) refl refl refl
       go (emits r) false e = refused-step (emits r) e refl refl
+      go (judges xs) true e = quiet-run (judges xs) (along l sounds (judges xs) e) refl refl refl
+      go (judges xs) false e = refused-step (judges xs) e refl refl
 
 -- START
 alphabet-facts : (ns : List ℕ) → alphabetFits ns ≡ true → (length ns ≤ mostSymbols) × ((a : ℕ) → getD ns a 0 ≤ mostChildren)

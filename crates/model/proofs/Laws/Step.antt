@@ -14,7 +14,7 @@ use lib.Seq.{getD-set-same, getD-set-other}
 use Rattle.model.specs.Base.{each-nil}
 use Rattle.model.specs.Store.{Store, used, Extends, Built, full, built}
 use Rattle.model.specs.Terms.{treeAt, treeOf, treeWith, holeTree, evalFrom, storeFrom, knownFrom, knownRow, recordFault, orElse, unless}
-use Rattle.model.specs.Automata.{leads, isFinal, acceptsList, runFrom, isYes, Verdict, gives, stuck}
+use Rattle.model.specs.Automata.{leads, isFinal, acceptsList, runFrom}
 use Rattle.model.specs.Table.{Tables, tables, answerAt, rowOf, rulesOf, automatonOf}
 use Rattle.model.specs.Steps.{Shortage, ofRows, Ended, short, asks, proposes, blanked, settled, searched, search, advance, takenBy, offered, answered}
 use Rattle.model.specs.Facts.{Good, IsRecord, Parses}
@@ -24,7 +24,7 @@ use Rattle.model.proofs.Laws.Tests.{both-true}
 use Rattle.model.proofs.Laws.Fill.{ext-refl, ext-trans}
 use Rattle.model.proofs.Laws.Trees.{recordFault-parses}
 use Rattle.model.proofs.Laws.Listed.{stored}
-use Rattle.model.proofs.Laws.Verdict.{ended, run-state}
+use Rattle.model.proofs.Laws.Verdict.{yes-ended, run-state}
 use Rattle.model.proofs.Laws.Settle.{Keeps, ShortOk, SettledOk, ok-short, ok-asks, ok-proposes, settled-ok, past, blanked-length}
 use Rattle.model.proofs.Laws.Advance.{PutDown, HandOk, hand-short, hand-asks, hand-down}
 use Rattle.model.proofs.Laws.Cases.{not-contradicts}
@@ -86,11 +86,7 @@ verdict-other b (suc (suc m)) l e = absurd (omega arith)
 list-verdict : (x : Tables) (xs : List ℕ) → Parses (x .store .counts) 0 xs →
     acceptsList (automatonOf x) xs ≡ proposedVerdict (x .store) (x .answers) (x .s) (x .t) (x .c) (evalFrom (leads (rulesOf (x .store) (rowOf x) (x .s) (x .t))) none (x .store .counts) xs [])
 list-verdict x xs ps =
-    final (runFrom (automatonOf x) 0 xs []) ∙ ap (isFinal (automatonOf x .finals)) (sym (run-state (automatonOf x) ps 0 [] refl))
-  where
-    final : (v : Verdict) → isYes (automatonOf x) v ≡ isFinal (automatonOf x .finals) (ended v)
-    final (gives q) = refl
-    final (stuck p) = refl
+    yes-ended (automatonOf x .finals) (runFrom (automatonOf x) 0 xs []) ∙ ap (isFinal (automatonOf x .finals)) (sym (run-state (automatonOf x) ps 0 [] refl))
 
 -- 11 to 15 are not given
 pub listed-well : (x : Tables) (xs : List ℕ) (m : ℕ) → offerFault x xs m ≡ 0 → recordFault (x .store .counts) xs ≡ 0

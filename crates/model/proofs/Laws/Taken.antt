@@ -12,7 +12,7 @@ use Rattle.model.specs.Store.{used}
 use Rattle.model.specs.Table.{Tables}
 use Rattle.model.specs.Sound.{isSound}
 use Rattle.model.specs.Steps.{ofRows, ofStates, ofTransitions, ofTurns, Ended, short, asks, proposes, offered, answered}
-use Rattle.model.specs.Calls.{Call, offers, answers, accept, looks, emits, Outcome, refuses, leaves, numberOf, endOf, faultOf, doneBy, call}
+use Rattle.model.specs.Calls.{Call, offers, answers, accept, looks, emits, judges, Outcome, refuses, leaves, numberOf, endOf, faultOf, doneBy, call}
 use Rattle.model.specs.Entry.{rowsLent, sizeFits, wordsOf, listsFit, listsOf, wordsBy, listsBy, callBy}
 use Rattle.model.specs.Run.{Lent, meant, afterCall, isTaken}
 use Rattle.model.proofs.Laws.Lent.{FourPlaces, rows-within, tables-back}
@@ -47,6 +47,7 @@ done-leaves x (answers m) z = end-leaves (answered x m) z
 done-leaves x accept z = (_, refl)
 done-leaves x looks z = (x, refl)
 done-leaves x (emits r) z = (x, refl)
+done-leaves x (judges xs) z = (x, refl)
 
 -- what a call that is taken tells: of the tables before it, and of those it leaves
 pub record CallTaken (x : Tables) (k : Call) : Type 0 where

@@ -10,7 +10,7 @@ use Rattle.model.specs.Terms.{treeAt, treeOf}
 use Rattle.model.specs.Table.{Tables, tables}
 use Rattle.model.specs.Steps.{Ended, short, asks, proposes, offered, answered}
 use Rattle.model.specs.TableFacts.{Core, Tidy, Missing, Whole, Few, Open}
-use Rattle.model.specs.Calls.{Call, offers, answers, accept, looks, emits, leaves, endOf, doneBy, faultOf, isProposing}
+use Rattle.model.specs.Calls.{Call, offers, answers, accept, looks, emits, judges, leaves, endOf, doneBy, faultOf, isProposing}
 use Rattle.model.proofs.Laws.Flags.{core-flags, whole-flags, tidy-flags}
 use Rattle.model.specs.Phase.{Phase, idle, holding, filling, Nearly, Sounds}
 use Rattle.model.proofs.Laws.Step.{Offering, offering, answering, StepOk, Left, step-left, Marked, OfferOk, stored-at, offer-taken, AnswerOk, answer-held, answer-filling, proposing-of, unless-true}
@@ -32,6 +32,7 @@ pub data Took (x : Tables) : Call → Tables → Type 0 where
   took-accept : x .asked ≡ 0 → x .accepted ≡ false → Took x accept (tables (x .store) (x .answers) (x .s) (x .t) (x .c) (x .hand) (x .asked) true)
   took-look : Took x looks x
   took-emit : {r : ℕ} → Took x (emits r) x
+  took-judge : {xs : List ℕ} → Took x (judges xs) x
 
 left-of : (z y : Tables) (e : Ended) → StepOk z e → EndsIn y e → Left z y
 left-of z y (asks v) s in-asks = step-left z y (inl s)
@@ -88,6 +89,7 @@ module _ (x : Tables) (s : Sounds x) where
       subst (Took x accept) q (took-accept (p .0) (p .1))
   took looks y f e = let q : x ≡ y = cc in subst (Took x looks) q took-look
   took (emits r) y f e = let q : x ≡ y = cc in subst (Took x (emits r)) q took-emit
+  took (judges xs) y f e = let q : x ≡ y = cc in subst (Took x (judges xs)) q took-judge
 
   accepted-nearly : x .asked ≡ 0 → Nearly (tables (x .store) (x .answers) (x .s) (x .t) (x .c) (x .hand) (x .asked) true)
   accepted-nearly a =
@@ -110,3 +112,4 @@ module _ (x : Tables) (s : Sounds x) where
   took-nearly (took-accept a r) = (accepted-nearly a, refl)
   took-nearly took-look = (s .nearly, refl)
   took-nearly took-emit = (s .nearly, refl)
+  took-nearly took-judge = (s .nearly, refl)

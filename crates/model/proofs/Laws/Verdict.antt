@@ -13,8 +13,9 @@ use borrow.Author.Tests.{eqb-true}
 use Rattle.model.specs.Base.{same, top, In, here, later}
 use Rattle.model.specs.Store.{Store, used, symbolAt, kidsAt, Extends}
 use Rattle.model.specs.Terms.{Tree, tree, Forest, evalTree, evalForest, Within, itself, below, Among, first, next, treeAt, evalFrom, treeOf, recordFault}
-use Rattle.model.specs.Automata.{Rule, Automaton, hasLeftSide, ruleFrom, targetIn, statesOf, ledBy, leads, isFinal, stateOf, accepts, usedBy, ruleAtRoot, rowState, acceptsRow, Verdict, gives, stuck, goOn, runFrom, isYes, acceptsList}
+use Rattle.model.specs.Automata.{Rule, Automaton, hasLeftSide, ruleFrom, targetIn, statesOf, ledBy, leads, isFinal, stateOf, accepts, usedBy, ruleAtRoot, rowState, acceptsRow, RunEnd, gives, stuck, goOn, runFrom, verdictBy, isYes, acceptsList}
 use Rattle.model.specs.Facts.{Good, Parses, parsed, parses}
+use Rattle.model.specs.declared.Verdict.{Verdict}
 use Rattle.model.proofs.Laws.Tests.{same-eq}
 use Rattle.model.proofs.Laws.Lists.{map-below}
 use Rattle.model.proofs.Laws.Stack.{map-drop, map-top, in-backwards, in-parts}
@@ -27,7 +28,7 @@ pub state-ext : (rs : List Rule) (x y : Store) → Good x → Extends x y → (i
 state-ext rs x y g e i u = fold-ext (λ (j a : ℕ) (os : List (Option ℕ)). leads rs a os) none x y g e i u
 
 -- STATES of children: all are there, or none is given
-states-some : (qs : List ℕ) → statesOf (map some qs) ≡ some qs
+pub states-some : (qs : List ℕ) → statesOf (map some qs) ≡ some qs
 unfolding statesOf
 states-some [] = refl
 states-some (q ∷ qs) = rw (states-some qs)
@@ -56,9 +57,18 @@ module _ (rs : List Rule) (ns : List ℕ) where
       missing-stays p (leads rs a (top n os) ∷ drop n os) (omega arith) (missing-moves a n os i)
 
 -- the state that a run on symbols ends in
-abbrev pub ended : Verdict → Option ℕ
+abbrev pub ended : RunEnd → Option ℕ
 ended (gives q) = some q
 ended (stuck p) = none
+
+-- the verdict is yes where that state is final
+pub yes-ended : (fs : List ℕ) (v : RunEnd) → isYes (verdictBy fs v) ≡ isFinal fs (ended v)
+yes-ended fs (gives q) = go (isFinal fs (some q))
+  where
+    go : (b : Bool) → isYes (cond b Verdict.Accepted Verdict.NotFinal) ≡ b
+    go true = refl
+    go false = refl
+yes-ended fs (stuck p) = refl
 
 module _ (d : Automaton) where
   -- the run stops where the state goes missing, and gives the state of the whole record otherwise
@@ -81,13 +91,9 @@ module _ (d : Automaton) where
           rw f (missing-stays (d .rules) (d .counts) s (none ∷ drop n (map some qs)) (omega arith) here)
       go (some q) f ih = rw (f, ← map-drop) (ih q)
 
-  yes-ended : (v : Verdict) → isYes d v ≡ isFinal (d .finals) (ended v)
-  yes-ended (gives q) = refl
-  yes-ended (stuck p) = refl
-
   pub verdict-listed : (xs : List ℕ) → Parses (d .counts) 0 xs → acceptsList d xs ≡ accepts d (treeOf (d .counts) xs)
   verdict-listed xs p =
-      yes-ended (runFrom d 0 xs []) ∙ ap (isFinal (d .finals)) (sym (run-state p 0 [] refl) ∙ parsed-as-tree (leads (d .rules)) (d .counts) none xs p)
+      yes-ended (d .finals) (runFrom d 0 xs []) ∙ ap (isFinal (d .finals)) (sym (run-state p 0 [] refl) ∙ parsed-as-tree (leads (d .rules)) (d .counts) none xs p)
 
   pub verdict-faultless : (xs : List ℕ) → recordFault (d .counts) xs ≡ 0 → acceptsList d xs ≡ accepts d (treeOf (d .counts) xs)
   verdict-faultless xs e = verdict-listed xs (recordFault-parses (d .counts) xs e .0)

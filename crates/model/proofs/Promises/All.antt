@@ -10,9 +10,10 @@ use Rattle.model.proofs.Promises.History.{asked-once, answers-taken, vo
 use Rattle.model.proofs.Promises.Marks.{six-cases, contradiction-told}
 use Rattle.model.proofs.Promises.Plug.{fills-trees, asks-plugs, rows-said}
 use Rattle.model.proofs.Promises.Automata.{one-automaton}
+use Rattle.model.proofs.Promises.Verdicts.{verdict-told}
 use Rattle.model.proofs.Promises.Listing.{list-back}
 use Rattle.model.proofs.Promises.Learns.{grows-each, learns-each}
-use Rattle.model.proofs.Promises.Worked.{runs, corners, premises-hold}
+use Rattle.model.proofs.Promises.Worked.{runs, corners, judgements, premises-hold}
 
 pub promised : Promised
 promised =
@@ -39,6 +40,7 @@ promised =
       asked-once = asked-once;
       answers-taken = answers-taken;
       one-automaton = one-automaton;
+      verdict-told = verdict-told;
       list-back = list-back;
       vouched = vouched;
       grows-each = grows-each;
@@ -46,5 +48,6 @@ promised =
       taken-alone = taken-alone;
       runs = runs;
       corners = corners;
+      judgements = judgements;
       premises-hold = premises-hold;
     }

@@ -9,7 +9,7 @@ use lib.Dec.{eqb}
 use lib.ListN.{length}
 use Rattle.model.specs.Table.{Tables}
 use Rattle.model.specs.Sound.{isSound}
-use Rattle.model.specs.Calls.{Call, offers, answers, accept, looks, emits, Outcome, refuses, leaves, numberOf, look, faultOf, doneBy, isAsking, started}
+use Rattle.model.specs.Calls.{Call, offers, answers, accept, looks, emits, judges, Outcome, refuses, leaves, numberOf, look, faultOf, doneBy, isAsking, started}
 use Rattle.model.specs.Entry.{rowsLent, sizeFits, tablesOf, listsFit, listsOf, seenOf, seenBy, wordsBy, wordsOf, listsBy, zeroLists, callBy}
 use Rattle.model.specs.Run.{Lent, meant, afterCall, after, isTaken, takenOnly}
 use Rattle.model.specs.Promise.{RefusedUntouched, ReadsUntouched, onlyReads, UnsoundRefused, Tells, CountsTold, TakenAlone}
@@ -26,12 +26,13 @@ refused-untouched l k e = go (callBy (l .words) (l .lists) k) e
     go (leaves y) e = absurd (true≢false e)
 
 -- tables written over what they were read from are the same
-reads-done : (x : Tables) (k : Call) → onlyReads k ≡ true → doneBy x k ≡ leaves x
+pub reads-done : (x : Tables) (k : Call) → onlyReads k ≡ true → doneBy x k ≡ leaves x
 reads-done x (offers xs m) r = absurd (true≢false (sym r))
 reads-done x (answers m) r = absurd (true≢false (sym r))
 reads-done x accept r = absurd (true≢false (sym r))
 reads-done x looks r = refl
 reads-done x (emits n) r = refl
+reads-done x (judges xs) r = refl
 
 pub reads-untouched : ReadsUntouched
 reads-untouched l k a r = go (isTaken l k) refl

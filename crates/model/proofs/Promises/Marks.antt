@@ -13,7 +13,7 @@ use Rattle.model.specs.Terms.{unless, treeAt, treeOf, recordFault, known
 use Rattle.model.specs.Table.{Tables, answerAt}
 use Rattle.model.specs.TableFacts.{Core}
 use Rattle.model.specs.Sound.{isSound}
-use Rattle.model.specs.Calls.{Call, offers, refuses, numberOf, isProposing, phaseOf, markFits, contradicts, offerFault, faultOf, call}
+use Rattle.model.specs.Calls.{Call, offers, refuses, numberOf, isProposing, phaseOf, markFits, contradicts, verdictIs, offerFault, faultOf, call}
 use Rattle.model.specs.Entry.{startNumber, callNumber}
 use Rattle.model.specs.Run.{Lent, meant, startedRun, after, Said, saidIn}
 use Rattle.model.specs.Promise.{Due}
@@ -22,7 +22,7 @@ use Rattle.model.specs.declared.Lists.{Lists}
 use Rattle.model.proofs.Laws.Trees.{recordFault-parses}
 use Rattle.model.proofs.Laws.Settle.{answered-used}
 use Rattle.model.proofs.Laws.Cases.{as-the-sum, not-contradicts, contradicted}
-use Rattle.model.proofs.Laws.Step.{or-later, unless-true}
+use Rattle.model.proofs.Laws.Step.{or-later, unless-true, proposing-of}
 use Rattle.model.proofs.Laws.Faults.{record-small}
 use Rattle.model.proofs.Laws.Known.{known-there}
 use Rattle.model.proofs.Laws.Sounds.{sound-facts}
@@ -68,7 +68,7 @@ unless-other true n d e = absurd (omega arith)
 unless-other false n d e = d e
 
 -- a call with this number was refused by its line
-by-line : (x : Tables) (xs : List ℕ) (m : ℕ) → isSound x ≡ true → numberOf (call x (offers xs m)) ≡ 32 → offerFault x xs m ≡ 32
+pub by-line : (x : Tables) (xs : List ℕ) (m : ℕ) → isSound x ≡ true → numberOf (call x (offers xs m)) ≡ 32 → offerFault x xs m ≡ 32
 unfolding among
 by-line x xs m e q = go (ℕ-discrete (offerFault x xs m) 0)
   where
@@ -79,15 +79,32 @@ by-line x xs m e q = go (ℕ-discrete (offerFault x xs m) 0)
     go (yes z) = absurd (true≢false (sym (due .taken-or-short z) ∙ ap (λ (n : ℕ). among n (0 ∷ 34 ∷ 35 ∷ 36 ∷ [])) q))
     go (no n) = sym (ap numberOf (due .refused n)) ∙ q
 
-past-33 : (x : Tables) (xs : List ℕ) (m : ℕ) → offerFault x xs m ≡ 32 →
-    (recordFault (x .store .counts) xs ≡ 0) × (m ≤ 1) × (contradicts (answerAt (x .answers) (knownRow (x .store) xs)) m ≡ false)
-past-33 x xs m e =
+-- then those before it do not apply, and the mark is the verdict
+pub record Only32 (x : Tables) (xs : List ℕ) (m : ℕ) : Type 0 where
+  pub idle : x .asked ≡ 0
+  pub fits : recordFault (x .store .counts) xs ≡ 0
+  pub mark : m ≤ 1
+  pub agrees : contradicts (answerAt (x .answers) (knownRow (x .store) xs)) m ≡ false
+  pub verdict : verdictIs x xs m ≡ true
+
+applies : (z : Bool) → unless (not z) 32 ≡ 32 → z ≡ true
+applies true e = refl
+applies false e = absurd (omega arith)
+
+pub only-32 : (x : Tables) (xs : List ℕ) (m : ℕ) → offerFault x xs m ≡ 32 → Only32 x xs m
+only-32 x xs m e =
     let against = contradicts (answerAt (x .answers) (knownRow (x .store) xs)) m in
     let a = or-later (unless (isProposing x) 31) _ 32 (unless-other (isProposing x) 31 (λ q. omega arith)) e in
     let b = or-later (recordFault (x .store .counts) xs) _ 32 (λ q. (let s = record-small (x .store .counts) xs in omega arith)) (a .1) in
     let c = or-later (unless (markFits m) 16) _ 32 (unless-other (markFits m) 16 (λ q. omega arith)) (b .1) in
     let d = or-later (unless (not against) 33) _ 32 (unless-other (not against) 33 (λ q. omega arith)) (c .1) in
-    (b .0, leb-true m 1 (unless-true (markFits m) 16 (λ q. omega arith) (c .0)), not-true against (unless-true (not against) 33 (λ q. omega arith) (d .0)))
+    record {
+      idle = proposing-of x (unless-true (isProposing x) 31 (λ q. omega arith) (a .0)) .0;
+      fits = b .0;
+      mark = leb-true m 1 (unless-true (markFits m) 16 (λ q. omega arith) (c .0));
+      agrees = not-true against (unless-true (not against) 33 (λ q. omega arith) (d .0));
+      verdict = applies (verdictIs x xs m) (d .1);
+    }
 
 -- ALONG A RUN from start
 module _ (ws ns : List ℕ) (old : Lists) (ks : List Call) (s : startNumber ws ns ≡ 0) where
@@ -107,10 +124,10 @@ module _ (ws ns : List ℕ) (old : Lists) (ks : List Call) (s : startNumber ws n
     said-32 q =
         let r = answers-taken ws ns old ks s .stored e h in
         let core = now-sound .sounds .nearly .core in
-        let p = past-33 (meant l) xs m (by-line (meant l) xs m (now-sound .tested) (sym (ap numberOf (call-meant l now-sound (offers xs m))) ∙ q)) in
+        let p = only-32 (meant l) xs m (by-line (meant l) xs m (now-sound .tested) (sym (ap numberOf (call-meant l now-sound (offers xs m))) ∙ q)) in
         let n : answerAt (meant l .answers) (r .0) ≢ 0 = λ z. (let a = r .3 in omega arith) in
-        let c : contradicts (answerAt (meant l .answers) (r .0)) m ≡ false = ap (λ (v : ℕ). contradicts v m) (sym (looked-up (meant l) core xs (p .0) (r .0) (r .2 ∙ t) n)) ∙ p .2 in
-        go (not-contradicts (answerAt (meant l .answers) (r .0)) m (core .bound (r .0)) (p .1) c) n (r .3)
+        let c : contradicts (answerAt (meant l .answers) (r .0)) m ≡ false = ap (λ (v : ℕ). contradicts v m) (sym (looked-up (meant l) core xs (p .fits) (r .0) (r .2 ∙ t) n)) ∙ p .agrees in
+        go (not-contradicts (answerAt (meant l .answers) (r .0)) m (core .bound (r .0)) (p .mark) c) n (r .3)
       where
         go : {v : ℕ} → (v ≡ 0) ⊎ (v ≡ m + 1) → v ≢ 0 → v ≡ e .mark + 1 → e .mark ≡ m
         go (inl z) n a = absurd (n z)

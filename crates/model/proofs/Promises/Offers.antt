@@ -82,4 +82,5 @@ others-taken =
       acceptance = λ x e p. rw (e, proposing x p);
       look = λ x e. rw e;
       emission = λ x r e p l. rw (e, eq-eqb (x .asked) 0 p, le-leb (length (emitted (sheetOf x))) r l);
+      verdict = λ x xs e p f. rw (e, eq-eqb (x .asked) 0 p, f);
     }

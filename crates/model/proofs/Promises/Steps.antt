@@ -13,7 +13,7 @@ use Rattle.model.specs.Table.{Tables}
 use Rattle.model.specs.Sound.{isSound}
 use Rattle.model.specs.Steps.{Shortage, shortageNumber, Ended, short, asks, proposes, Search, lost, search, offered, answered}
 use Rattle.model.specs.TableFacts.{Whole, HandFits, SearchEnd, ends-new, ends-unknown, ends-different}
-use Rattle.model.specs.Calls.{Call, offers, answers, accept, looks, emits, Outcome, refuses, leaves, numberOf, endOf, faultOf, doneBy, call}
+use Rattle.model.specs.Calls.{Call, offers, answers, accept, looks, emits, judges, Outcome, refuses, leaves, numberOf, endOf, faultOf, doneBy, call}
 use Rattle.model.specs.Due.{RoomAlone}
 use Rattle.model.specs.Promise.{SearchEnds, Due, TakenWhenDue}
 use Rattle.model.proofs.Laws.Search.{in-hand-ends}
@@ -70,6 +70,7 @@ done-ran x s (answers m) f =
 done-ran x s accept f = ran
 done-ran x s looks f = ran
 done-ran x s (emits r) f = ran
+done-ran x s (judges xs) f = ran
 
 -- which numbers there are
 ran-number : (o : Outcome) → Ran o → among (numberOf o) (0 ∷ 34 ∷ 35 ∷ 36 ∷ []) ≡ true

@@ -12,7 +12,7 @@ use Rattle.model.specs.Steps.{searchFrom, seekIn, seek, grow}
 use Rattle.model.specs.Listing.{little, valueOf, ruleBlocks, rulesFrom}
 use Rattle.model.specs.Entry.{nodesIn, answersIn, rowWords}
 use Rattle.model.specs.Run.{after, saidIn}
-use Rattle.model.specs.Worked.{TheRun, Runs, Starts, Corners, PremisesHold}
+use Rattle.model.specs.Worked.{TheRun, Runs, Starts, Corners, Judgements, PremisesHold}
 
 the-run : TheRun
 unfolding all same among allAmong noRepeats anyTrue countTrue sum placeOf backwards foldFrom findFrom fill filledRow splitAt downFrom symbolsFault storeFrom knownFrom targetIn statesOf runFrom anyMissing stateFrom rowsFit differKnown allDiffer searchFrom seekIn seek grow nodesIn answersIn rowWords after
@@ -102,6 +102,26 @@ corners =
       read-back = refl;
       nothing-read = refl;
       byte-more = refl;
+    }
+
+pub judgements : Judgements
+unfolding all same among allAmong noRepeats anyTrue countTrue sum placeOf backwards foldFrom findFrom fill filledRow splitAt downFrom symbolsFault storeFrom knownFrom targetIn statesOf runFrom anyMissing stateFrom rowsFit differKnown allDiffer searchFrom seekIn seek grow nodesIn answersIn rowWords after
+judgements =
+    record {
+      fresh-run = refl;
+      after-line-3 = refl;
+      at-the-end = refl;
+      not-final = refl;
+      accepted = refl;
+      when-accepted = refl;
+      while-asking = refl;
+      nothing = refl;
+      too-long = refl;
+      unknown-symbol = refl;
+      few-children = refl;
+      many-trees = refl;
+      not-whole-rows = refl;
+      not-sound = refl;
     }
 
 pub premises-hold : PremisesHold

@@ -13,12 +13,13 @@ use Rattle.model.specs.Store.{Store, symbolAt, countOf, kidsAt, foldFrom, padde
 use Rattle.model.specs.Table.{answerAt}
 use Rattle.model.specs.Entry.{storeOf, answersIn}
 use Rattle.model.specs.declared.Row.{Row}
+use Rattle.model.specs.declared.Verdict.{Verdict}
 use Rattle.model.proofs.Laws.Stack.{each-drop}
 use Rattle.bank.specs.Rows.{answerIn, Within}
 use Rattle.bank.specs.Index.{Finding}
 use Rattle.bank.proofs.Laws.Words.{answer-in}
 use Rattle.bank.proofs.Laws.Children.{find-used}
-use Rattle.table_verdict.specs.Rules.{RepsIn, repOver, repRow, runBy, ledList, acceptsBy, isYesBy, acceptsListBy}
+use Rattle.table_verdict.specs.Rules.{RepsIn, repOver, repRow, runBy, ledList, acceptsBy, ledVerdict, verdictListBy}
 use Rattle.table_verdict.specs.declared.Led.{Led}
 
 -- where a run ends
@@ -84,8 +85,9 @@ module _ {ws : List ℕ} (ns : List ℕ) {n : ℕ} {ix reps : List ℕ} (f : Fin
     pub list-lent : (k : Row) → Led.To k ≡ ledList (storeOf ws ns n) reps xs → Within ws (k .0)
     list-lent k e = within (list-in k e)
 
-    pub list-says : (k : Row) {b : Bool} → Led.To k ≡ ledList (storeOf ws ns n) reps xs → b ≡ eqb (answerIn ws (k .0)) 2 → b ≡ acceptsListBy (storeOf ws ns n) (answersIn n ws) reps xs
-    list-says k e p = p ∙ ap (λ (v : ℕ). eqb v 2) (sym (answer-in n (k .0) ws (list-in k e))) ∙ ap (isYesBy w) e
+    pub list-says : (k : Row) {v : Verdict} → Led.To k ≡ ledList (storeOf ws ns n) reps xs → v ≡ cond (eqb (answerIn ws (k .0)) 2) Verdict.Accepted Verdict.NotFinal →
+        v ≡ verdictListBy (storeOf ws ns n) (answersIn n ws) reps xs
+    list-says k e p = p ∙ ap (λ (v : ℕ). cond (eqb v 2) Verdict.Accepted Verdict.NotFinal) (sym (answer-in n (k .0) ws (list-in k e))) ∙ ap (ledVerdict w) e
 
-    pub list-no : (p : ℕ) → Led.Stuck p ≡ ledList (storeOf ws ns n) reps xs → false ≡ acceptsListBy (storeOf ws ns n) (answersIn n ws) reps xs
-    list-no p e = ap (isYesBy w) e
+    pub list-stuck : (p : ℕ) → Led.Stuck p ≡ ledList (storeOf ws ns n) reps xs → Verdict.NoRule p ≡ verdictListBy (storeOf ws ns n) (answersIn n ws) reps xs
+    list-stuck p e = ap (ledVerdict w) e

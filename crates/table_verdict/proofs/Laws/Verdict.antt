@@ -14,12 +14,13 @@ use lib.Seq.{length-take-le}
 use Rattle.model.specs.Limits.{mostRows}
 use Rattle.model.specs.Base.{In, Each, each-nil, each-cons, top}
 use Rattle.model.specs.Store.{Store, used, countOf, findRow}
-use Rattle.model.specs.Automata.{Automaton, Verdict, gives, stuck, targetIn, goOn, runFrom, isFinal, isYes, rowState}
+use Rattle.model.specs.Automata.{Automaton, RunEnd, gives, stuck, targetIn, goOn, runFrom, verdictBy, verdictOn, isFinal, rowState}
 use Rattle.model.specs.Table.{answerAt, finalsOf}
 use Rattle.model.specs.Facts.{Good, Parses}
 use Rattle.model.proofs.Laws.Stack.{length-backwards, map-drop, map-top, each-backwards, each-take, each-drop}
 use Rattle.model.proofs.Laws.Listed.{parts}
-use Rattle.table_verdict.specs.Rules.{rulesBy, Ruled, repOf, ledBy, goOnBy, runBy, ledList, acceptsBy, isYesBy, acceptsListBy}
+use Rattle.model.specs.declared.Verdict.{Verdict}
+use Rattle.table_verdict.specs.Rules.{rulesBy, Ruled, repOf, ledBy, goOnBy, runBy, ledList, acceptsBy, ledVerdict, verdictListBy}
 use Rattle.table_verdict.specs.declared.Led.{Led}
 use Rattle.table_verdict.proofs.Laws.Lookup.{placeIn, stateBy, Rep, at-own-place, own-place-within, rep-in, lookup, found-rep}
 use Rattle.table_verdict.proofs.Laws.States.{Told, target-told, row-told, rep-row}
@@ -103,7 +104,7 @@ module _ {x : Store} {s t reps : List ℕ} (g : Good x) (d : Ruled x s t reps) (
         pushed-long : (r : ℕ) → length ks - countOf x a + 1 ≡ length (r ∷ drop (countOf x a) ks)
         pushed-long r = omega (arith, length-drop (countOf x a) ks)
 
-        onward : ℕ → Verdict
+        onward : ℕ → RunEnd
         onward k = runFrom (automaton x fs s t reps) (suc p) xs (k ∷ drop (countOf x a) (map (placeIn s) ks))
 
         target : targetIn a (top (countOf x a) (map (placeIn s) ks)) (rulesBy x s t reps) ≡ stateBy s (getD reps (findRow x a (top (countOf x a) ks)) 0)
@@ -124,10 +125,9 @@ module _ {x : Store} {s t reps : List ℕ} (g : Good x) (d : Ruled x s t reps) (
     list-led xs q = run-led 0 xs [] each-nil q
 
   -- THE VERDICT on a listed record
-  pub accepts-list-is : (w xs : List ℕ) → Parses (x .counts) 0 xs →
-      acceptsListBy x w reps xs ≡ isYes (automaton x (finalsOf w s) s t reps) (runFrom (automaton x (finalsOf w s) s t reps) 0 xs [])
-  accepts-list-is w xs q = ap (isYesBy w) (list-led (finalsOf w s) xs q) ∙ go (runFrom (automaton x (finalsOf w s) s t reps) 0 xs []) refl
+  pub verdict-list-is : (w xs : List ℕ) → Parses (x .counts) 0 xs → verdictListBy x w reps xs ≡ verdictOn (automaton x (finalsOf w s) s t reps) xs
+  verdict-list-is w xs q = ap (ledVerdict w) (list-led (finalsOf w s) xs q) ∙ go (runFrom (automaton x (finalsOf w s) s t reps) 0 xs []) refl
     where
-      go : (v : Verdict) → runFrom (automaton x (finalsOf w s) s t reps) 0 xs [] ≡ v → isYesBy w (ledBy s v) ≡ isYes (automaton x (finalsOf w s) s t reps) v
-      go (gives q) e = sym (final-at w s q (run-within g d (finalsOf w s) q 0 xs [] each-nil e))
+      go : (v : RunEnd) → runFrom (automaton x (finalsOf w s) s t reps) 0 xs [] ≡ v → ledVerdict w (ledBy s v) ≡ verdictBy (finalsOf w s) v
+      go (gives q) e = ap (λ (b : Bool). cond b Verdict.Accepted Verdict.NotFinal) (sym (final-at w s q (run-within g d (finalsOf w s) q 0 xs [] each-nil e)))
       go (stuck p) e = refl

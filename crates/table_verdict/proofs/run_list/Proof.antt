@@ -80,6 +80,11 @@ top-places-requires c κs =
 target-of-requires : tie.Need-target-of-requires Inv-loop μ-loop
 target-of-requires c κs = let b : Start = start (c .before .before .before .before) in (b .pre .0 .finding, b .pre .1)
 
+cast-t20 : tie.Need-cast-t20 Inv-loop μ-loop
+cast-t20 c =
+    let t : Turn = turn (c .before .before) in
+    omega (arith, t .loop-test .taken, running t .few)
+
 returns : tie.Need-returns Inv-loop μ-loop
 returns c =
     let m : Sought = c .before .before in
@@ -126,8 +131,8 @@ loop-again c =
     (c .if1 .left) in
     (R.pushed (running t) (t .loop-test .taken) k, sym e ∙ t .before .loop .inv .1)
 
-array-read-t24 : tie.Need-array-read-t24 Inv-loop μ-loop
-array-read-t24 c = omega arith
+array-read-t25 : tie.Need-array-read-t25 Inv-loop μ-loop
+array-read-t25 c = omega arith
 
 returns-2 : tie.Need-returns-2 Inv-loop μ-loop
 returns-2 c =
@@ -148,6 +153,7 @@ run-list-spec =
     cast-count-2
     top-places-requires
     target-of-requires
+    cast-t20
     returns
     sub-height
     mul-stack
@@ -156,5 +162,5 @@ run-list-spec =
     add-at
     loop-less
     loop-again
-    array-read-t24
+    array-read-t25
     returns-2)

@@ -1,5 +1,5 @@
 -- What the line for a question and the line for a call are, case by case: a record of at most 1,024 symbols is written out, a larger one is told by its row;
--- a call is told by its number, and where that is 0 by its phase. Each test picks its line, and a cut size tells what the size itself would.
+-- a call is told by its number, where that is 0 by its phase, and an offer that got 32 by the verdict. Each test picks its line, and a cut size tells what the size itself would.
 use mathlib.Core.Path.{_≡_, ap, _∙_}
 use mathlib.Core.List.{List}
 use Prim.Native.Nat.{ℕ, _≤_, _<_}
@@ -11,13 +11,14 @@ use Rattle.model.specs.Base.{over}
 use Rattle.model.specs.Store.{Store}
 use Rattle.model.specs.Entry.{storeOf}
 use Rattle.model.specs.declared.Seen.{Seen}
+use Rattle.model.specs.declared.Judged.{Judged}
 use Rattle.model.specs.Terms.{sizeOf, cut}
 use Rattle.bank.specs.Bank.{Stored}
 use Rattle.bank.proofs.Laws.Children.{row-used}
 use Rattle.bank_listed.proofs.Laws.Cut.{cut-most, cut-tells, larger-cut}
 use Rattle.text.specs.Bytes.{rowWord, recordRoom}
 use Rattle.text.specs.Written.{rowText}
-use Rattle.text.specs.Lines.{numbered, refusedText, acceptedText, askText, proposeText, questionText, seenText}
+use Rattle.text.specs.Lines.{numbered, refusedText, placeText, agreedText, acceptedText, askText, proposeText, questionText, seenText}
 use Rattle.text_print.proofs.Laws.Printing.{text-short}
 
 -- A QUESTION, by the cut size of its row
@@ -52,6 +53,14 @@ module _ (ls : List ℕ) (x : Store) (v : Seen) where
 
     pub seen-proposal : (v .phase ≡ 2 → ⊥) → (v .phase ≡ 1 → ⊥) → proposeText (v .states) (v .rules) (v .contexts) ≡ seenText ls x v
     seen-proposal q p = rw (eq-eqb (v .number) 0 none, ne-eqb (v .phase) 2 q, ne-eqb (v .phase) 1 p)
+
+-- 32, by the verdict
+module _ (v : Judged) where
+  pub agreed-place : v .outcome ≡ 3 → placeText (v .place) ≡ agreedText v
+  agreed-place e = rw (eq-eqb (v .outcome) 3 e)
+
+  pub agreed-alone : (v .outcome ≡ 3 → ⊥) → refusedText 32 ≡ agreedText v
+  agreed-alone n = rw (ne-eqb (v .outcome) 3 n)
 
 -- a line told under another name
 pub told-as : (o : List ℕ) {q : ℕ} {a b o₁ : List ℕ} → a ≡ b → (q ≡ length a) × (o₁ ≡ over a o) → (q ≡ length b) × (o₁ ≡ over b o)

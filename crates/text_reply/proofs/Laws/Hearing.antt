@@ -6,11 +6,13 @@ use mathlib.Core.List.{List, [], _∷_}
 use Prim.Native.Nat.{ℕ, _+_, _-_, _≤_, min}
 use native.Mathlib.Omega.{arith}
 use lib.Dec.{leb, eqb}
-use borrow.Author.Tests.{leb-true}
+use borrow.Author.Tests.{leb-true, eq-eqb, ne-eqb}
 use borrow.Rule.Slice.PartAt.{part-to-end}
 use lib.ListN.{length, getD, take, drop, length-take, length-drop}
 use Rattle.model.specs.Limits.{mostSymbols}
 use Rattle.model.specs.Base.{same}
+use Rattle.model.specs.Entry.{judgeSeen}
+use Rattle.model.specs.declared.Seen.{Seen}
 use Rattle.model.specs.Calls.{Call, offers, answers, accept}
 use Rattle.model.proofs.Laws.Tests.{both-true, and-right}
 use Rattle.model.proofs.Laws.Lent.{take-over}
@@ -20,8 +22,8 @@ use Rattle.call.specs.Calls.{CallAs}
 use Rattle.call.specs.declared.Done.{Done}
 use Rattle.text.specs.Bytes.{space, plus, minus, yesWord, noWord, okWord, mostInput}
 use Rattle.text.specs.Reading.{readText}
-use Rattle.text.specs.Lines.{Line, unreadLine, calls, isOffer, signMark, offering, lineOf, unreadText}
-use Rattle.text.specs.Script.{reply, script, lettersOf, countsOf, told, heard}
+use Rattle.text.specs.Lines.{Line, unreadLine, calls, isOffer, signMark, offering, lineOf, unreadText, agreedText}
+use Rattle.text.specs.Script.{Reply, reply, script, lettersOf, countsOf, told, offerTold, callTold, heard}
 use Rattle.text.specs.declared.Script.{Script}
 use Rattle.text_lines.specs.declared.lines.Asked.{Asked}
 use Rattle.text_reply.specs.declared.Replied.{Replied}
@@ -91,8 +93,20 @@ module _ (ws : List ℕ) (z : Script) (k : Call) (d : Done) (ws' : List ℕ) (s 
   pub made-tellable : Tellable ws' (countsOf (script (z .stage) (z .letters) (d .lists))) (d .lists .used) (d .seen)
   made-tellable = rw (s .words, s .lists, s .seen) (call-tellable ws (z .lists) k)
 
-  pub made-heard : {r : Replied} {out out' : List ℕ} → ReplyAs (told ws' (script (z .stage) (z .letters) (d .lists)) (d .seen)) r ws' out out' → ReplyAs (heard ws z (calls k)) r ws' out out'
-  made-heard u = reply-by (λ i. told (s .words i) (script (z .stage) (z .letters) (s .lists i)) (s .seen i)) u
+  pub made-heard : {r : Replied} {out out' : List ℕ} → ReplyAs (callTold ws' (script (z .stage) (z .letters) (d .lists)) k (d .seen)) r ws' out out' → ReplyAs (heard ws z (calls k)) r ws' out out'
+  made-heard u = reply-by (λ i. callTold (s .words i) (script (z .stage) (z .letters) (s .lists i)) k (s .seen i)) u
+
+-- AN OFFER MADE: by whether it got 32
+module _ (ws : List ℕ) (z : Script) (xs : List ℕ) (v : Seen) where
+  abbrev toldIf : Bool → Reply
+  toldIf b = cond b (reply (agreedText (judgeSeen ws (z .lists) xs)) ws z) (told ws z v)
+
+  pub told-agreed : v .number ≡ 32 → {r : Replied} {out out' : List ℕ} →
+      ReplyAs (reply (agreedText (judgeSeen ws (z .lists) xs)) ws z) r ws out out' → ReplyAs (offerTold ws z xs v) r ws out out'
+  told-agreed e u = reply-by (sym (ap toldIf (eq-eqb (v .number) 32 e))) u
+
+  pub told-other : (v .number ≡ 32 → ⊥) → {r : Replied} {out out' : List ℕ} → ReplyAs (told ws z v) r ws out out' → ReplyAs (offerTold ws z xs v) r ws out out'
+  told-other n u = reply-by (sym (ap toldIf (ne-eqb (v .number) 32 n))) u
 
 -- AN OFFER: its record is copied, and its symbols are read over the copy
 module _ (line old : List ℕ) {after : List ℕ} {len : ℕ} (put : after ≡ putAt 0 (take (length line - 2) (drop 2 line)) old) (is : len ≡ 0 + length (take (length line - 2) (drop 2 line)))

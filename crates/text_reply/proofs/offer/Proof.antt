@@ -49,9 +49,21 @@ slice-aggregate-offer c =
 offer-requires : tie.Need-offer-requires
 offer-requires c κs = search needs
 
-made-requires : tie.Need-made-requires
-made-requires c κs =
+array-share-prefix-text-2 : tie.Need-array-share-prefix-text-2
+array-share-prefix-text-2 c =
+    let d : tie.After-offer = c .before .before .before in
+    let e : Parsed = d .before .before .before .before in
+    text-within (e .record-in .ensures)
+
+slice-aggregate-offered : tie.Need-slice-aggregate-offered
+slice-aggregate-offered c =
     let d : tie.After-offer = c .before .before .before .before in
+    let e : Parsed = d .before .before .before .before in
+    sym (length-take-le (e .record-in .result) (e .record-in .last .1 .1 .0) (text-within (e .record-in .ensures)))
+
+offered-requires : tie.Need-offered-requires
+offered-requires c κs =
+    let d : tie.After-offer = c .before .before .before .before .before in
     let e : Parsed = d .before .before .before .before in
     let s = given e in
     (made-tellable (s .args .words .now) (s .args .script) (offered e) (d .offer .result) (d .offer .last .0) (d .offer .ensures), s .pre .0)
@@ -64,12 +76,12 @@ same-length-4 c = search needs
 
 returns-2 : tie.Need-returns-2
 returns-2 c =
-    let m : tie.After-made = c .before .before in
-    let d : tie.After-offer = m .before .before .before .before .before in
+    let m : tie.After-offered = c .before .before in
+    let d : tie.After-offer = m .before .before .before .before .before .before in
     let e : Parsed = d .before .before .before .before in
     let s = given e in
     offer-made (s .args .words .now) (s .args .script) (s .args .line .now) (s .args .mark) (e .record-in .ensures) (d .before .before .before .if1 .left)
-    (made-heard (s .args .words .now) (s .args .script) (offered e) (d .offer .result) (d .offer .last .0) (d .offer .ensures) (m .made .ensures))
+    (made-heard (s .args .words .now) (s .args .script) (offered e) (d .offer .result) (d .offer .last .0) (d .offer .ensures) (m .offered .ensures))
 
 pub offer-spec : {M : Type 1} → statement M
 offer-spec =
@@ -83,7 +95,9 @@ offer-spec =
     array-share-prefix-text
     slice-aggregate-offer
     offer-requires
-    made-requires
+    array-share-prefix-text-2
+    slice-aggregate-offered
+    offered-requires
     same-length-3
     same-length-4
     returns-2)

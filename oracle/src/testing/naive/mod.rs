@@ -4,10 +4,11 @@
 
 mod sound;
 mod steps;
+mod verdict;
 mod write;
 
 use super::terms::Term;
-use crate::lent::{Emitted, Lists, Seen};
+use crate::lent::{Emitted, Judged, Lists, Seen};
 use sound::read;
 
 /// Yes, no, or unknown.
@@ -52,25 +53,8 @@ impl Naive {
             .unwrap()
     }
 
-    /// The state that the automaton gives a record.
-    fn state(&self, record: &Term) -> Option<usize> {
-        let Term::Node(symbol, children) = record else {
-            return None;
-        };
-        let states: Option<Vec<usize>> = children.iter().map(|child| self.state(child)).collect();
-        let over = states?.iter().map(|&state| self.s[state].clone()).collect();
-        let left = Term::Node(*symbol, over);
-        let transition = self.t.iter().find(|&transition| *transition == left)?;
-        Some(self.target(transition))
-    }
-
-    fn verdict(&self, record: &Term) -> bool {
-        let state = self.state(record);
-        state.is_some_and(|state| self.known(&self.s[state]) == Some(true))
-    }
-
-    /// The offered record: 11, 12, then 13 or 14 at the first symbol at fault, then 15.
-    fn offered(&self, symbols: &[u8]) -> Result<Term, u8> {
+    /// The listed record: 11, 12, then 13 or 14 at the first symbol at fault, then 15.
+    fn listed(&self, symbols: &[u8]) -> Result<Term, u8> {
         if symbols.is_empty() {
             return Err(11);
         }
@@ -147,14 +131,14 @@ pub fn offer(words: &mut [u32], lists: &mut Lists, symbols: &[u8], mark: u8) -> 
         if run.asked.is_some() || run.accepted {
             return Err(31);
         }
-        let record = run.offered(symbols)?;
+        let record = run.listed(symbols)?;
         if mark > 1 {
             return Err(16);
         }
         if run.known(&record) == Some(mark == 0) {
             return Err(33);
         }
-        if run.verdict(&record) == (mark == 1) {
+        if run.accepts(&record) == (mark == 1) {
             return Err(32);
         }
         run.store(&record)?;
@@ -201,4 +185,17 @@ pub fn emit(words: &[u32], lists: &Lists, out: &mut [u8]) -> Emitted {
         number: 0,
         size: bytes.len() as u32,
     }
+}
+
+pub fn verdict(words: &[u32], lists: &Lists, symbols: &[u8]) -> Judged {
+    let judged = read(words, lists).and_then(|run| {
+        if run.asked.is_some() {
+            return Err(31);
+        }
+        Ok(run.judge(&run.listed(symbols)?))
+    });
+    judged.unwrap_or_else(|number| Judged {
+        number,
+        ..Judged::default()
+    })
 }

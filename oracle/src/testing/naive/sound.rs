@@ -147,7 +147,7 @@ impl Naive {
             hand.holes() == 0
                 && known.is_some()
                 && !self.missing()
-                && known != Some(self.verdict(hand))
+                && known != Some(self.accepts(hand))
         });
         let open = self.asked.as_ref();
         let t8 = open.is_none_or(|asked| asked.holes() == 0 && self.known(asked).is_none())
