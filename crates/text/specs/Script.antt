@@ -47,11 +47,11 @@ opened ws z (alphabet ls ns) =
     (told (startWords ws ns) (script 1 (over ls (z .letters)) (startLists ws ns (z .lists))) (startSeen ws ns))
     (told ws (script 2 (z .letters) (z .lists)) (startSeen ws ns))
 
--- an offer was made: where it got 32 the verdict on its record is asked, which changes nothing
+-- an offer: where it got 32 the verdict on its record is asked, which changes nothing, and that is told
 abbrev pub offerTold : (words : List ℕ) → Script → (symbols : List ℕ) → Seen → Reply
 offerTold ws z xs v = cond (eqb (v .number) 32) (reply (agreedText (judgeSeen ws (z .lists) xs)) ws z) (told ws z v)
 
--- what was seen of a call is told by the call
+-- any call: an offer is told in its own way, all others alike
 abbrev pub callTold : (words : List ℕ) → Script → Call → Seen → Reply
 callTold ws z (offers xs m) v = offerTold ws z xs v
 callTold ws z (answers m) v = told ws z v
