@@ -163,13 +163,16 @@ fn words_read(used: u16, size: usize) -> usize
     most
 }
 
-// Reading the used rows alone, where nothing is written.
+// Reading the used rows alone, where nothing is written. Few rows are read in a frame that has no room for more.
 fn read_used(words: &[u32], lists: Lists, wants: Wants, symbols: &[u8]) -> Got
     requires { ⌜ (sizeFits (now words) ≡ true) × (lentFits (now words) lists ≡ true) ⌝ }
     ensures { λ r. ⌜ UsedAs (now (words .entry)) lists wants (now (symbols .entry)) r ⌝ }
 {
     let mut none = [0u8; 1];
     let most = words_read(lists.used, words.len());
+    if ladder::is_small(most / ROW_WIDTH, lists.rules) {
+        return read_small(&words[..most], lists, wants, symbols, &mut none[..0]);
+    }
     read(&words[..most], lists, wants, symbols, &mut none[..0])
 }
 

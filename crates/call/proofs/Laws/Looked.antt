@@ -1,7 +1,7 @@
 -- Looking, line by line: 18, 30, then what looking tells; and what it tells of lists within their arrays.
 -- Each line that does not apply leaves the rest to decide; the counts are the lengths of S, T and C. Looking at the used rows is looking at all, and so is a verdict.
 use mathlib.Core.Path.{_≡_, refl, sym, ap}
-use mathlib.Core.Bool.{Bool, true, false, not, cond}
+use mathlib.Core.Bool.{Bool, true, false, cond}
 use mathlib.Core.List.{List}
 use Prim.Native.Nat.{ℕ, _*_, _≤_}
 use native.Mathlib.Omega.{arith}

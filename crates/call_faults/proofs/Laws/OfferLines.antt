@@ -1,7 +1,7 @@
 -- An offer's own lines (§5.3), each by the tests made before it; and what the proposed automaton gives to its tests.
 -- Each line that does not apply leaves the rest to decide; a run by the representatives is a run of the automaton.
 use mathlib.Core.Path.{_≡_, refl, sym, ap, _∙_}
-use mathlib.Core.Bool.{Bool, true, false, _&&_, not, cond, Bool·beq, true≢false}
+use mathlib.Core.Bool.{Bool, true, false, _&&_, not, cond, Bool·beq}
 use mathlib.Core.List.{List, [], _∷_}
 use Prim.Native.Nat.{ℕ, zero, suc, _+_, _≤_, _<_}
 use native.Mathlib.Omega.{arith}
@@ -14,7 +14,6 @@ use Rattle.model.specs.Terms.{orElse, unless, recordFault, knownFrom, knownRow}
 use Rattle.model.specs.Automata.{verdictOn, isYes}
 use Rattle.model.specs.Table.{Tables, answerAt, automatonOf}
 use Rattle.model.specs.Calls.{markFits, contradicts, verdictIs, offerFault}
-use Rattle.model.specs.Facts.{Parses}
 use Rattle.model.specs.Entry.{storeOf, answersIn, tablesOf}
 use Rattle.model.specs.declared.Lists.{Lists}
 use Rattle.model.proofs.Laws.Rows.{found}

@@ -1,13 +1,12 @@
 -- The used rows alone: a call that adds no row gets of them what it gets of all that is lent.
 use mathlib.Core.Path.{_≡_, refl, sym, ap, subst, _∙_}
-use mathlib.Core.Logic.{_⊎_, inl, inr}
+use mathlib.Core.Logic.{inl, inr}
 use mathlib.Core.Bool.{true}
 use mathlib.Core.List.{List}
-use Prim.Native.Nat.{ℕ, _*_, _≤_}
+use Prim.Native.Nat.{ℕ, _≤_}
 use native.Mathlib.Omega.{arith}
 use lib.ListN.{length, take}
 use lib.Seq.{take-length}
-use Rattle.model.specs.Limits.{rowWidth}
 use Rattle.model.specs.Calls.{looks}
 use Rattle.model.specs.Entry.{sizeFits, listsFit, callSeen, judgeSeen}
 use Rattle.model.specs.declared.Lists.{Lists}

@@ -9,7 +9,7 @@ use native.Mathlib.Omega.{arith}
 use lib.ListN.{length, getD, take, drop, length-drop, length-map}
 use Rattle.model.specs.Base.{top, In, here, later, Each, each-nil, each-cons}
 use Rattle.model.specs.Terms.{Tree, treeWith, forest, holeTree, evalTree, evalForest, Within, itself, below, evalFrom}
-use Rattle.model.specs.Automata.{Automaton, targetIn, statesOf, ledBy, leads, stateOf, RunEnd, gives, stuck, goOn, runFrom}
+use Rattle.model.specs.Automata.{Automaton, targetIn, statesOf, ledBy, leads, stateOf, stuck, goOn, runFrom}
 use Rattle.model.specs.Facts.{Parses, parsed, parses}
 use Rattle.model.specs.Verdicts.{childStates}
 use Rattle.model.proofs.Laws.Stack.{map-drop, map-top, in-backwards, in-parts}

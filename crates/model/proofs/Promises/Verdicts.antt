@@ -5,15 +5,15 @@ use mathlib.Core.Logic.{_≢_, _↔_}
 use mathlib.Core.Bool.{Bool, true, false, not, cond, true≢false}
 use mathlib.Core.List.{List, []}
 use mathlib.Core.Option.{Option, none, some}
-use Prim.Native.Nat.{ℕ, _+_}
+use Prim.Native.Nat.{ℕ}
 use native.Mathlib.Omega.{arith}
 use lib.Dec.{ltb, eqb}
 use borrow.Author.Tests.{ltb-true, ltb-false, eqb-true, eq-eqb}
 use Rattle.model.specs.Terms.{unless, treeOf, recordFault}
-use Rattle.model.specs.Automata.{Automaton, leads, isFinal, stateOf, accepts, RunEnd, gives, stuck, runFrom, verdictBy, verdictOn, isYes}
+use Rattle.model.specs.Automata.{Automaton, leads, isFinal, stateOf, RunEnd, gives, stuck, runFrom, verdictBy, verdictOn, isYes}
 use Rattle.model.specs.Table.{automatonOf}
 use Rattle.model.specs.Sound.{isSound}
-use Rattle.model.specs.Calls.{Outcome, refuses, offers, judges, numberOf, isAsking, faultOf, doneBy, call}
+use Rattle.model.specs.Calls.{Outcome, refuses, offers, judges, numberOf, isAsking, faultOf, doneBy}
 use Rattle.model.specs.Entry.{sizeFits, listsFit, callNumber, judgedAs, judgedBy, judgeSeen}
 use Rattle.model.specs.Run.{Lent, meant, isTaken}
 use Rattle.model.specs.Verdicts.{NoRuleAt, VerdictTold}
