@@ -101,5 +101,5 @@ pub known-row-within : (ws ns : List ℕ) (n : ℕ) {ix : List ℕ} → Bank ws 
 known-row-within ws ns n r xs = omega (arith, known-within (storeOf ws ns n) (r .good .start) xs [] (r .good .start), used-of ws ns n)
 
 -- 32 asks whether the verdict is the mark
-pub verdict-told : (x : Tables) (xs : List ℕ) (m : ℕ) (y : Bool) → m ≤ 1 → y ≡ isYes (verdictOn (automatonOf x) xs) → Bool·beq y (eqb m 1) ≡ verdictIs x xs m
-verdict-told x xs m y h p = mark-is y m h ∙ ap (λ (b : Bool). eqb (cond b 1 0) m) p
+pub verdict-marked : (x : Tables) (xs : List ℕ) (m : ℕ) (y : Bool) → m ≤ 1 → y ≡ isYes (verdictOn (automatonOf x) xs) → Bool·beq y (eqb m 1) ≡ verdictIs x xs m
+verdict-marked x xs m y h p = mark-is y m h ∙ ap (λ (b : Bool). eqb (cond b 1 0) m) p

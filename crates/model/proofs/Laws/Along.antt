@@ -1,7 +1,7 @@
 -- One call on sound lent tables: refused, and nothing changed; or taken, and the lent tables mean what the step leaves.
 -- Words and lists are encoded and read back; their sizes fit again because the tables are nearly sound.
 use mathlib.Core.Path.{_≡_, refl, sym, ap, _∙_, subst}
-use mathlib.Core.Logic.{_⊎_}
+use mathlib.Core.Logic.{_≢_, _⊎_}
 use mathlib.Core.Bool.{Bool, true, false, _&&_, cond}
 use Prim.Native.Nat.{_+_}
 use native.Mathlib.Omega.{arith}
@@ -9,8 +9,8 @@ use lib.ListN.{length}
 use Rattle.model.specs.Store.{used}
 use Rattle.model.specs.Table.{Tables, size}
 use Rattle.model.specs.Sound.{isSound, isNearlySound, contextsFew}
-use Rattle.model.specs.Calls.{Call, refuses, leaves, faultOf, doneBy, call}
-use Rattle.model.specs.Entry.{sizeFits, listsFit, listsOf, callBy}
+use Rattle.model.specs.Calls.{Call, refuses, leaves, numberOf, faultOf, doneBy, call}
+use Rattle.model.specs.Entry.{sizeFits, listsFit, lentFits, listsOf, callBy, callNumber}
 use Rattle.model.specs.Run.{Lent, meant, afterCall, isTaken}
 use Rattle.model.specs.Promise.{isLentSound, NearlySound}
 use Rattle.model.proofs.Laws.Tests.{both-true, true-both}
@@ -19,7 +19,7 @@ use Rattle.model.proofs.Laws.Sounds.{sound-facts, nearly-sound, few-or-
 use Rattle.model.proofs.Laws.Lent.{good-four, sizeFits-back, rows-within, listsOf-within, listsFit-true}
 use Rattle.model.proofs.Laws.Taken.{is-taken, leaves-after, meant-after}
 use Rattle.model.proofs.Laws.Took.{Took, took, took-nearly}
-use Rattle.model.proofs.Promises.Calls.{refused-untouched}
+use Rattle.model.proofs.Promises.Calls.{refused-untouched, unsound-refused}
 
 pub record LentSound (l : Lent) : Type 0 where
   pub size : sizeFits (l .words) ≡ true
@@ -32,6 +32,15 @@ lent-sound l e =
     let a = both-true (sizeFits (l .words) && listsFit (l .lists)) (isSound (meant l)) e in
     let b = both-true (sizeFits (l .words)) (listsFit (l .lists)) (a .0) in
     record { size = b .0; lists = b .1; tested = a .1; sounds = sound-facts (meant l) (a .1) }
+
+-- a call that gets neither 18 nor 30 found them sound
+pub sound-behind : (l : Lent) (k : Call) → callNumber (l .words) (l .lists) k ≢ 18 → callNumber (l .words) (l .lists) k ≢ 30 → LentSound l
+sound-behind l k p q = go (sizeFits (l .words)) refl (isLentSound l) refl
+  where
+    go : (b : Bool) → sizeFits (l .words) ≡ b → (c : Bool) → isLentSound l ≡ c → LentSound l
+    go true e true f = lent-sound l f
+    go true e false f = absurd (q (unsound-refused l k e f))
+    go false e c f = absurd (p (ap (λ (b : Bool). numberOf (cond b (cond (lentFits (l .words) (l .lists)) (call (meant l) k) (refuses 30)) (refuses 18))) e))
 
 -- there a call is the call on the tables meant
 pub call-meant : (l : Lent) → LentSound l → (k : Call) → callBy (l .words) (l .lists) k ≡ call (meant l) k

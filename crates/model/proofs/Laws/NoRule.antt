@@ -36,7 +36,7 @@ module _ (ns : List ℕ) where
       go (inr j) ih = ih t (later j)
 
 -- a list of states that are there
-some-there : (q : ℕ) (o : Option ℕ) → o ≡ some q → o ≢ none
+pub some-there : (q : ℕ) (o : Option ℕ) → o ≡ some q → o ≢ none
 some-there q o e z = let u : _≡_ {A = ℕ} 0 1 = cc in omega arith
 
 each-there : (qs : List ℕ) → Each (λ (o : Option ℕ). o ≢ none) (map some qs)

@@ -7,24 +7,22 @@ use mathlib.Core.List.{List, []}
 use mathlib.Core.Option.{Option, none, some}
 use Prim.Native.Nat.{ℕ}
 use native.Mathlib.Omega.{arith}
-use lib.Dec.{ltb, eqb}
+use lib.Dec.{ltb}
 use borrow.Author.Tests.{ltb-true, ltb-false, eqb-true, eq-eqb}
 use Rattle.model.specs.Terms.{unless, treeOf, recordFault}
 use Rattle.model.specs.Automata.{Automaton, leads, isFinal, stateOf, RunEnd, gives, stuck, runFrom, verdictBy, verdictOn, isYes}
 use Rattle.model.specs.Table.{automatonOf}
-use Rattle.model.specs.Sound.{isSound}
-use Rattle.model.specs.Calls.{Outcome, refuses, offers, judges, numberOf, isAsking, faultOf, doneBy}
-use Rattle.model.specs.Entry.{sizeFits, listsFit, callNumber, judgedAs, judgedBy, judgeSeen}
+use Rattle.model.specs.Calls.{offers, judges, numberOf, isAsking}
+use Rattle.model.specs.Entry.{callNumber, judgedAs, judgedBy, judgeSeen}
 use Rattle.model.specs.Run.{Lent, meant, isTaken}
 use Rattle.model.specs.Verdicts.{NoRuleAt, VerdictTold}
 use Rattle.model.specs.declared.Verdict.{Verdict}
 use Rattle.model.proofs.Laws.Trees.{parsed-as-tree, recordFault-parses}
 use Rattle.model.proofs.Laws.Verdict.{ended, run-state, state-within}
-use Rattle.model.proofs.Laws.NoRule.{stops}
+use Rattle.model.proofs.Laws.NoRule.{some-there, stops}
 use Rattle.model.proofs.Laws.Step.{or-zero}
 use Rattle.model.proofs.Laws.Taken.{is-taken}
-use Rattle.model.proofs.Laws.Sounds.{sound-facts}
-use Rattle.model.proofs.Laws.Along.{LentSound, call-meant}
+use Rattle.model.proofs.Laws.Along.{sound-behind, call-meant}
 use Rattle.model.proofs.Promises.Marks.{by-line, only-32}
 use Rattle.model.proofs.Promises.Offers.{others-taken}
 
@@ -38,9 +36,6 @@ module _ (d : Automaton) (xs : List ℕ) where
     says-accepted : isFinal (d .finals) rootState ≡ true → Says Verdict.Accepted
     says-not-final : rootState ≢ none → isFinal (d .finals) rootState ≡ false → Says Verdict.NotFinal
     says-no-rule : {p : ℕ} → rootState ≡ none → NoRuleAt d xs p → Says (Verdict.NoRule p)
-
-  some-there : (q : ℕ) → rootState ≡ some q → rootState ≢ none
-  some-there q e z = let u : _≡_ {A = ℕ} 0 1 = cc in omega arith
 
   no-final : rootState ≡ none → isFinal (d .finals) rootState ≡ false
   no-final e = ap (isFinal (d .finals)) e
@@ -71,7 +66,7 @@ module _ (d : Automaton) (xs : List ℕ) where
       where
         by-state : (q : ℕ) → rootState ≡ some q → (b : Bool) → isFinal (d .finals) (some q) ≡ b → Says (cond b Verdict.Accepted Verdict.NotFinal)
         by-state q s true f = says-accepted (ap (isFinal (d .finals)) s ∙ f)
-        by-state q s false f = says-not-final (some-there q s) (ap (isFinal (d .finals)) s ∙ f)
+        by-state q s false f = says-not-final (some-there q rootState s) (ap (isFinal (d .finals)) s ∙ f)
 
         by-end : (v : RunEnd) → runFrom d 0 xs [] ≡ v → Says (verdictBy (d .finals) v)
         by-end (gives q) r = by-state q (its-state ∙ ap ended r) (isFinal (d .finals) (some q)) refl
@@ -90,13 +85,13 @@ module _ (d : Automaton) (xs : List ℕ) where
 
   -- a place without a rule leaves the root without a state
   is-no-rule : {v : Verdict} (p : ℕ) → Says v → (NoRuleAt d xs p → rootState ≡ none) → (v ≡ Verdict.NoRule p) ↔ NoRuleAt d xs p
-  is-no-rule p (says-accepted f) z = (λ e. (let z : _≡_ {A = ℕ} 0 1 = cc in absurd (omega arith)), λ a. absurd (true≢false (sym f ∙ no-final (z a))))
-  is-no-rule p (says-not-final s f) z = (λ e. (let z : _≡_ {A = ℕ} 0 1 = cc in absurd (omega arith)), λ a. absurd (s (z a)))
-  is-no-rule p (says-no-rule {p = q} s n) z = (λ e. (let u : q ≡ p = cc in subst (NoRuleAt d xs) u n), λ a. ap Verdict.NoRule (one-place n a))
+  is-no-rule p (says-accepted f) r = (λ e. (let z : _≡_ {A = ℕ} 0 1 = cc in absurd (omega arith)), λ a. absurd (true≢false (sym f ∙ no-final (r a))))
+  is-no-rule p (says-not-final s f) r = (λ e. (let z : _≡_ {A = ℕ} 0 1 = cc in absurd (omega arith)), λ a. absurd (s (r a)))
+  is-no-rule p (says-no-rule {p = q} s n) r = (λ e. (let u : q ≡ p = cc in subst (NoRuleAt d xs) u n), λ a. ap Verdict.NoRule (one-place n a))
 
   none-or : (o : Option ℕ) → (o ≢ none → ⊥) → o ≡ none
   none-or none z = refl
-  none-or (some q) z = absurd (z (λ e. (let u : _≡_ {A = ℕ} 0 1 = cc in omega arith)))
+  none-or (some q) z = absurd (z (some-there q (some q) refl))
 
   rootless : {p : ℕ} → NoRuleAt d xs p → rootState ≡ none
   rootless n = none-or rootState (λ s. state-within d s (n .inside) (n .stateless))
@@ -109,20 +104,13 @@ call-tells l xs t =
     (or-zero (unless (not (isAsking (meant l))) 31) (recordFault (meant l .store .counts) xs) (w .taken .faultless) .1, ap (judgedBy xs) (w .outcome ∙ sym (w .taken .done)))
 
 -- BEHIND 32: words, lists and tables are as they must be
-gates : (a b c : Bool) (o : Outcome) → numberOf (cond a (cond b (cond c o (refuses 30)) (refuses 30)) (refuses 18)) ≡ 32 → (a ≡ true) × (b ≡ true) × (c ≡ true)
-gates true true true o q = (refl, refl, refl)
-gates true true false o q = absurd (omega arith)
-gates true false c o q = absurd (omega arith)
-gates false b c o q = absurd (omega arith)
-
 verdict-behind : (l : Lent) (xs : List ℕ) (m : ℕ) → callNumber (l .words) (l .lists) (offers xs m) ≡ 32 →
     (isTaken l (judges xs) ≡ true) × (cond (isYes (verdictOn (automatonOf (meant l)) xs)) 1 0 ≡ m)
 verdict-behind l xs m q =
     let x = meant l in
-    let g = gates (sizeFits (l .words)) (listsFit (l .lists)) (isSound x) (cond (eqb (faultOf x (offers xs m)) 0) (doneBy x (offers xs m)) (refuses (faultOf x (offers xs m)))) q in
-    let s : LentSound l = record { size = g .0; lists = g .1; tested = g .2; sounds = sound-facts x (g .2) } in
-    let o = only-32 x xs m (by-line x xs m (g .2) (sym (ap numberOf (call-meant l s (offers xs m))) ∙ q)) in
-    let n = ap numberOf (call-meant l s (judges xs)) ∙ others-taken .verdict x xs (g .2) (o .idle) (o .fits) in
+    let s = sound-behind l (offers xs m) (λ e. omega (arith, e, q)) (λ e. omega (arith, e, q)) in
+    let o = only-32 x xs m (by-line x xs m (s .tested) (sym (ap numberOf (call-meant l s (offers xs m))) ∙ q)) in
+    let n = ap numberOf (call-meant l s (judges xs)) ∙ others-taken .verdict x xs (s .tested) (o .idle) (o .fits) in
     (eq-eqb (callNumber (l .words) (l .lists) (judges xs)) 0 n, eqb-true (cond (isYes (verdictOn (automatonOf x) xs)) 1 0) m (o .verdict))
 
 pub verdict-told : VerdictTold
