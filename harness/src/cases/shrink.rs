@@ -1,30 +1,20 @@
 //! Smaller inputs for a difference. A call on a full table takes milliseconds, and there are thousands of rows to take away.
 
+use oracle::limits::ROW_WORDS;
 use oracle::testing::compare::{Call, Tables};
+use oracle::testing::shrink::{changed, less_listed};
 
 /// Tables with one part less; of the rows the last ones, since each of thousands would be too many.
 fn smaller_tables(tables: &Tables) -> Vec<Tables> {
-    let mut found = Vec::new();
-    let mut with = |change: &dyn Fn(&mut Tables)| {
-        let mut smaller = tables.clone();
-        change(&mut smaller);
-        if smaller != *tables {
-            found.push(smaller);
-        }
-    };
-    with(&|it| it.words.truncate(it.lists.used as usize * 6));
-    with(&|it| {
-        let rows = (it.words.len() / 6 + it.lists.used as usize) / 2;
-        it.words.truncate(rows * 6);
+    let halved = changed(tables, |it| {
+        let rows = (it.words.len() / ROW_WORDS + it.lists.used as usize) / 2;
+        it.words.truncate(rows * ROW_WORDS);
     });
-    with(&|it| it.words.truncate(it.words.len().saturating_sub(6)));
-    with(&|it| it.lists.used = it.lists.used.saturating_sub(1));
-    with(&|it| it.lists.contexts = it.lists.contexts.saturating_sub(1));
-    with(&|it| it.lists.rules = it.lists.rules.saturating_sub(1));
-    with(&|it| it.lists.states = it.lists.states.saturating_sub(1));
-    with(&|it| it.lists.hand = 0);
-    with(&|it| it.lists.asked = 0);
-    found
+    let shorter = changed(tables, |it| {
+        it.words.truncate(it.words.len().saturating_sub(ROW_WORDS));
+    });
+    let parts = less_listed(tables).into_iter();
+    parts.chain(halved).chain(shorter).collect()
 }
 
 /// A record with one of its first symbols less.

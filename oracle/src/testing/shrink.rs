@@ -32,25 +32,33 @@ pub fn smaller(tables: &Tables, symbols: &[u8]) -> Vec<(Tables, Vec<u8>)> {
     found
 }
 
+/// Tables with one part less; of the rows each may lose its answer.
 fn smaller_tables(tables: &Tables) -> Vec<Tables> {
-    let mut found = Vec::new();
-    let mut with = |change: &dyn Fn(&mut Tables)| {
-        let mut smaller = tables.clone();
-        change(&mut smaller);
-        if smaller != *tables {
-            found.push(smaller);
-        }
-    };
-    with(&|it| it.words.truncate(it.lists.used as usize * ROW_WORDS));
-    with(&|it| it.lists.used = it.lists.used.saturating_sub(1));
-    with(&|it| it.lists.contexts = it.lists.contexts.saturating_sub(1));
-    with(&|it| it.lists.rules = it.lists.rules.saturating_sub(1));
-    with(&|it| it.lists.states = it.lists.states.saturating_sub(1));
-    with(&|it| it.lists.letters = it.lists.letters.saturating_sub(1));
-    with(&|it| it.lists.hand = 0);
-    with(&|it| it.lists.asked = 0);
-    for row in 1..tables.words.len() / ROW_WORDS {
-        with(&|it| it.words[row * ROW_WORDS + 1] = 0);
-    }
-    found
+    let rows = 1..tables.words.len() / ROW_WORDS;
+    let unanswered = |row| changed(tables, |it| it.words[row * ROW_WORDS + 1] = 0);
+    let parts = less_listed(tables).into_iter();
+    parts.chain(rows.filter_map(unanswered)).collect()
+}
+
+/// Tables without the rows that are not used, or with less in their lists.
+pub fn less_listed(tables: &Tables) -> Vec<Tables> {
+    let changes: [fn(&mut Tables); 8] = [
+        |it| it.words.truncate(it.lists.used as usize * ROW_WORDS),
+        |it| it.lists.used = it.lists.used.saturating_sub(1),
+        |it| it.lists.contexts = it.lists.contexts.saturating_sub(1),
+        |it| it.lists.rules = it.lists.rules.saturating_sub(1),
+        |it| it.lists.states = it.lists.states.saturating_sub(1),
+        |it| it.lists.letters = it.lists.letters.saturating_sub(1),
+        |it| it.lists.hand = 0,
+        |it| it.lists.asked = 0,
+    ];
+    let found = changes.iter().filter_map(|change| changed(tables, change));
+    found.collect()
+}
+
+/// What a change makes of tables, where it makes others.
+pub fn changed(tables: &Tables, change: impl Fn(&mut Tables)) -> Option<Tables> {
+    let mut smaller = tables.clone();
+    change(&mut smaller);
+    (smaller != *tables).then_some(smaller)
 }
