@@ -1,4 +1,4 @@
-//! The script program, which `rt` writes to target/bin/script, as a process on a stack of 4 MB.
+//! The script program, which `rt run script` writes to crates/script/out/script, as a process on a stack of 4 MB.
 
 use std::env;
 use std::io::Write;
@@ -16,12 +16,12 @@ pub struct Ran {
 /// The program: the one that SCRIPT names, or else that of this repository.
 fn path() -> PathBuf {
     let beside = PathBuf::from(env!("CARGO_MANIFEST_DIR"));
-    let path = env::var("SCRIPT").unwrap_or_else(|_| "../target/bin/script".to_string());
+    let path = env::var("SCRIPT").unwrap_or_else(|_| "../crates/script/out/script".to_string());
     let path = beside.join(path);
     let shown = path.display();
     assert!(
         path.exists(),
-        "{shown} is missing: `rt check script` writes it"
+        "{shown} is missing: `rt run script` writes it"
     );
     path
 }

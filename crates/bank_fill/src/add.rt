@@ -12,7 +12,7 @@ use model::Row;
 use model::limits::ROW_WIDTH;
 
 // How adding rows ends: rows ran out, or the row with the rows used afterwards.
-#[derive(Drop)]
+#[derive(Clone, Copy)]
 pub enum Grown {
     Full,
     At(Row, u16),

@@ -1,4 +1,6 @@
 // bank: records listed by their symbols: what is wrong with one, the row that it has or gets, and its size (§3.4, §4.4, §8.5).
+#![tactic(auto)]
+
 ghost use Rattle.std.specs.Prelude.{◌≡◌, [], ◌≤◌, length};
 ghost use Rattle.model.specs.Limits.{most_listed};
 ghost use Rattle.model.specs.Base.{top};

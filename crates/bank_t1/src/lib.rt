@@ -1,5 +1,7 @@
 // bank: T1 in one pass over the used rows, which marks the holes and builds the index (§2.3).
 // A twin is a lookup that hits.
+#![tactic(auto)]
+
 ghost use Rattle.std.specs.Prelude.{◌≡◌, true, false, [], ◌+◌, ◌*◌, ◌<◌, ◌≤◌, length, get_or};
 ghost use Rattle.model.specs.Limits.{most_rows};
 ghost use Rattle.model.specs.Table.{tables};
@@ -28,7 +30,7 @@ fn is_hole(words: &[u32]) -> bool
 }
 
 // What a row's children say: they do not fit, or the place, plus one, of the one with a hole, or 0.
-#[derive(Drop)]
+#[derive(Clone, Copy)]
 enum Kids {
     Broken,
     Hole(u8),

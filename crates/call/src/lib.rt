@@ -1,5 +1,7 @@
 // call: start, by value; what refuses every call, and what calls return and tell (§3.2, §3.3, §5.3).
 // Start leaves row 0 the hole and the lists of a run that has learnt nothing; 18 and 17 refuse it.
+#![tactic(auto)]
+
 ghost use Rattle.std.specs.Prelude.{◌≡◌, true, List, ℕ};
 ghost use Rattle.model.specs.Calls.{look as look_of};
 ghost use Rattle.model.specs.Entry.{lists_fit, lent_fault, tables_of, seen_of, refused};
@@ -13,14 +15,14 @@ use run_lists::{change, fit};
 pub mod ladder; // ladder.rt: how long the arrays are that a call works in
 
 // What a call returns, and the lists that it leaves.
-#[derive(Drop)]
+#[derive(Clone, Copy)]
 pub struct Done {
     pub seen: Seen,
     pub lists: Lists,
 }
 
 // What the archive said: an answer to the open question, or its mark for the record offered.
-#[derive(Drop)]
+#[derive(Clone, Copy)]
 pub enum Said {
     Answer(u8),
     Offer(u8),

@@ -1,5 +1,7 @@
 // call: emitting from sound tables, by value: 31, 20, then the list of the proposed automaton (§3.7).
 // The bytes past the list stay.
+#![tactic(auto)]
+
 ghost use Rattle.std.specs.Prelude.{◌≡◌, true, ℕ, ◌+◌, ◌*◌, ◌<◌, ◌≤◌, length, get_or, take};
 ghost use Rattle.model.specs.Limits.{most_rules, most_states, row_width};
 ghost use Rattle.model.specs.Base.{place_of};

@@ -1,4 +1,6 @@
 // call: the lines that refuse an answer or an offer to sound tables: 31, 11 to 16, 33, 32, the first that applies (§5.3).
+#![tactic(auto)]
+
 ghost use Rattle.std.specs.Prelude.{◌≡◌, true};
 ghost use Rattle.model.specs.Automata.{is_yes};
 ghost use Rattle.model.specs.Calls.{contradicts, offer_fault, fault_of, verdict_is};

@@ -1,5 +1,7 @@
 // call: looking, emitting and the verdict, by value, each in as much working memory as its tables need (§3.3, §3.7, §3.8).
 // 18, 30, then what the call wants of sound tables.
+#![tactic(auto)]
+
 ghost use Rattle.std.specs.Prelude.{◌≡◌, true, ◌*◌, ◌<◌, ◌≤◌, length};
 ghost use Rattle.model.specs.Limits.{row_width};
 ghost use Rattle.model.specs.Calls.{looks};
@@ -17,7 +19,7 @@ use model::limits::{MOST_CONTEXTS, MOST_ROWS, MOST_RULES, ROW_WIDTH};
 use model::{Emitted, Judged, Lists, Seen};
 
 // What a call that reads wants: whether the tables are sound, the list of the proposed automaton, or its verdict on a listed record.
-#[derive(Drop)]
+#[derive(Clone, Copy)]
 pub enum Wants {
     Look,
     Emit,
@@ -25,7 +27,7 @@ pub enum Wants {
 }
 
 // What it gets. Each call reads its own part: looking reads the number that emitting would tell.
-#[derive(Drop)]
+#[derive(Clone, Copy)]
 pub struct Got {
     pub emitted: Emitted,
     pub judged: Judged,

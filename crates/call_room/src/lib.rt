@@ -1,5 +1,7 @@
 // call: offers, answers and acceptance, by value, each in as much working memory as its tables need (§3).
 // Words by reference, lists in and out. A refusal returns its number and leaves both as they were.
+#![tactic(auto)]
+
 ghost use Rattle.std.specs.Prelude.{◌≡◌};
 ghost use Rattle.model.specs.Calls.{answers, offers, accept as acceptCall};
 ghost use Rattle.call.specs.Calls.{CallAs};

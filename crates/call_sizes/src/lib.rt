@@ -1,5 +1,7 @@
 // call: one answer or offer, in working memory of each of the four sizes (§3).
 // The rows past the used ones are saved in what the caller lends.
+#![tactic(auto)]
+
 ghost use Rattle.std.specs.Prelude.{◌≡◌, true, ◌<◌, ◌+◌, ◌*◌, ◌≤◌, length};
 ghost use Rattle.model.specs.Limits.{row_width};
 ghost use Rattle.model.specs.Entry.{size_fits, lent_fits};

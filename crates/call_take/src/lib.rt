@@ -1,5 +1,7 @@
 // call: one answer or offer, given its working memory: 30, the lines of its own, then it is taken (§3.4, §3.5, §5.3).
 // The function mirrors `call` in model's Calls.
+#![tactic(auto)]
+
 ghost use Rattle.std.specs.Prelude.{◌≡◌, true, ◌+◌, ◌*◌, ◌≤◌, length};
 ghost use Rattle.model.specs.Limits.{most_contexts, row_width};
 ghost use Rattle.model.specs.Entry.{size_fits, lent_fits};

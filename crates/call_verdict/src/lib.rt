@@ -1,4 +1,6 @@
 // call: the verdict on a listed record, the same for offers and for the call that asks it of sound tables: 31, 11 to 15, then its numbers (§3.8).
+#![tactic(auto)]
+
 ghost use Rattle.std.specs.Prelude.{◌≡◌, true, List, ℕ};
 ghost use Rattle.model.specs.Terms.{record_fault};
 ghost use Rattle.model.specs.Automata.{verdict_on};

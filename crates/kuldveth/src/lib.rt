@@ -1,5 +1,7 @@
 // products: the calls that a host makes from C and Rust: thin functions over the calls by value (§3).
 // Nothing is required of what a host lends.
+#![tactic(auto)]
+
 ghost use Rattle.std.specs.Prelude.{◌≡◌};
 ghost use Rattle.model.specs.Limits.{version};
 ghost use Rattle.model.specs.Calls.{offers, answers, accept as acceptCall, looks};

@@ -1,5 +1,7 @@
 // list: the emitted list: blocks read and written (§6).
 // Each function is equal to a definition of model.
+#![tactic(auto)]
+
 mod blocks;
 mod read;
 mod write;

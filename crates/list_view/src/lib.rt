@@ -1,5 +1,7 @@
 // list: a loaded list, shown over a host's bytes without being copied (§6.3).
 // Each function is equal to a definition of model.
+#![tactic(auto)]
+
 mod held;
 mod lookup;
 mod seen;
@@ -10,7 +12,7 @@ use model::State;
 pub use seen::{children_seen, final_seen, rule_seen, sizes_seen, target_seen};
 
 // How many symbols, states and rules a list has.
-#[derive(Drop)]
+#[derive(Clone, Copy)]
 pub struct Sizes {
     pub letters: usize,
     pub states: usize,
@@ -18,7 +20,7 @@ pub struct Sizes {
 }
 
 // A rule of a list: the places in `states` that its symbol does not need hold 0.
-#[derive(Drop)]
+#[derive(Clone, Copy)]
 pub struct ShownRule {
     pub symbol: u8,
     pub states: [u8; 4],
@@ -26,14 +28,14 @@ pub struct ShownRule {
 }
 
 // What a left side leads to.
-#[derive(Drop)]
+#[derive(Clone, Copy)]
 pub enum Target {
     To(State),
     Missing,
 }
 
 // A list in a host's bytes (§6.3): it refers to them and holds no copy of any part. `rules` is what load counts.
-#[derive(Drop)]
+#[derive(Clone, Copy)]
 pub struct LoadedList<'a> {
     pub bytes: &'a [u8],
     pub rules: u16,

@@ -1,23 +1,25 @@
 // model: what a host lends and what a call returns; the definitions of the calls, the laws about them and the promises.
 // No function is here: specs/ has the definitions, proofs/ the laws and the proofs of the promises.
+#![tactic(auto)]
+
 use limits::{MOST_CONTEXTS, MOST_RULES, MOST_STATES, MOST_SYMBOLS};
 
 pub mod limits; // limits.rt: the numbers of the specification
 
 // A row of the record table, a state of the proposal, a member of C: three sequences of numbers that are never mixed (§2.2).
-#[derive(Drop)]
+#[derive(Clone, Copy)]
 pub struct Row(pub u16);
 
-#[derive(Drop)]
+#[derive(Clone, Copy)]
 pub struct State(pub u16);
 
-#[derive(Drop)]
+#[derive(Clone, Copy)]
 pub struct Context(pub u16);
 
 // The run's own lists (§2.2). A count says how much of the array after it is meant; in `hand` and `asked` 0 is none; `accepted` is 0 or 1.
 // Order and widths of the fields leave no padding, here and in the structs below: a byte without a field would be what the stack held.
 #[repr(C)]
-#[derive(Drop)]
+#[derive(Clone, Copy)]
 pub struct Lists {
     pub letters: u8,
     pub counts: [u8; MOST_SYMBOLS],
@@ -35,7 +37,7 @@ pub struct Lists {
 
 // What looking tells (§3.3): phase 0 proposing, 1 asking, 2 accepted. A refusal has its number and zeros.
 #[repr(C)]
-#[derive(Drop)]
+#[derive(Clone, Copy)]
 pub struct Seen {
     pub number: u8,
     pub phase: u8,
@@ -47,14 +49,14 @@ pub struct Seen {
 
 // What emitting and loading return (§3.7, §3.9): bytes written, or rules read.
 #[repr(C)]
-#[derive(Drop)]
+#[derive(Clone, Copy)]
 pub struct Emitted {
     pub number: u32,
     pub size: u32,
 }
 
 // The verdict on a listed record (§1.4): accepted, a state that is not final, or no rule at the place of a symbol.
-#[derive(Drop)]
+#[derive(Clone, Copy)]
 pub enum Verdict {
     Accepted,
     NotFinal,
@@ -63,7 +65,7 @@ pub enum Verdict {
 
 // What the verdict call returns (§3.8): a verdict by its numbers. A refusal has its number and zeros.
 #[repr(C)]
-#[derive(Drop)]
+#[derive(Clone, Copy)]
 pub struct Judged {
     pub number: u8,
     pub outcome: u8,
@@ -72,7 +74,7 @@ pub struct Judged {
 
 // How many symbols, states and rules a list has (§6.3).
 #[repr(C)]
-#[derive(Drop)]
+#[derive(Clone, Copy)]
 pub struct ListSizes {
     pub number: u16,
     pub symbols: u16,
@@ -82,7 +84,7 @@ pub struct ListSizes {
 
 // One value of a list (§6.3): `found` is 1 where it is there, 0 where it is not.
 #[repr(C)]
-#[derive(Drop)]
+#[derive(Clone, Copy)]
 pub struct Found {
     pub number: u16,
     pub found: u8,
@@ -91,7 +93,7 @@ pub struct Found {
 
 // A rule of a list (§6.3): the first `children` of `states` are its child states, and the others are 0.
 #[repr(C)]
-#[derive(Drop)]
+#[derive(Clone, Copy)]
 pub struct ListRule {
     pub number: u8,
     pub found: u8,

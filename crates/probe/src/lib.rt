@@ -3,6 +3,8 @@
 // `./test` checks that libkuldveth.a exports none of them. The contracts leave some of what is lent open: those of `probe_fill` and
 // `probe_store` the rows past the used ones where rows run out, that of `probe_pass` the marks past the used rows, and all marks
 // where T1 does not hold or there is not room for them.
+#![tactic(auto)]
+
 ghost use Rattle.std.specs.Prelude.{◌≡◌, true, [], ◌∷◌, ◌*◌, ◌≤◌, length};
 ghost use Rattle.model.specs.Limits.{most_rows};
 ghost use Rattle.model.specs.Terms.{record_fault};
@@ -20,7 +22,7 @@ use model::limits::MOST_ROWS;
 
 // How adding rows ended: 0 rows ran out, 1 the row and the rows used afterwards, 2 refused.
 #[repr(C)]
-#[derive(Drop)]
+#[derive(Clone, Copy)]
 pub struct Reply {
     pub code: u8,
     pub row: u16,

@@ -1,5 +1,7 @@
 // run: the run's lists: numbers looked for in them, whether they fit, and every way in which they change (§2.2).
 // Proved equal to model's tests on lists, and to the changes that specs/Changes.antt defines.
+#![tactic(auto)]
+
 ghost use Rattle.std.specs.Prelude.{◌≡◌};
 ghost use Rattle.model.specs.Base.{among, no_repeats, all_among, place_of};
 

@@ -1,4 +1,6 @@
 // products: the script program: it answers each line of standard input as soon as it is there, with the reply function (§8).
+#![tactic(auto)]
+
 ghost use Rattle.std.specs.Prelude.{◌≡◌, true, cond, ◌*◌, ◌≤◌, eqb, length, drop, replicate};
 ghost use Rattle.model.specs.Limits.{row_width};
 ghost use Rattle.text.specs.Bytes.{most_input, reply_room};
@@ -7,12 +9,12 @@ ghost use Rattle.script.specs.LineEnd.{line_end, line_at, whole_from};
 ghost use Rattle.script.specs.Turns.{TurnAs, Reached, Answered};
 ghost use Rattle.script.specs.Read.{ReadAs, RanAs};
 
-use libc::{STDIN_FILENO, STDOUT_FILENO};
 use model::limits::ROW_WIDTH;
-use text::{REPLY_ROOM, SCRIPT_ROWS, Script};
+use std::io::Read;
+use text::{MOST_INPUT, REPLY_ROOM, SCRIPT_ROWS, Script};
 
 // After a turn: the bytes of the reply, the script, and the place behind the line.
-#[derive(Drop)]
+#[derive(Clone, Copy)]
 pub struct Turned {
     pub size: usize,
     pub script: Script,
@@ -20,7 +22,7 @@ pub struct Turned {
 }
 
 // After lines: whether every reply was written, the script, and the place behind them.
-#[derive(Drop)]
+#[derive(Clone, Copy)]
 pub struct Left {
     pub written: bool,
     pub script: Script,
@@ -28,7 +30,7 @@ pub struct Left {
 }
 
 // After the whole input: whether every reply was written, and the bytes read.
-#[derive(Drop)]
+#[derive(Clone, Copy)]
 pub struct Ran {
     pub written: bool,
     pub read: usize,
@@ -64,7 +66,7 @@ fn turn(words: &mut [u32], script: Script, input: &[u8], at: usize, out: &mut [u
 }
 
 // Answers the lines from a place on: a turn and a write for each.
-fn answer(words: &mut [u32], script: Script, input: &[u8], at: usize, out: &mut [u8]) -> Left
+fn answer(rt: HostRuntime, words: &mut [u32], script: Script, input: &[u8], at: usize, out: &mut [u8]) -> Left
     requires { Reached input.now words.old script at × (reply_room ≤ length out.old) }
     ensures { Answered input.now words.new result }
 {
@@ -75,7 +77,7 @@ fn answer(words: &mut [u32], script: Script, input: &[u8], at: usize, out: &mut 
         script = turned.script;
         at = turned.next;
         let size = turned.size;
-        if !io::write_all(STDOUT_FILENO, &out[..size]) {
+        if rt.write_all(&out[..size]).is_err() {
             return Left {
                 written: false,
                 script: script,
@@ -91,15 +93,18 @@ fn answer(words: &mut [u32], script: Script, input: &[u8], at: usize, out: &mut 
 }
 
 // Reads what is there behind the bytes read so far: 0 bytes at the end of the input, at an error, and where the room is full.
-fn read_more(input: &mut [u8], read: usize) -> usize
+fn read_more(rt: HostRuntime, input: &mut [u8], read: usize) -> usize
     requires { read ≤ length input.old }
     ensures { ReadAs input.old read result input.new }
 {
     if read == input.len() {
         return 0;
     }
-    let got = libc::read(STDIN_FILENO, &mut input[read..]);
-    io::count(got, &input[read..])
+    let mut from = rt.stdin();
+    match from.read(&mut input[read..]) {
+        Ok(got) => got,
+        Err(_) => 0,
+    }
 }
 
 // How far the input can be answered: to behind its last newline, of which those before a place are known, or to its end if no more came.
@@ -123,7 +128,7 @@ fn whole(input: &[u8], at: usize, from: usize) -> usize
 }
 
 // Reads and answers in turn, until the input ends or a write fails.
-fn run(words: &mut [u32], input: &mut [u8], out: &mut [u8]) -> Ran
+fn run(rt: HostRuntime, words: &mut [u32], input: &mut [u8], out: &mut [u8]) -> Ran
     requires { (words.old ≡ replicate (row_width * script_rows) 0)
         × (length input.old ≡ most_input)
         × (reply_room ≤ length out.old) }
@@ -133,10 +138,10 @@ fn run(words: &mut [u32], input: &mut [u8], out: &mut [u8]) -> Ran
     let mut at = 0;
     let mut read = 0;
     loop {
-        let got = read_more(input, read);
+        let got = read_more(rt, input, read);
         let size = read + got;
         let end = whole(&input[..size], at, read);
-        let left = answer(words, script, &input[..end], at, out);
+        let left = answer(rt, words, script, &input[..end], at, out);
         script = left.script;
         at = left.at;
         let written = left.written;
@@ -150,9 +155,9 @@ fn run(words: &mut [u32], input: &mut [u8], out: &mut [u8]) -> Ran
     }
 }
 
-fn main() {
+fn main(rt: HostRuntime) {
     let mut words = [0u32; ROW_WIDTH * SCRIPT_ROWS];
-    let mut input = io::large_buffer();
+    let mut input = [0u8; MOST_INPUT];
     let mut out = [0u8; REPLY_ROOM];
-    run(&mut words, &mut input, &mut out);
+    run(rt, &mut words, &mut input, &mut out);
 }

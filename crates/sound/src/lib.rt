@@ -1,4 +1,6 @@
 // sound: the soundness test whole, on any words and any lists, and what it leaves for a step (§2.3).
+#![tactic(auto)]
+
 ghost use Rattle.std.specs.Prelude.{◌≡◌, true, false, ℕ, ◌<◌, ◌≤◌, eqb, length, get_or, take};
 ghost use Rattle.model.specs.Limits.{most_states};
 ghost use Rattle.model.specs.Base.{no_repeats, all_among};
@@ -122,7 +124,7 @@ fn hand_fits(
 }
 
 // How a run stands: the record in hand, the open question, whether it is accepted.
-#[derive(Drop)]
+#[derive(Clone, Copy)]
 struct Standing {
     hand: Row,
     asked: Row,

@@ -1,5 +1,7 @@
 // sound: which rows are records and contexts: T2, T3, and T4 without its last clause (§2.3).
 // Each function is equal to a definition over the marks of holes; proofs/Laws show that these are model's, where T1 holds.
+#![tactic(auto)]
+
 ghost use Rattle.std.specs.Prelude.{◌≡◌, ◌&&◌, ◌+◌, ◌≤◌};
 ghost use Rattle.model.specs.Limits.{most_rules, most_states};
 ghost use Rattle.model.specs.Base.{no_repeats, all_among};

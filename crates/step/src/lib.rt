@@ -1,5 +1,7 @@
 // step: one step over the lent words and lists, with a record in hand or with none (§4).
 // Each function mirrors its definition in model's Steps.
+#![tactic(auto)]
+
 ghost use Rattle.std.specs.Prelude.{◌≡◌, ◌+◌, ◌*◌, ◌≤◌, length};
 ghost use Rattle.model.specs.Limits.{most_contexts};
 ghost use Rattle.model.specs.Steps.{advance as advanceOf, search as search_of};

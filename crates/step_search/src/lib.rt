@@ -1,6 +1,8 @@
 // step: the search with a record in hand, one lookup a row (§4.1).
 // The leftmost innermost row outside S is exchanged for its representative while the answers agree. What a row becomes depends on the row
 // alone, so one loop from the bottom works it out for all rows, and the turns follow that. A row is in S if it is its own representative.
+#![tactic(auto)]
+
 ghost use Rattle.std.specs.Prelude.{◌≡◌, ◌*◌, ◌≤◌, ◌<◌, length, get_or, set};
 ghost use Rattle.model.specs.Limits.{row_width, most_rows};
 ghost use Rattle.model.specs.Store.{kids_at, next_row};
@@ -77,7 +79,7 @@ fn with_child(
 }
 
 // The place down of a row, plus one, or 0; the row at its spot; and the row after the exchange.
-#[derive(Drop)]
+#[derive(Clone, Copy)]
 pub struct Turn {
     pub place: u8,
     pub spot: Row,
@@ -174,7 +176,7 @@ fn descend(words: &[u32], counts: &[u8], used: u16, index: &[u16], notes: &mut [
 }
 
 // Where the search ends: at a row that is no transition, at an unknown answer, or at an answer that differs; with the record then in hand.
-#[derive(Drop)]
+#[derive(Clone, Copy)]
 pub enum Found {
     NewTransition(Row),
     Unknown(Row),

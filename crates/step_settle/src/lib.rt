@@ -1,5 +1,7 @@
 // step: how a step ends: short of something, with a question or with a proposal; settling and putting down (§4.1 to §4.3).
 // Each function mirrors its definition in model's Steps.
+#![tactic(auto)]
+
 ghost use Rattle.std.specs.Prelude.{◌≡◌};
 ghost use Rattle.step_settle.specs.Stepped.{OpenedAs};
 
@@ -12,7 +14,7 @@ pub mod putdown; // putdown.rt: the record in hand is put down with its context
 pub mod settle; // settle.rt: the first unknown answer is asked, or the automaton is proposed
 
 // How a step ended: the number of a shortage, or 0 and the lists left, with a question or with a proposal.
-#[derive(Drop)]
+#[derive(Clone, Copy)]
 pub struct Stepped {
     pub number: u8,
     pub lists: Lists,

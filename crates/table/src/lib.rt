@@ -1,5 +1,7 @@
 // table: the table of answers: answers compared, the state of a transition, the first unknown, the growth of S, T5 and T6 (§1.5).
 // A transition has MOST_CONTEXTS bytes, one for each context; transitions and representatives are places in T. Proved equal to model's Table and Steps.
+#![tactic(auto)]
+
 ghost use Rattle.std.specs.Prelude.{◌≡◌, true, ℕ, ◌+◌, ◌*◌, ◌<◌, ◌≤◌, length, get_or, take};
 ghost use Rattle.model.specs.Limits.{most_contexts, most_rules, most_states};
 ghost use Rattle.model.specs.Base.{same, among, all_among};
@@ -75,7 +77,7 @@ pub fn forget(table: &mut [u8], rules: usize)
 }
 
 // The first unknown answer, if any: the transition's place in T, and the context.
-#[derive(Drop)]
+#[derive(Clone, Copy)]
 pub enum Gap {
     Closed,
     At(u16, Context),
@@ -139,7 +141,7 @@ pub fn state_of(
 }
 
 // What S has become: more than 32 states were wanted, or its places in T.
-#[derive(Drop)]
+#[derive(Clone, Copy)]
 pub struct Growth {
     pub ok: bool,
     pub states: u16,

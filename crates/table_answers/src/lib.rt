@@ -1,5 +1,7 @@
 // table: the answers of all transitions at all contexts, whole or up to the first gap (§1.5).
 // Each transition's answers are read off its column. Proved equal to model's answers_of.
+#![tactic(auto)]
+
 ghost use Rattle.std.specs.Prelude.{◌*◌, ◌≤◌, length};
 ghost use Rattle.model.specs.Limits.{most_contexts, most_rules};
 ghost use Rattle.model.specs.Entry.{store_of, answers_in};

@@ -1,5 +1,7 @@
 // table: the answers of one transition, read off its column: one loop over the rows with a hole that the contexts need (§1.5).
 // A column is for each needed row the row that it fills to. A row comes after its hole child, and is found by what that one fills to.
+#![tactic(auto)]
+
 ghost use Rattle.std.specs.Prelude.{◌≡◌, ◌+◌, ◌*◌, ◌-◌, ◌<◌, ◌≤◌, length, get_or};
 ghost use Rattle.std.proofs.lemmas.List.Edits.{sets};
 ghost use Rattle.model.specs.Limits.{most_contexts, row_width};

@@ -1,5 +1,7 @@
 // table: the proposed automaton at work: the representative of each transition, and the verdict on stored and on listed records (§1.5).
 // A rule is found through the index: the row with this symbol over the children's representatives, if it is a transition.
+#![tactic(auto)]
+
 ghost use Rattle.std.specs.Prelude.{◌≡◌, true, cond, ℕ, ◌<◌, ◌≤◌, eqb, length, get_or, take};
 ghost use Rattle.model.specs.Limits.{most_listed, most_states};
 ghost use Rattle.model.specs.Base.{no_repeats};
@@ -173,7 +175,7 @@ fn is_final(words: &[u32], rep: Row) -> bool
 }
 
 // Where a run on a listed record ends: at the representative of its state, or stuck at the first symbol without a rule.
-#[derive(Drop)]
+#[derive(Clone, Copy)]
 pub enum Led {
     To(Row),
     Stuck(u16),

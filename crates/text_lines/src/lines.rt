@@ -5,7 +5,7 @@ ghost use Rattle.text_lines.specs.Asks.{asked_of};
 use text::MOST_INPUT;
 
 // A call that needs no record, an offer with its mark, or none of these.
-#[derive(Drop)]
+#[derive(Clone, Copy)]
 pub enum Asked {
     Nothing,
     Answer(u8),

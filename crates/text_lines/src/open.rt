@@ -8,7 +8,7 @@ ghost use Rattle.text_lines.specs.Opens.{OpenedAs};
 use model::limits::MOST_SYMBOLS;
 
 // Whether the first line was read, and how many letters it has.
-#[derive(Drop)]
+#[derive(Clone, Copy)]
 pub struct Opened {
     pub ok: bool,
     pub size: usize,

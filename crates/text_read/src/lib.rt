@@ -1,5 +1,7 @@
 // text: records read from text: the record reader and the child-list reader call each other (§8.4).
 // What is left of the text falls. Symbols are written over the text that has been read: there are never more of them than bytes before them.
+#![tactic(auto)]
+
 ghost use Rattle.std.specs.Prelude.{◌≡◌, ◌+◌, ◌-◌, ◌≤◌, length, take};
 ghost use Rattle.model.specs.Limits.{most_symbols};
 ghost use Rattle.text.specs.Bytes.{most_input};

@@ -1,5 +1,7 @@
 // text: the reply to any line of a script, from any contents (§8).
 // The output line and the script after it. Nothing is required.
+#![tactic(auto)]
+
 ghost use Rattle.std.specs.Prelude.{◌≡◌, ◌≤◌, min, length, drop};
 ghost use Rattle.model.specs.Limits.{most_symbols};
 ghost use Rattle.model.specs.Entry.{judge_seen};
@@ -22,7 +24,7 @@ use text_lines::{lines, open};
 use text_print::tell;
 
 // The bytes of a reply, and the script after it.
-#[derive(Drop)]
+#[derive(Clone, Copy)]
 pub struct Replied {
     pub size: usize,
     pub script: Script,

@@ -245,6 +245,7 @@ module _ (x : Tables) (f : Whole x) (td : Tidy x) (fw : Few x) where
   by_hand (at_new_transition h p) (ends_new fit o n e) = new_transition h p fit o n e
   by_hand (at_unknown h p rep) (ends_unknown fit o m n e z) = unknown_answer h p rep fit o m n z
   by_hand (at_difference h p rep j) (ends_different fit o m n e l z d) = different_answer h p rep j fit o m n e l z d
+  by_hand Rattle.model.specs.Steps.lost x'' = elim x'' [ ]
 
   -- on every full table with a record in hand that the proposal gets wrong
   pub hand_ok : (h : ℕ) → HandFits st w x.s x.t x.c h → HandOk x (searched x (search st w x.s x.t x.c h))

@@ -32,8 +32,8 @@ use Rattle.model.proofs.Laws.Begun.{Begun, in_hand, none_in_hand, begun_facts, s
 
 -- WHERE THE MARK IS STORED what the call does is the rest of the step
 begun_done : (x z : Tables) (k : Call) → Begins x k z → done_by x k ≡ end_of (advance z)
-begun_done x z (offers xs m) (by_offer e) = ap (λ (b : Built). end_of (taken_by x m b)) e
-begun_done x z (answers m) by_answer = refl
+begun_done x z k (by_offer {symbols = xs} {mark = m} e) = ap (λ (b : Built). end_of (taken_by x m b)) e
+begun_done x z k by_answer = refl
 
 -- HOW A STEP ENDS: short, with a question as said, or with none
 data Asking (x : Tables) : Ended → Type 0 where
@@ -100,6 +100,7 @@ module _ (x : Tables) (n : x.hand ≢ 0) (b : Begun x) (k : Core x) where
   asks_searched (at_new_transition h p) e (ends_new fit o a b) = asks_new h p e
   asks_searched (at_unknown h p rep) e (ends_unknown fit o a b c d) = asks_unknown h p rep o (k.held.row rep (k.held.among rep b)) e
   asks_searched (at_difference h p rep j) e (ends_different fit o a b c l z d) = asks_different h p rep j e
+  asks_searched Rattle.model.specs.Steps.lost e x3 = elim x3 [ ]
 
 -- A STEP from the tables with the mark stored
 asks_advance : (x : Tables) → Begun x → Asking x (advance x)

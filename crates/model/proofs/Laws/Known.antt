@@ -70,3 +70,4 @@ known_there x g (a ∷ xs) ps i u e =
     go : ((y ≡ v) × (n.row ≡ known_row v (a ∷ xs))) ⊎ ((known_row v (a ∷ xs) ≡ 0) × (used v ≤ n.row)) → known_row x (a ∷ xs) ≡ i
     go (inl (p, q)) = sym (known_room n.needed x (a ∷ xs) []) ∙ sym q ∙ row
     go (inr (p, q)) = absurd (omega (arith, q, row, u))
+known_there x g [] ps i u e = elim ps [ ]

@@ -34,6 +34,8 @@ module _ (ns : List ℕ) where
       go : In t (take n ts) ⊎ In t (drop n ts) → ((v : Tree) → In v (tree_with a (top n ts) ∷ drop n ts) → Within v made) → Within t made
       go (inl j) ih = within_trans (below (among_forest (top n ts) (in_backwards (take n ts) [] j))) (ih _ here)
       go (inr j) ih = ih t (later j)
+  ready_within parsed [] e t m = elim m [ ]
+  ready_within parsed (u ∷ []) e t (later x16) = elim x16 [ ]
 
 -- a list of states that are there
 pub some_there : (q : ℕ) (o : Option ℕ) → o ≡ some q → o ≢ none

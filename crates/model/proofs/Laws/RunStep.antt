@@ -15,7 +15,7 @@ use Rattle.model.specs.Store.{Built, full, built}
 use Rattle.model.specs.Terms.{store_from}
 use Rattle.model.specs.Table.{Tables, tables, size}
 use Rattle.model.specs.Sound.{alphabet_fits}
-use Rattle.model.specs.Steps.{Ended, asks, proposes, offered, answered, taken_by}
+use Rattle.model.specs.Steps.{Ended, short, asks, proposes, offered_tables, offered, answered, taken_by}
 use Rattle.model.specs.TableFacts.{Tidy, Open}
 use Rattle.model.specs.Calls.{is_proposing, Call, offers, answers, accept, looks, emits, judges, is_asking, phase_of, done_by, leaves, started}
 use Rattle.model.specs.Entry.{size_fits, lists_fit, rows_lent, start_number}
@@ -54,7 +54,7 @@ fresh_offer x k n d (at_proposal w a h c l e) xs m o = go (store_from x.store xs
     go full q = after_short
     go (built i y) q =
         let s = offer_step x k n w d c l e xs o.parsed (m + 1) (mark_some m) (mark_small m o.mark) o.agrees o.other_verdict i y q in
-        subst (After (k + 1) n) (sym (held_advance _ (stored_some i y q))) s
+        subst (After (k + 1) n) (sym (held_advance (offered_tables x m i y) (stored_some i y q))) s
       where
         stored_some : (i : ℕ) (y : _) → store_from x.store xs [] ≡ built i y → i ≢ 0
         stored_some i y q z =
@@ -164,6 +164,7 @@ module _ (l : Lent) (k n : ℕ) (f : FreshLent l k n) where
           shows (showing true (phase_proposes y z b)) (asking_left (offers xs m) a ∙ z) counts
           (next (size (meant (after_call l (offers xs m)))) (left_fresh (offers xs m) a (k + 1) (size (meant (after_call l (offers xs m)))) d (subst (λ (x : Tables). Fresh y (k + 1) (size x)) (sym w) r)))
           (subst (λ (x : Tables). n + 1 ≤ size x) (sym w) g)
+      go (short _) _ x4 = elim x4 [ ]
 
   answer_run : (m : ℕ) → is_taken l (answers m) ≡ true → RunStep l (answers m) k n
   answer_run m e = go (answered (meant l) m) (fresh_answer (meant l) k n f.tidy f.fresh o.0 m o.1) (ends_in (answered (meant l) m) y a.done)
@@ -195,6 +196,7 @@ module _ (l : Lent) (k n : ℕ) (f : FreshLent l k n) where
           let w = a.means in
           shows (showing true (phase_proposes y z b)) (asking_left (answers m) a ∙ z) counts
           (next (size (meant (after_call l (answers m)))) (left_fresh (answers m) a k (size (meant (after_call l (answers m)))) d (subst (λ (x : Tables). Fresh y k (size x)) (sym w) r))) (subst (λ (x : Tables). n + 1 ≤ size x) (sym w) g)
+      go (short _) _ x4 = elim x4 [ ]
 
   -- calls that leave the tables, but for the flag
   same_run : (q : Call) (a : Along l q) → takes_one l q ≡ 0 → is_shown l q ≡ false → Tidy a.left → Fresh a.left k n → is_asking a.left ≡ is_asking (meant l) → RunStep l q k n

@@ -37,6 +37,7 @@ pub data Took (x : Tables) : Call → Tables → Type 0 where
 left_of : (z y : Tables) (e : Ended) → StepOk z e → EndsIn y e → Left z y
 left_of z y (asks v) s in_asks = step_left z y (inl s)
 left_of z y (proposes v) s in_proposes = step_left z y (inr s)
+left_of z y (short _) s x3 = elim x3 [ ]
 
 -- with no answer missing the contexts are few
 pub whole_few : (x : Tables) → Whole x → Missing x ⊎ Few x → Few x
@@ -72,6 +73,7 @@ answer_ok x s a m l = go s.nearly.phase s.few
 module _ (x : Tables) (s : Sounds x) where
   took_offered : (xs : List ℕ) (m : ℕ) (y : Tables) → Offering x xs m → (e : Ended) → OfferOk x xs m e → EndsIn y e → Took x (offers xs m) y
   took_offered xs m y o e (stored_at z i k t p) q = took_offer z i o k t (left_of z y e p q)
+  took_offered xs m y o _ Rattle.model.proofs.Laws.Step.no_rows q = elim q [ ]
 
   pub took : (k : Call) (y : Tables) → fault_of x k ≡ 0 → done_by x k ≡ leaves y → Took x k y
   took (offers xs m) y f e =

@@ -37,6 +37,7 @@ states_none : (os : List (Option ℕ)) → In none os → states_of os ≡ none
 unfolding states_of
 states_none (none ∷ os) m = refl
 states_none (some q ∷ os) (later m) = rw (states_none os m)
+states_none [] m = elim m [ ]
 
 -- LISTED RECORDS: once a state is missing, the whole record has none
 module _ (rs : List Rule) (ns : List ℕ) where
@@ -55,6 +56,8 @@ module _ (rs : List Rule) (ns : List ℕ) where
       let n : ℕ = get_or ns a 0 in
       let d = length-drop n os in
       missing_stays p (leads rs a (top n os) ∷ drop n os) (omega arith) (missing_moves a n os i)
+  missing_stays parsed [] e m = elim m [ ]
+  missing_stays parsed (o ∷ []) e (later x16) = elim x16 [ ]
 
 -- the state that a run on symbols ends in
 abbrev pub ended : RunEnd → Option ℕ

@@ -1,7 +1,7 @@
 -- A table of which only rows without an unknown answer are trusted: it comes of one that was right before an answer more,
 -- or of one whose rows each begin with an unknown answer. A known answer stays where another one is set.
 use mathlib.Core.Path.{◌≡◌, refl, sym, ap, ◌∙◌}
-use mathlib.Core.Bool.{true, false, true≢false}
+use mathlib.Core.Bool.{false, true≢false}
 use mathlib.Core.List.{List}
 use Prim.Native.Nat.{ℕ, zero, suc, ◌+◌, ◌*◌, ◌≤◌, ◌<◌}
 use native.Mathlib.Omega.{arith}

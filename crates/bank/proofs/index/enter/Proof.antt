@@ -7,43 +7,43 @@ use borrow.Author.Rules.{rules}
 use Rattle.bank.proofs.index.enter.Statement.{statement}
 use Rattle.bank.proofs.index.enter.Tie as tie
 
-cast-i : tie.Need-overflow-cast-i
+cast-i : tie.Need-overflow_cast-i
 cast-i c = search rules
 
-mul-i : tie.Need-overflow-mul-i
+mul-i : tie.Need-overflow_mul-i
 mul-i c = search rules
 
-mul-index : tie.Need-overflow-mul-index
+mul-index : tie.Need-offset_bounds-index-i
 mul-index c = search rules
 
-slice-write-index : tie.Need-slice-write-index
+slice-write-index : tie.Need-bounds-index-i
 slice-write-index c = search rules
 
-add-index : tie.Need-overflow-add-index
+add-index : tie.Need-overflow_add-index
 add-index c = search rules
 
-mul-index-2 : tie.Need-overflow-mul-index-2
+mul-index-2 : tie.Need-offset_bounds-index-i-2
 mul-index-2 c = search rules
 
-slice-write-index-2 : tie.Need-slice-write-index-2
+slice-write-index-2 : tie.Need-bounds-index-i-2
 slice-write-index-2 c = simp length-set (omega arith)
 
-add-index-2 : tie.Need-overflow-add-index-2
+add-index-2 : tie.Need-overflow_add-index-2
 add-index-2 c = search rules
 
-mul-index-3 : tie.Need-overflow-mul-index-3
+mul-index-3 : tie.Need-offset_bounds-index-i-3
 mul-index-3 c = search rules
 
-slice-write-index-3 : tie.Need-slice-write-index-3
+slice-write-index-3 : tie.Need-bounds-index-i-3
 slice-write-index-3 c = simp length-set (omega arith)
 
-mul-index-4 : tie.Need-overflow-mul-index-4
+mul-index-4 : tie.Need-offset_bounds-index-slot
 mul-index-4 c = search rules
 
-slice-write-index-4 : tie.Need-slice-write-index-4
+slice-write-index-4 : tie.Need-bounds-index-slot
 slice-write-index-4 c = search rules
 
-same_length : tie.Need-same-length
+same_length : tie.Need-shape_of-index
 same_length c = search rules
 
 returns : tie.Need-returns

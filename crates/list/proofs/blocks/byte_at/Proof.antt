@@ -7,17 +7,17 @@ use borrow.Author.Rules.{rules}
 use Rattle.list.proofs.blocks.byte_at.Statement.{statement}
 use Rattle.list.proofs.blocks.byte_at.Tie as tie
 
-shared-slice-read-result : tie.Need-shared-slice-read-result
+shared-slice-read-result : tie.Need-bounds-bytes-i
 shared-slice-read-result c = search rules
 
-cast-result : tie.Need-overflow-cast-result
-cast-result c = omega (arith, c.shared-slice-known.given c.before.before.args.i)
+cast-result : tie.Need-overflow_cast-result
+cast-result c = omega (arith, c.shared_slice_known-1.given c.before.before.args.i)
 
-returns : tie.Need-returns
-returns c = (refl, (c.shared-slice-known.given c.before.before.args.i).fits)
+returns : tie.Need-returns-then-i-bytes
+returns c = (refl, (c.shared_slice_known-1.given c.before.before.args.i).fits)
 
-returns-2 : tie.Need-returns-2
-returns-2 c = (sym (get_or-eq_default c.before.args.bytes.now 0 c.if1.false), omega arith)
+returns-2 : tie.Need-returns-else-i-bytes
+returns-2 c = (sym (get_or-eq_default c.before.args.bytes.now 0 c.if-i-bytes.false), omega arith)
 
-pub byte-at-spec : {M : Type 1} → statement M
-byte-at-spec = tie.close (tie.spec shared-slice-read-result cast-result returns returns-2)
+pub byte_at_spec : {M : Type 1} → statement M
+byte_at_spec = tie.close (tie.spec shared-slice-read-result cast-result returns returns-2)

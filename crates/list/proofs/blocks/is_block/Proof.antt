@@ -12,41 +12,41 @@ use Rattle.list.proofs.Cut.{block_short, block_cut, block_kind}
 use Rattle.list.proofs.blocks.is_block.Statement.{statement}
 use Rattle.list.proofs.blocks.is_block.Tie as tie
 
-returns : tie.Need-returns
-returns c = sym (block_short c.before.before.args.kind c.before.before.args.bytes.now c.if1.true)
+returns : tie.Need-returns-then-bytes-lt6
+returns c = sym (block_short c.before.before.args.kind c.before.before.args.bytes.now c.if-bytes-lt6.true)
 
-sub-if2 : tie.Need-overflow-sub-if2
+sub-if2 : tie.Need-overflow_sub-bytes
 sub-if2 c = search rules
 
-size-at-requires : tie.Need-size-at-requires
+size-at-requires : tie.Need-size_at-requires
 size-at-requires c κs = search rules
 
-returns-2 : tie.Need-returns-2
+returns-2 : tie.Need-returns-then-bytes-size_at
 returns-2 c =
     let b : List ℕ = c.before.before.before.before.args.bytes.now in
-    sym (block_cut c.before.before.before.before.args.kind b (omega arith) (omega (arith, c.before.size-at.ensures.0)))
+    sym (block_cut c.before.before.before.before.args.kind b (omega arith) (omega (arith, c.before.size_at.ensures.0)))
 
-byte-at-requires : tie.Need-byte-at-requires
+byte-at-requires : tie.Need-byte_at-requires
 byte-at-requires c κs = search rules
 
-byte-at-requires-2 : tie.Need-byte-at-requires-2
+byte-at-requires-2 : tie.Need-byte_at-requires-2
 byte-at-requires-2 c κs = search rules
 
-mul-result : tie.Need-overflow-mul-result
+mul-result : tie.Need-overflow_mul-result
 mul-result c = search rules
 
-add-result : tie.Need-overflow-add-result
+add-result : tie.Need-overflow_add-result
 add-result c = search rules
 
-returns-3 : tie.Need-returns-3
+returns-3 : tie.Need-returns
 returns-3 c =
     let b : List ℕ = c.before.before.before.before.before.before.args.bytes.now in
     let k : ℕ = c.before.before.before.before.before.before.args.kind in
-    let e : c.before.byte_at.result + 256 * c.byte-at2.result ≡ kind_at b = omega (arith, kind_bytes b, c.before.byte_at.ensures.0, c.byte-at2.ensures.0) in
-    sym (block_kind k b (omega arith) (omega (arith, c.before.before.before.size-at.ensures.0)) ∙ ap (λ (n : ℕ). eqb n k) (sym e))
+    let e : c.before.byte_at.result + 256 * c.byte_at-2.result ≡ kind_at b = omega (arith, kind_bytes b, c.before.byte_at.ensures.0, c.byte_at-2.ensures.0) in
+    sym (block_kind k b (omega arith) (omega (arith, c.before.before.before.size_at.ensures.0)) ∙ ap (λ (n : ℕ). eqb n k) (sym e))
 
-pub is-block-spec : {M : Type 1} → statement M
-is-block-spec =
+pub is_block_spec : {M : Type 1} → statement M
+is_block_spec =
     tie.close
     (tie.spec
     returns

@@ -5,21 +5,21 @@ use Rattle.list.proofs.Cut.{rest_cut}
 use Rattle.list.proofs.blocks.rest.Statement.{statement}
 use Rattle.list.proofs.blocks.rest.Tie as tie
 
-block-len-requires : tie.Need-block-len-requires
+block-len-requires : tie.Need-block_len-end-requires
 block-len-requires c κs = search rules
 
-sub-result : tie.Need-overflow-sub-result
+sub-result : tie.Need-slice_bounds-result-count
 sub-result c = search rules
 
-part-result-start : tie.Need-slice-bounds-result-start
+part-result-start : tie.Need-slice_bounds-result-start
 part-result-start c = search rules
 
-part-result-end : tie.Need-slice-bounds-result-end
+part-result-end : tie.Need-slice_bounds-result-end
 part-result-end c = search rules
 
 returns : tie.Need-returns
-returns c = rest_cut c.before.before.before.args.bytes.now c.before.block-len.result c.before.block-len.ensures
+returns c = rest_cut c.before.before.before.args.bytes.now c.before.block_len-end.result c.before.block_len-end.ensures
 
-pub rest-spec : {M : Type 1} → statement M
-rest-spec =
+pub rest_spec : {M : Type 1} → statement M
+rest_spec =
     tie.close (tie.spec block-len-requires sub-result part-result-start part-result-end returns)

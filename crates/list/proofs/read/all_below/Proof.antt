@@ -12,50 +12,50 @@ use Rattle.list.specs.Blocks.{all_below}
 use Rattle.list.proofs.read.all_below.Statement.{statement}
 use Rattle.list.proofs.read.all_below.Tie as tie
 
-abbrev invariant-loop : tie.invariant-loop
+abbrev invariant-loop : tie.invariant-loop-i
 invariant-loop bytes bound i₀ i = (i ≤ length bytes) × (all_below bound (drop i bytes) ≡ all_below bound bytes)
 
-abbrev decreases-loop : tie.decreases-loop
+abbrev decreases-loop : tie.decreases-loop-i
 decreases-loop bytes bound i₀ i = length bytes - i
 
-loop-holds : tie.Need-loop-init invariant-loop decreases-loop
+loop-holds : tie.Need-loop-i-init invariant-loop decreases-loop
 loop-holds c = search rules
 
-byte-at-requires : tie.Need-byte-at-requires invariant-loop decreases-loop
+byte-at-requires : tie.Need-byte_at-requires invariant-loop decreases-loop
 byte-at-requires c κs = search rules
 
-returns : tie.Need-returns invariant-loop decreases-loop
+returns : tie.Need-returns-then-bound-byte_at invariant-loop decreases-loop
 returns c =
     let b = c.before in
     let s = b.before.before.before.before in
-    let l = b.before.before.loop in
-    all_fails (λ (q : ℕ). ltb q s.args.bound) s.args.bytes.now l.i (all_below s.args.bound s.args.bytes.now) l.invariant.1 b.before.loop-test.true
+    let l = b.before.before.loop-i in
+    all_fails (λ (q : ℕ). ltb q s.args.bound) s.args.bytes.now l.i (all_below s.args.bound s.args.bytes.now) l.invariant.1 b.before.loop-i-test.true
     (le-ltb (get_or s.args.bytes.now l.i 0) s.args.bound (omega (arith, b.byte_at.ensures.0)))
 
-add-i : tie.Need-overflow-add-i invariant-loop decreases-loop
+add-i : tie.Need-overflow_add-i invariant-loop decreases-loop
 add-i c = search rules
 
-loop-less : tie.Need-loop-smaller invariant-loop decreases-loop
+loop-less : tie.Need-loop-i-smaller invariant-loop decreases-loop
 loop-less c = search rules
 
-loop-again : tie.Need-loop-preserved invariant-loop decreases-loop
+loop-again : tie.Need-loop-i-preserved invariant-loop decreases-loop
 loop-again c =
     let b = c.before in
     let s = b.before.before.before.before in
-    let l = b.before.before.loop in (
+    let l = b.before.before.loop-i in (
       omega arith,
-      all_passes (λ (q : ℕ). ltb q s.args.bound) s.args.bytes.now l.i (all_below s.args.bound s.args.bytes.now) l.invariant.1 b.before.loop-test.true
+      all_passes (λ (q : ℕ). ltb q s.args.bound) s.args.bytes.now l.i (all_below s.args.bound s.args.bytes.now) l.invariant.1 b.before.loop-i-test.true
           (lt-ltb (get_or s.args.bytes.now l.i 0) s.args.bound (omega (arith, b.byte_at.ensures.0))),
     )
 
-returns-2 : tie.Need-returns-2 invariant-loop decreases-loop
+returns-2 : tie.Need-returns invariant-loop decreases-loop
 returns-2 c =
     let s = c.before.before.before in
-    let l = c.before.loop in
-    all_ends (λ (q : ℕ). ltb q s.args.bound) s.args.bytes.now l.i (all_below s.args.bound s.args.bytes.now) l.invariant.1 c.loop-test.false
+    let l = c.before.loop-i in
+    all_ends (λ (q : ℕ). ltb q s.args.bound) s.args.bytes.now l.i (all_below s.args.bound s.args.bytes.now) l.invariant.1 c.loop-i-test.false
 
-pub all-below-spec : {M : Type 1} → statement M
-all-below-spec =
+pub all_below_spec : {M : Type 1} → statement M
+all_below_spec =
     tie.close
     (tie.spec
     invariant-loop

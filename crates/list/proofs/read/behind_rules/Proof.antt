@@ -12,22 +12,22 @@ use Rattle.list.proofs.read.behind_rules.Tie as tie
 refused-requires : tie.Need-refused-requires
 refused-requires c κs = search rules
 
-returns : tie.Need-returns
-returns c = λ ns fs rs e. c.refused.ensures ∙ ap loaded_by (sym (behind_some ns fs rs c.before.before.before.args.bytes.now c.before.if1.true))
+returns : tie.Need-returns-then-bytes-gt0
+returns c = λ ns fs rs e. c.refused.ensures ∙ ap loaded_by (sym (behind_some ns fs rs c.before.before.before.args.bytes.now c.before.if-bytes-gt0.true))
 
-refused-requires-2 : tie.Need-refused-requires-2
+refused-requires-2 : tie.Need-refused-requires-then-count-gt-MOST_RULES
 refused-requires-2 c κs = search rules
 
-returns-2 : tie.Need-returns-2
+returns-2 : tie.Need-returns-then-count-gt-MOST_RULES
 returns-2 c = λ ns fs rs e.
-    c.refused2.ensures ∙ ap loaded_by (sym (behind_many ns fs rs c.before.before.before.before.args.bytes.now (omega (arith, e, c.before.if2.true))))
+    c.refused-then-count-gt-MOST_RULES.ensures ∙ ap loaded_by (sym (behind_many ns fs rs c.before.before.before.before.args.bytes.now (omega (arith, e, c.before.if-count-gt-MOST_RULES.true))))
 
-cast-t5 : tie.Need-overflow-cast-t5
+cast-t5 : tie.Need-overflow_cast-result
 cast-t5 c = search rules
 
-returns-3 : tie.Need-returns-3
+returns-3 : tie.Need-returns
 returns-3 c = λ ns fs rs e.
-    sym (behind_none ns fs rs c.before.before.before.args.bytes.now (omega (arith, c.before.if1.false)) c.before.before.before.args.count e (omega (arith, c.if2.false)))
+    sym (behind_none ns fs rs c.before.before.before.args.bytes.now (omega (arith, c.before.if-bytes-gt0.false)) c.before.before.before.args.count e (omega (arith, c.if-count-gt-MOST_RULES.false)))
 
-pub behind-rules-spec : {M : Type 1} → statement M
-behind-rules-spec = tie.close (tie.spec refused-requires returns refused-requires-2 returns-2 cast-t5 returns-3)
+pub behind_rules_spec : {M : Type 1} → statement M
+behind_rules_spec = tie.close (tie.spec refused-requires returns refused-requires-2 returns-2 cast-t5 returns-3)

@@ -12,57 +12,57 @@ use Rattle.list.proofs.Reading.{finals_none, finals_unfit, finals_read}
 use Rattle.list.proofs.read.read_finals.Statement.{statement}
 use Rattle.list.proofs.read.read_finals.Tie as tie
 
-is-block-requires : tie.Need-is-block-requires
+is-block-requires : tie.Need-is_block-requires
 is-block-requires c κs = search rules
 
 refused-requires : tie.Need-refused-requires
 refused-requires c κs = search rules
 
-returns : tie.Need-returns
+returns : tie.Need-returns-then-not-is_block
 returns c =
     let b = c.before.before in
     let a = b.before.before.before.args in
-    c.refused.ensures ∙ ap loaded_by (sym (finals_none a.counts.now a.bytes.now (sym b.is_block.ensures ∙ not-true b.is_block.result c.before.if1.true)))
+    c.refused.ensures ∙ ap loaded_by (sym (finals_none a.counts.now a.bytes.now (sym b.is_block.ensures ∙ not-true b.is_block.result c.before.if-not-is_block.true-raw)))
 
-body-requires : tie.Need-body-requires
+body-requires : tie.Need-body-finals-requires
 body-requires c κs = search rules
 
-finals-fit-requires : tie.Need-finals-fit-requires
+finals-fit-requires : tie.Need-finals_fit-requires
 finals-fit-requires c κs = search rules
 
-refused-requires-2 : tie.Need-refused-requires-2
+refused-requires-2 : tie.Need-refused-requires-then-not-finals_fit
 refused-requires-2 c κs = search rules
 
-returns-2 : tie.Need-returns-2
+returns-2 : tie.Need-returns-then-not-finals_fit
 returns-2 c =
     let f = c.before.before in
     let b = f.before.before.before in
     let a = b.before.before.before.args in
-    c.refused2.ensures ∙
-    ap loaded_by (sym (finals_unfit a.counts.now a.bytes.now (sym b.is_block.ensures ∙ not-false b.is_block.result f.before.before.if1.false)
-    (ap finals_fit (sym f.before.body.ensures) ∙ sym f.finals_fit_law.ensures ∙ not-true f.finals_fit_law.result c.before.if2.true)))
+    c.refused-then-not-finals_fit.ensures ∙
+    ap loaded_by (sym (finals_unfit a.counts.now a.bytes.now (sym b.is_block.ensures ∙ not-false b.is_block.result f.before.before.if-not-is_block.false-raw)
+    (ap finals_fit (sym f.before.body-finals.ensures) ∙ sym f.finals_fit.ensures ∙ not-true f.finals_fit.result c.before.if-not-finals_fit.true-raw)))
 
 rest-requires : tie.Need-rest-requires
 rest-requires c κs = search rules
 
-read-rules-requires : tie.Need-read-rules-requires
+read-rules-requires : tie.Need-read_rules-requires
 read-rules-requires c κs =
     let f = c.before.before in
-    (f.before.before.before.before.before.before.requires, sym f.finals_fit_law.ensures ∙ not-false f.finals_fit_law.result c.before.if2.false)
+    (f.before.before.before.before.before.before.requires, sym f.finals_fit.ensures ∙ not-false f.finals_fit.result c.before.if-not-finals_fit.false-raw)
 
-returns-3 : tie.Need-returns-3
+returns-3 : tie.Need-returns
 returns-3 c =
     let f = c.before.before.before in
     let b = f.before.before.before in
     let a = b.before.before.before.args in
-    c.read-rules.ensures ∙
-    ap (λ (us : List ℕ). loaded_by (read_rules a.counts.now us c.before.rest.result.now)) f.before.body.ensures ∙
+    c.read_rules.ensures ∙
+    ap (λ (us : List ℕ). loaded_by (read_rules a.counts.now us c.before.rest.result.now)) f.before.body-finals.ensures ∙
     ap (λ (us : List ℕ). loaded_by (read_rules a.counts.now (body_at a.bytes.now) us)) c.before.rest.ensures ∙
-    ap loaded_by (sym (finals_read a.counts.now a.bytes.now (sym b.is_block.ensures ∙ not-false b.is_block.result f.before.before.if1.false)
-    (ap finals_fit (sym f.before.body.ensures) ∙ sym f.finals_fit_law.ensures ∙ not-false f.finals_fit_law.result c.before.before.if2.false)))
+    ap loaded_by (sym (finals_read a.counts.now a.bytes.now (sym b.is_block.ensures ∙ not-false b.is_block.result f.before.before.if-not-is_block.false-raw)
+    (ap finals_fit (sym f.before.body-finals.ensures) ∙ sym f.finals_fit.ensures ∙ not-false f.finals_fit.result c.before.before.if-not-finals_fit.false-raw)))
 
-pub read-finals-spec : {M : Type 1} → statement M
-read-finals-spec =
+pub read_finals_spec : {M : Type 1} → statement M
+read_finals_spec =
     tie.close
     (tie.spec
     is-block-requires

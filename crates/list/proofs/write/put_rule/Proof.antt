@@ -11,69 +11,69 @@ use Rattle.list.proofs.write.put_rule.Statement.{statement}
 use Rattle.list.proofs.write.put_rule.Tie as tie
 
 abbrev After-head : Type 0
-After-head = tie.After-put-head
+After-head = tie.After-put_head-after
 
 abbrev start : After-head → tie.Start
 start h = h.before.before.before.before.before.before.before
 
-width_is : (h : After-head) → h.before.before.width.result ≡ flat_width (start h).args.counts.now (get_or (start h).args.rules.now 0 0)
-width_is h = h.before.before.width.ensures ∙ ap (flat_width (start h).args.counts.now) h.before.before.before.byte_at.ensures.0
+width_is : (h : After-head) → h.before.before.width-n.result ≡ flat_width (start h).args.counts.now (get_or (start h).args.rules.now 0 0)
+width_is h = h.before.before.width-n.ensures ∙ ap (flat_width (start h).args.counts.now) h.before.before.before.byte_at.ensures.0
 
-byte-at-requires : tie.Need-byte-at-requires
+byte-at-requires : tie.Need-byte_at-requires
 byte-at-requires c κs = search rules
 
-width-requires : tie.Need-width-requires
+width-requires : tie.Need-width-n-requires
 width-requires c κs = search rules
 
-add-put-head : tie.Need-overflow-add-put-head
+add-put-head : tie.Need-overflow_add-n
 add-put-head c = search rules
 
-put-head-requires : tie.Need-put-head-requires
+put-head-requires : tie.Need-put_head-after-requires
 put-head-requires c κs = search rules
 
-add-end : tie.Need-overflow-add-end
+add-end : tie.Need-overflow_add-end
 add-end c = search rules
 
-sub-put-bytes : tie.Need-overflow-sub-put-bytes
+sub-put-bytes : tie.Need-slice_bounds-put_bytes-count
 sub-put-bytes c = search rules
 
-part-put-bytes-start : tie.Need-slice-bounds-put-bytes-start
+part-put-bytes-start : tie.Need-slice_bounds-put_bytes-start
 part-put-bytes-start c = search rules
 
-part-put-bytes-end : tie.Need-slice-bounds-put-bytes-end
+part-put-bytes-end : tie.Need-slice_bounds-put_bytes-end
 part-put-bytes-end c = search rules
 
-put-bytes-requires : tie.Need-put-bytes-requires
+put-bytes-requires : tie.Need-put_bytes-last-requires
 put-bytes-requires c κs =
     let h : After-head = c.before.before.before.before in
     let s = start h in
-    let k : length h.put-head.new.0 ≡ length s.args.out.now = h.put-head.auto.0 in
-    let g : h.put-head.result + length (take (h.before.before.width.result + 1 - 0) s.args.rules.now) ≤ length h.put-head.new.0 =
-    omega (arith, h.put-head.ensures.0, s.pre.1, width_is h, flat_states s.args.counts.now s.args.rules.now s.pre.0, part_long s.args.counts.now s.args.rules.now s.pre.0 h.before.before.width.result (width_is h)) in
+    let k : length h.put_head-after.new.out ≡ length s.args.out.now = h.put_head-after.auto.out in
+    let g : h.put_head-after.result + length (take (h.before.before.width-n.result + 1 - 0) s.args.rules.now) ≤ length h.put_head-after.new.out =
+    omega (arith, h.put_head-after.ensures.0, s.requires.1, width_is h, flat_states s.args.counts.now s.args.rules.now s.requires.0, part_long s.args.counts.now s.args.rules.now s.requires.0 h.before.before.width-n.result (width_is h)) in
     g
 
-sub-put-bytes-2 : tie.Need-overflow-sub-put-bytes-2
+sub-put-bytes-2 : tie.Need-slice_bounds-put_bytes-count-2
 sub-put-bytes-2 c = search rules
 
-part-put-bytes-start-2 : tie.Need-slice-bounds-put-bytes-start-2
+part-put-bytes-start-2 : tie.Need-slice_bounds-put_bytes-start-2
 part-put-bytes-start-2 c = search rules
 
-part-put-bytes-end-2 : tie.Need-slice-bounds-put-bytes-end-2
+part-put-bytes-end-2 : tie.Need-slice_bounds-put_bytes-end-2
 part-put-bytes-end-2 c = search rules
 
-put-bytes-requires-2 : tie.Need-put-bytes-requires-2
+put-bytes-requires-2 : tie.Need-put_bytes-requires
 put-bytes-requires-2 c κs =
     let b = c.before.before.before.before in
     let h : After-head = b.before.before.before.before.before in
     let s = start h in
-    let k : length h.put-head.new.0 ≡ length s.args.out.now = h.put-head.auto.0 in
-    let j : length b.put-bytes.new.0 ≡ length h.put-head.new.0 = b.put-bytes.auto.0 in
-    let e : b.put-bytes.result ≡ h.put-head.result + length (take (h.before.before.width.result + 1 - 0) s.args.rules.now) = b.put-bytes.ensures.0 in
-    let g : b.put-bytes.result + length (take 1 (drop 5 s.args.rules.now)) ≤ length b.put-bytes.new.0 =
-    omega (arith, h.put-head.ensures.0, s.pre.1, width_is h, flat_states s.args.counts.now s.args.rules.now s.pre.0, part_long s.args.counts.now s.args.rules.now s.pre.0 h.before.before.width.result (width_is h), last_long s.args.counts.now s.args.rules.now s.pre.0 h.before.before.width.result (width_is h)) in
+    let k : length h.put_head-after.new.out ≡ length s.args.out.now = h.put_head-after.auto.out in
+    let j : length b.put_bytes-last.new.out ≡ length h.put_head-after.new.out = b.put_bytes-last.auto.out in
+    let e : b.put_bytes-last.result ≡ h.put_head-after.result + length (take (h.before.before.width-n.result + 1 - 0) s.args.rules.now) = b.put_bytes-last.ensures.0 in
+    let g : b.put_bytes-last.result + length (take 1 (drop 5 s.args.rules.now)) ≤ length b.put_bytes-last.new.out =
+    omega (arith, h.put_head-after.ensures.0, s.requires.1, width_is h, flat_states s.args.counts.now s.args.rules.now s.requires.0, part_long s.args.counts.now s.args.rules.now s.requires.0 h.before.before.width-n.result (width_is h), last_long s.args.counts.now s.args.rules.now s.requires.0 h.before.before.width-n.result (width_is h)) in
     g
 
-same_length : tie.Need-same-length
+same_length : tie.Need-shape_of-out
 same_length c = search rules
 
 returns : tie.Need-returns
@@ -82,15 +82,15 @@ returns c =
     let b = d.before.before.before.before.before in
     let h : After-head = b.before.before.before.before.before in
     let s = start h in
-    let n = h.before.before.width.result in
+    let n = h.before.before.width-n.result in
     let w = width_is h in
-    let l = flat_states s.args.counts.now s.args.rules.now s.pre.0 in (
-      omega (arith, h.put-head.ensures.0, b.put-bytes.ensures.0, d.put-bytes2.ensures.0, part_long s.args.counts.now s.args.rules.now s.pre.0 n w, last_long s.args.counts.now s.args.rules.now s.pre.0 n w),
-      rule_put s.args.counts.now s.args.rules.now s.pre.0 n w s.args.at h.put-head.result b.put-bytes.result s.args.out.now (omega (arith, s.pre.1)) h.put-head.ensures.0 b.put-bytes.ensures.0 h.put-head.ensures.1 b.put-bytes.ensures.1 d.put-bytes2.ensures.1,
+    let l = flat_states s.args.counts.now s.args.rules.now s.requires.0 in (
+      omega (arith, h.put_head-after.ensures.0, b.put_bytes-last.ensures.0, d.put_bytes.ensures.0, part_long s.args.counts.now s.args.rules.now s.requires.0 n w, last_long s.args.counts.now s.args.rules.now s.requires.0 n w),
+      rule_put s.args.counts.now s.args.rules.now s.requires.0 n w s.args.at h.put_head-after.result b.put_bytes-last.result s.args.out.now (omega (arith, s.requires.1)) h.put_head-after.ensures.0 b.put_bytes-last.ensures.0 h.put_head-after.ensures.1 b.put_bytes-last.ensures.1 d.put_bytes.ensures.1,
     )
 
-pub put-rule-spec : {M : Type 1} → statement M
-put-rule-spec =
+pub put_rule_spec : {M : Type 1} → statement M
+put_rule_spec =
     tie.close
     (tie.spec
     byte-at-requires

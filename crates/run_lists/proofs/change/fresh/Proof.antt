@@ -7,21 +7,21 @@ use Rattle.model.specs.declared.Lists.{Lists}
 use Rattle.run_lists.proofs.change.fresh.Statement.{statement}
 use Rattle.run_lists.proofs.change.fresh.Tie as tie
 
-spread-requires : tie.Need-spread-requires
+spread-requires : tie.Need-spread-wide-requires
 spread-requires c κs = search rules
 
-zeros-requires : tie.Need-zeros-requires
+zeros-requires : tie.Need-zeros-left-requires
 zeros-requires c κs = search rules
 
-cast-left : tie.Need-overflow-cast-left
+cast-left : tie.Need-overflow_cast-left
 cast-left c = search rules
 
 returns : tie.Need-returns
 returns c =
     let s = c.before.before.before in
-    let z : c.zeros.result ≡ zero_lists = c.zeros.ensures in
-    let w = c.before.spread.ensures in
+    let z : c.zeros-left.result ≡ zero_lists = c.zeros-left.ensures in
+    let w = c.before.spread-wide.ensures in
     λ i. changed (z i) (length s.args.counts.now) (w i) (z i).accepted 1 (z i).states (z i).s (z i).rules (z i).t 1 (z i).c (z i).hand (z i).asked
 
-pub fresh-spec : {M : Type 1} → statement M
-fresh-spec = tie.close (tie.spec spread-requires zeros-requires cast-left returns)
+pub fresh_spec : {M : Type 1} → statement M
+fresh_spec = tie.close (tie.spec spread-requires zeros-requires cast-left returns)

@@ -11,47 +11,47 @@ use Rattle.run_lists.proofs.Laws.Alphabet.{small, no_letters, many_letters, coun
 use Rattle.run_lists.proofs.fit.alphabet_fits.Statement.{statement}
 use Rattle.run_lists.proofs.fit.alphabet_fits.Tie as tie
 
-abbrev invariant-loop : tie.invariant-loop
+abbrev invariant-loop : tie.invariant-loop-a
 invariant-loop counts a₀ a = (a ≤ length counts) × (all small (drop a counts) ≡ all small counts)
 
-abbrev decreases-loop : tie.decreases-loop
+abbrev decreases-loop : tie.decreases-loop-a
 decreases-loop counts a₀ a = length counts - a
 
-returns : tie.Need-returns invariant-loop decreases-loop
-returns c = no_letters c.before.args.counts.now c.if1.true
+returns : tie.Need-returns-then-counts-eq0 invariant-loop decreases-loop
+returns c = no_letters c.before.args.counts.now c.if-counts-eq0.true
 
-returns-2 : tie.Need-returns-2 invariant-loop decreases-loop
-returns-2 c = many_letters c.before.before.args.counts.now c.before.if1.false c.if2.true
+returns-2 : tie.Need-returns-then-counts-gt-MOST_SYMBOLS invariant-loop decreases-loop
+returns-2 c = many_letters c.before.before.args.counts.now c.before.if-counts-eq0.false c.if-counts-gt-MOST_SYMBOLS.true
 
-loop-holds : tie.Need-loop-init invariant-loop decreases-loop
+loop-holds : tie.Need-loop-a-init invariant-loop decreases-loop
 loop-holds c = (omega arith, refl)
 
-shared-slice-read-if3 : tie.Need-shared-slice-read-if3 invariant-loop decreases-loop
+shared-slice-read-if3 : tie.Need-bounds-counts-a invariant-loop decreases-loop
 shared-slice-read-if3 c = search rules
 
-returns-3 : tie.Need-returns-3 invariant-loop decreases-loop
+returns-3 : tie.Need-returns-then-counts-a-gt4 invariant-loop decreases-loop
 returns-3 c =
     let s = c.before.before.before in
     let ns = s.before.before.before.args.counts.now in
-    all_fails small ns s.loop.a _ (s.loop.invariant.1 ∙ counts_decide ns s.before.before.if1.false s.before.if2.false) c.before.before.loop-test.true (lt-leb _ _ c.if3.true)
+    all_fails small ns s.loop-a.a _ (s.loop-a.invariant.1 ∙ counts_decide ns s.before.before.if-counts-eq0.false s.before.if-counts-gt-MOST_SYMBOLS.false) c.before.before.loop-a-test.true (lt-leb _ _ c.if-counts-a-gt4.true)
 
-add_a : tie.Need-overflow-add-a invariant-loop decreases-loop
+add_a : tie.Need-overflow_add-a invariant-loop decreases-loop
 add_a c = search rules
 
-loop-less : tie.Need-loop-smaller invariant-loop decreases-loop
+loop-less : tie.Need-loop-a-smaller invariant-loop decreases-loop
 loop-less c = search rules
 
-loop-again : tie.Need-loop-preserved invariant-loop decreases-loop
-loop-again c = let s = c.before.before.before in (omega arith, all_passes small _ s.loop.a _ s.loop.invariant.1 c.before.before.loop-test.true (le-leb _ _ c.if3.false))
+loop-again : tie.Need-loop-a-preserved invariant-loop decreases-loop
+loop-again c = let s = c.before.before.before in (omega arith, all_passes small _ s.loop-a.a _ s.loop-a.invariant.1 c.before.before.loop-a-test.true (le-leb _ _ c.if-counts-a-gt4.false))
 
-returns-4 : tie.Need-returns-4 invariant-loop decreases-loop
+returns-4 : tie.Need-returns invariant-loop decreases-loop
 returns-4 c =
     let s = c.before in
     let ns = s.before.before.before.args.counts.now in
-    all_ends small ns s.loop.a _ (s.loop.invariant.1 ∙ counts_decide ns s.before.before.if1.false s.before.if2.false) c.loop-test.false
+    all_ends small ns s.loop-a.a _ (s.loop-a.invariant.1 ∙ counts_decide ns s.before.before.if-counts-eq0.false s.before.if-counts-gt-MOST_SYMBOLS.false) c.loop-a-test.false
 
-pub alphabet-fits-spec : {M : Type 1} → statement M
-alphabet-fits-spec =
+pub alphabet_fits_spec : {M : Type 1} → statement M
+alphabet_fits_spec =
     tie.close
     (tie.spec
     invariant-loop

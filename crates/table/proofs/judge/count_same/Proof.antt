@@ -14,59 +14,59 @@ use Rattle.table.proofs.Laws.Judge.{counts_one, counts_none, counts_end}
 use Rattle.table.proofs.judge.count_same.Statement.{statement}
 use Rattle.table.proofs.judge.count_same.Tie as tie
 
-abbrev invariant-loop : tie.invariant-loop
+abbrev invariant-loop : tie.invariant-loop-q
 invariant-loop table rules contexts s_in_t states a n₀ q₀ n q =
     (q ≤ states) × (n ≤ q) × (n + count_same (answers_at table contexts a) (map (answers_at table contexts) (drop q (take states s_in_t))) ≡ count_same (answers_at table contexts a) (map (answers_at table contexts) (take states s_in_t)))
 
-abbrev decreases-loop : tie.decreases-loop
+abbrev decreases-loop : tie.decreases-loop-q
 decreases-loop table rules contexts s_in_t states a n₀ q₀ n q = states - q
 
-loop-holds : tie.Need-loop-init invariant-loop decreases-loop
+loop-holds : tie.Need-loop-q-init invariant-loop decreases-loop
 loop-holds c = (search rules, search rules, omega arith)
 
-mul-same-answers : tie.Need-overflow-mul-same-answers invariant-loop decreases-loop
+mul-same-answers : tie.Need-offset_bounds-s_in_t-q invariant-loop decreases-loop
 mul-same-answers c = search rules
 
-element-copy-out-same-answers : tie.Need-element-copy-out-same-answers invariant-loop decreases-loop
+element-copy-out-same-answers : tie.Need-bounds-s_in_t-q invariant-loop decreases-loop
 element-copy-out-same-answers c = search rules
 
-cast-same-answers : tie.Need-overflow-cast-same-answers invariant-loop decreases-loop
-cast-same-answers c = omega (arith, c.before.before.before.before.requires.2.within c.before.before.loop.q (omega arith))
+cast-same-answers : tie.Need-overflow_cast-s_in_t invariant-loop decreases-loop
+cast-same-answers c = omega (arith, c.before.before.before.before.requires.2.within c.before.before.loop-q.q (omega arith))
 
-same-answers-requires : tie.Need-same-answers-requires invariant-loop decreases-loop
+same-answers-requires : tie.Need-same_answers-requires invariant-loop decreases-loop
 same-answers-requires c κs =
     let s = c.before.before.before.before in
-    (sized_to s.requires.0 s.args.a s.requires.1, sized_to s.requires.0 (get_or s.args.s_in_t.now c.before.before.loop.q 0) (s.requires.2.within c.before.before.loop.q (omega arith)))
+    (sized_to s.requires.0 s.args.a s.requires.1, sized_to s.requires.0 (get_or s.args.s_in_t.now c.before.before.loop-q.q 0) (s.requires.2.within c.before.before.loop-q.q (omega arith)))
 
-add-n : tie.Need-overflow-add-n invariant-loop decreases-loop
+add-n : tie.Need-overflow_add-n invariant-loop decreases-loop
 add-n c = search rules
 
-add-q : tie.Need-overflow-add-q invariant-loop decreases-loop
+add-q : tie.Need-overflow_add-q invariant-loop decreases-loop
 add-q c = search rules
 
-loop-less : tie.Need-loop-smaller invariant-loop decreases-loop
+loop-less : tie.Need-loop-q-smaller invariant-loop decreases-loop
 loop-less c = search rules
 
-loop-again : tie.Need-loop-preserved invariant-loop decreases-loop
+loop-again : tie.Need-loop-q-preserved invariant-loop decreases-loop
 loop-again c =
     let s = c.before.before.before.before.before.before in
-    let l = c.before.before.before.before.loop in
-    let d = c.before.same-answers in
+    let l = c.before.before.before.before.loop-q in
+    let d = c.before.same_answers in
     let i : l.q < s.args.states = omega arith in
     ⊎_elim
-    (λ w. let e = counts_one (answers_at s.args.table.now s.args.contexts) s.args.states s.args.s_in_t.now (omega (arith, s.requires.2.long, s.requires.2.few)) l.q (answers_at s.args.table.now s.args.contexts s.args.a) i (sym d.ensures ∙ w.0.taken) in (omega arith, omega (arith, w.1), omega (arith, w.1)))
-    (λ w. let e = counts_none (answers_at s.args.table.now s.args.contexts) s.args.states s.args.s_in_t.now (omega (arith, s.requires.2.long, s.requires.2.few)) l.q (answers_at s.args.table.now s.args.contexts s.args.a) i (sym d.ensures ∙ w.0.left) in (omega arith, omega (arith, w.1), omega (arith, w.1)))
-    c.if1.branch
+    (λ w. let e = counts_one (answers_at s.args.table.now s.args.contexts) s.args.states s.args.s_in_t.now (omega (arith, s.requires.2.long, s.requires.2.few)) l.q (answers_at s.args.table.now s.args.contexts s.args.a) i (sym d.ensures ∙ w.if-same_answers.true) in (omega arith, omega (arith, w.n-is), omega (arith, w.n-is)))
+    (λ w. let e = counts_none (answers_at s.args.table.now s.args.contexts) s.args.states s.args.s_in_t.now (omega (arith, s.requires.2.long, s.requires.2.few)) l.q (answers_at s.args.table.now s.args.contexts s.args.a) i (sym d.ensures ∙ w.if-same_answers.false) in (omega arith, omega (arith, w.n-is), omega (arith, w.n-is)))
+    c.if-same_answers.branch-raw
 
 returns : tie.Need-returns invariant-loop decreases-loop
 returns c =
     let s = c.before.before.before in
-    let l = c.before.loop in
+    let l = c.before.loop-q in
     let e = counts_end (answers_at s.args.table.now s.args.contexts) s.args.states s.args.s_in_t.now (omega (arith, s.requires.2.long, s.requires.2.few)) l.q (answers_at s.args.table.now s.args.contexts s.args.a) (omega arith) in
     omega arith
 
-pub count-same-spec : {M : Type 1} → statement M
-count-same-spec =
+pub count_same_spec : {M : Type 1} → statement M
+count_same_spec =
     tie.close
     (tie.spec
     invariant-loop
