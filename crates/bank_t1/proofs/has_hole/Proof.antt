@@ -5,14 +5,14 @@ use borrow.Author.Tests.{eq-eqb, ne_eqb}
 use Rattle.bank_t1.proofs.has_hole.Statement.{statement}
 use Rattle.bank_t1.proofs.has_hole.Tie as tie
 
-returns : tie.Need-returns
-returns c = simp (eq-eqb _ _ c.if1.true)
+returns : tie.Need-returns-then-row-eq0
+returns c = simp (eq-eqb _ _ c.if-row-eq0.true)
 
-hole-of-requires : tie.Need-hole-of-requires
+hole-of-requires : tie.Need-hole_of-requires
 hole-of-requires c κs = search rules
 
-returns-2 : tie.Need-returns-2
-returns-2 c = simp (ne_eqb _ _ c.before.if1.false, c.hole_of_law.ensures)
+returns-2 : tie.Need-returns
+returns-2 c = simp (ne_eqb _ _ c.before.if-row-eq0.false, c.hole_of.ensures)
 
-pub has-hole-spec : {M : Type 1} → statement M
-has-hole-spec = tie.close (tie.spec returns hole-of-requires returns-2)
+pub has_hole_spec : {M : Type 1} → statement M
+has_hole_spec = tie.close (tie.spec returns hole-of-requires returns-2)

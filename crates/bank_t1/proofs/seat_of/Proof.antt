@@ -8,10 +8,10 @@ use Rattle.bank.specs.Index.{find_in, Seat}
 use Rattle.bank_t1.proofs.seat_of.Statement.{statement}
 use Rattle.bank_t1.proofs.seat_of.Tie as tie
 
-symbol-of-requires : tie.Need-symbol-of-requires
+symbol-of-requires : tie.Need-symbol_of-symbol-requires
 symbol-of-requires c κs = search rules
 
-places-of-requires : tie.Need-places-of-requires
+places-of-requires : tie.Need-places_of-places-requires
 places-of-requires c κs = search rules
 
 seek-requires : tie.Need-seek-requires
@@ -22,7 +22,7 @@ own ws xs n r a b ps qs p q s =
     subst (λ (t : List ℕ). Seat xs b t r × (get_or xs r 0 ≡ find_in ws n b t)) q (subst (λ (t : ℕ). Seat xs t ps r × (get_or xs r 0 ≡ find_in ws n t ps)) p s)
 
 returns : tie.Need-returns
-returns c = own _ _ _ _ _ _ _ _ c.before.before.symbol-of.ensures c.before.places_of.ensures c.seek.ensures
+returns c = own _ _ _ _ _ _ _ _ c.before.before.symbol_of-symbol.ensures c.before.places_of-places.ensures c.seek.ensures
 
-pub seat-of-spec : {M : Type 1} → statement M
-seat-of-spec = tie.close (tie.spec symbol-of-requires places-of-requires seek-requires returns)
+pub seat_of_spec : {M : Type 1} → statement M
+seat_of_spec = tie.close (tie.spec symbol-of-requires places-of-requires seek-requires returns)
