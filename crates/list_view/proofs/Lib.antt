@@ -3,5 +3,4 @@ pub mod Views
 pub mod Fits
 pub mod Loads
 pub mod Wholes
-pub mod Parts
 pub mod Promises

@@ -11,11 +11,11 @@ use Rattle.list_view.proofs.lookup.count_in.Tie as tie
 body-requires : tie.Need-body-requires
 body-requires c κs = search rules
 
-octet-at-requires : tie.Need-octet-at-requires
+octet-at-requires : tie.Need-octet_at-requires
 octet-at-requires c κs = search rules
 
 returns : tie.Need-returns
-returns c = c.octet-at.ensures ∙ ap (λ (us : List ℕ). get_or us c.before.before.before.args.symbol 0) c.before.body.ensures
+returns c = c.octet_at.ensures ∙ ap (λ (us : List ℕ). get_or us c.before.before.before.args.symbol 0) c.before.body.ensures
 
-pub count-in-spec : {M : Type 1} → statement M
-count-in-spec = tie.close (tie.spec body-requires octet-at-requires returns)
+pub count_in_spec : {M : Type 1} → statement M
+count_in_spec = tie.close (tie.spec body-requires octet-at-requires returns)

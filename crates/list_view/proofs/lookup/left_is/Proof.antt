@@ -9,27 +9,27 @@ use Rattle.list.proofs.Fits.{left_other, left_states}
 use Rattle.list_view.proofs.lookup.left_is.Statement.{statement}
 use Rattle.list_view.proofs.lookup.left_is.Tie as tie
 
-byte-at-requires : tie.Need-byte-at-requires
+byte-at-requires : tie.Need-byte_at-requires
 byte-at-requires c κs = search rules
 
-returns : tie.Need-returns
+returns : tie.Need-returns-then-byte_at-symbol
 returns c =
     let s = c.before.before.before.before in
-    sym (left_other s.args.body.now s.args.symbol s.args.states.now (λ e. c.if1.true (c.before.byte_at.ensures.0 ∙ e)))
+    sym (left_other s.args.body.now s.args.symbol s.args.states.now (λ e. c.if-byte_at-symbol.true (c.before.byte_at.ensures.0 ∙ e)))
 
-states-in-requires : tie.Need-states-in-requires
+states-in-requires : tie.Need-states_in-requires
 states-in-requires c κs = search rules
 
-same-bytes-requires : tie.Need-same-bytes-requires
+same-bytes-requires : tie.Need-same_bytes-requires
 same-bytes-requires c κs = search rules
 
-returns-2 : tie.Need-returns-2
+returns-2 : tie.Need-returns
 returns-2 c =
     let b = c.before.before.before in
     let s = b.before.before.before in
-    c.same_bytes.ensures ∙ ap (λ (qs : List ℕ). same qs s.args.states.now) c.before.states-in.ensures ∙
-    sym (left_states s.args.body.now s.args.symbol s.args.states.now (sym b.byte_at.ensures.0 ∙ c.before.before.if1.false))
+    c.same_bytes.ensures ∙ ap (λ (qs : List ℕ). same qs s.args.states.now) c.before.states_in.ensures ∙
+    sym (left_states s.args.body.now s.args.symbol s.args.states.now (sym b.byte_at.ensures.0 ∙ c.before.before.if-byte_at-symbol.false))
 
-pub left-is-spec : {M : Type 1} → statement M
-left-is-spec =
+pub left_is_spec : {M : Type 1} → statement M
+left_is_spec =
     tie.close (tie.spec byte-at-requires returns states-in-requires same-bytes-requires returns-2)

@@ -6,14 +6,14 @@ use borrow.Author.Rules.{rules}
 use Rattle.list_view.proofs.lookup.octet_at.Statement.{statement}
 use Rattle.list_view.proofs.lookup.octet_at.Tie as tie
 
-shared-slice-read-result : tie.Need-shared-slice-read-result
+shared-slice-read-result : tie.Need-bounds-bytes-i
 shared-slice-read-result c = search rules
 
-returns : tie.Need-returns
+returns : tie.Need-returns-then-i-bytes
 returns c = search rules
 
-returns-2 : tie.Need-returns-2
-returns-2 c = sym (get_or-eq_default c.before.args.bytes.now 0 c.if1.false)
+returns-2 : tie.Need-returns-else-i-bytes
+returns-2 c = sym (get_or-eq_default c.before.args.bytes.now 0 c.if-i-bytes.false)
 
-pub octet-at-spec : {M : Type 1} → statement M
-octet-at-spec = tie.close (tie.spec shared-slice-read-result returns returns-2)
+pub octet_at_spec : {M : Type 1} → statement M
+octet_at_spec = tie.close (tie.spec shared-slice-read-result returns returns-2)

@@ -10,45 +10,45 @@ use Rattle.list_view.proofs.Looks.{after_head, after_none}
 use Rattle.list_view.proofs.lookup.rule_body.Statement.{statement}
 use Rattle.list_view.proofs.lookup.rule_body.Tie as tie
 
-abbrev invariant-loop : tie.invariant-loop
+abbrev invariant-loop : tie.invariant-loop-left
 invariant-loop bytes k at₀ left₀ at left = after left at ≡ after k (behind (behind bytes))
 
-abbrev decreases-loop : tie.decreases-loop
+abbrev decreases-loop : tie.decreases-loop-left
 decreases-loop bytes k at₀ left₀ at left = left
 
 rest-requires : tie.Need-rest-requires invariant-loop decreases-loop
 rest-requires c κs = search rules
 
-rest-requires-2 : tie.Need-rest-requires-2 invariant-loop decreases-loop
+rest-requires-2 : tie.Need-rest-at-requires invariant-loop decreases-loop
 rest-requires-2 c κs = search rules
 
-loop-holds : tie.Need-loop-init invariant-loop decreases-loop
-loop-holds c = ap (after c.before.before.before.args.k) (c.rest2.ensures ∙ ap behind c.before.rest.ensures)
+loop-holds : tie.Need-loop-left-init invariant-loop decreases-loop
+loop-holds c = ap (after c.before.before.before.args.k) (c.rest-at.ensures ∙ ap behind c.before.rest.ensures)
 
-rest-requires-3 : tie.Need-rest-requires-3 invariant-loop decreases-loop
+rest-requires-3 : tie.Need-rest-next-requires invariant-loop decreases-loop
 rest-requires-3 c κs = search rules
 
-sub-left : tie.Need-overflow-sub-left invariant-loop decreases-loop
+sub-left : tie.Need-overflow_sub-left invariant-loop decreases-loop
 sub-left c = search rules
 
-loop-less : tie.Need-loop-smaller invariant-loop decreases-loop
+loop-less : tie.Need-loop-left-smaller invariant-loop decreases-loop
 loop-less c = search rules
 
-loop-again : tie.Need-loop-preserved invariant-loop decreases-loop
+loop-again : tie.Need-loop-left-preserved invariant-loop decreases-loop
 loop-again c =
-    let l = c.before.before.loop in
-    ap (after (l.left - 1)) c.rest3.ensures ∙ sym (after_head l.left l.at.now c.before.loop-test.true) ∙ l.invariant
+    let l = c.before.before.loop-left in
+    ap (after (l.left - 1)) c.rest-next.ensures ∙ sym (after_head l.left l.at.now c.before.loop-left-test.true) ∙ l.invariant
 
 body-requires : tie.Need-body-requires invariant-loop decreases-loop
 body-requires c κs = search rules
 
 returns : tie.Need-returns invariant-loop decreases-loop
 returns c =
-    let l = c.before.before.loop in
+    let l = c.before.before.loop-left in
     c.body.ensures ∙ ap body_at (sym (after_none l.left l.at.now (omega arith)) ∙ l.invariant)
 
-pub rule-body-spec : {M : Type 1} → statement M
-rule-body-spec =
+pub rule_body_spec : {M : Type 1} → statement M
+rule_body_spec =
     tie.close
     (tie.spec
     invariant-loop

@@ -8,14 +8,14 @@ use Rattle.list_view.proofs.Looks.{few_shown}
 use Rattle.list_view.proofs.lookup.rules_shown.Statement.{statement}
 use Rattle.list_view.proofs.lookup.rules_shown.Tie as tie
 
-load-requires : tie.Need-load-requires
+load-requires : tie.Need-load-seen-requires
 load-requires c κs = search rules
 
-cast-result : tie.Need-overflow-cast-result
-cast-result c = omega (arith, few_shown c.before.before.before.args.bytes.now, ap (λ (e : Emitted). e.size) c.before.load.ensures)
+cast-result : tie.Need-overflow_cast-result
+cast-result c = omega (arith, few_shown c.before.before.before.args.bytes.now, ap (λ (e : Emitted). e.size) c.before.load-seen.ensures)
 
 returns : tie.Need-returns
-returns c = ap (λ (e : Emitted). e.size) c.before.load.ensures
+returns c = ap (λ (e : Emitted). e.size) c.before.load-seen.ensures
 
-pub rules-shown-spec : {M : Type 1} → statement M
-rules-shown-spec = tie.close (tie.spec load-requires cast-result returns)
+pub rules_shown_spec : {M : Type 1} → statement M
+rules_shown_spec = tie.close (tie.spec load-requires cast-result returns)

@@ -7,14 +7,14 @@ use borrow.Author.Rules.{rules}
 use Rattle.list_view.proofs.lookup.target_byte.Statement.{statement}
 use Rattle.list_view.proofs.lookup.target_byte.Tie as tie
 
-returns : tie.Need-returns
+returns : tie.Need-returns-then-n-lt1
 returns c = sym (get_or-eq_default c.before.args.body.now 0 (omega arith))
 
-shared-slice-read-result : tie.Need-shared-slice-read-result
+shared-slice-read-result : tie.Need-bounds-body-n
 shared-slice-read-result c = search rules
 
-returns-2 : tie.Need-returns-2
+returns-2 : tie.Need-returns
 returns-2 c = search rules
 
-pub target-byte-spec : {M : Type 1} → statement M
-target-byte-spec = tie.close (tie.spec returns shared-slice-read-result returns-2)
+pub target_byte_spec : {M : Type 1} → statement M
+target_byte_spec = tie.close (tie.spec returns shared-slice-read-result returns-2)

@@ -9,26 +9,26 @@ use Rattle.model.specs.View.{present, absent}
 use Rattle.list_view.proofs.seen.count_at.Statement.{statement}
 use Rattle.list_view.proofs.seen.count_at.Tie as tie
 
-shared-slice-read-present : tie.Need-shared-slice-read-present
+shared-slice-read-present : tie.Need-bounds-counts-symbol
 shared-slice-read-present c = search rules
 
 present-requires : tie.Need-present-requires
 present-requires c κs = search rules
 
-returns : tie.Need-returns
+returns : tie.Need-returns-then-symbol-counts
 returns c =
     let a = c.before.before.before.before.args in
     let ns = a.counts.now in
-    c.present.ensures ∙ sym (ap (λ (b : Bool). cond b (present (get_or ns a.symbol 0)) (absent 0)) (lt-ltb a.symbol (length ns) c.before.before.if1.true))
+    c.present.ensures ∙ sym (ap (λ (b : Bool). cond b (present (get_or ns a.symbol 0)) (absent 0)) (lt-ltb a.symbol (length ns) c.before.before.if-symbol-counts.true))
 
 absent-requires : tie.Need-absent-requires
 absent-requires c κs = search rules
 
-returns-2 : tie.Need-returns-2
+returns-2 : tie.Need-returns
 returns-2 c =
     let a = c.before.before.before.args in
     let ns = a.counts.now in
-    c.absent.ensures ∙ sym (ap (λ (b : Bool). cond b (present (get_or ns a.symbol 0)) (absent 0)) (le-ltb a.symbol (length ns) c.before.if1.false))
+    c.absent.ensures ∙ sym (ap (λ (b : Bool). cond b (present (get_or ns a.symbol 0)) (absent 0)) (le-ltb a.symbol (length ns) c.before.if-symbol-counts.false))
 
-pub count-at-spec : {M : Type 1} → statement M
-count-at-spec = tie.close (tie.spec shared-slice-read-present present-requires returns absent-requires returns-2)
+pub count_at_spec : {M : Type 1} → statement M
+count_at_spec = tie.close (tie.spec shared-slice-read-present present-requires returns absent-requires returns-2)

@@ -11,17 +11,17 @@ use Rattle.list_view.proofs.Loads.{no_list, target_read}
 use Rattle.list_view.proofs.seen.target_seen.Statement.{statement}
 use Rattle.list_view.proofs.seen.target_seen.Tie as tie
 
-load-requires : tie.Need-load-requires
+load-requires : tie.Need-load-loaded-requires
 load-requires c κs = search rules
 
 absent-requires : tie.Need-absent-requires
 absent-requires c κs = search rules
 
-returns : tie.Need-returns
+returns : tie.Need-returns-then-loaded-ne0
 returns c =
     let l = c.before.before.before in
     let a = l.before.before.before.args in
-    c.absent.ensures ∙ ap (target_by a.symbol a.states.now) (sym (no_list a.bytes.now (λ e. c.before.if1.true (ap (λ (e : Emitted). e.number) l.load.ensures ∙ e))))
+    c.absent.ensures ∙ ap (target_by a.symbol a.states.now) (sym (no_list a.bytes.now (λ e. c.before.if-loaded-ne0.true (ap (λ (e : Emitted). e.number) l.load-loaded.ensures ∙ e))))
 
 rest-requires : tie.Need-rest-requires
 rest-requires c κs = search rules
@@ -29,22 +29,22 @@ rest-requires c κs = search rules
 rest-requires-2 : tie.Need-rest-requires-2
 rest-requires-2 c κs = search rules
 
-cast-find-target : tie.Need-overflow-cast-find-target
+cast-find-target : tie.Need-overflow_cast-loaded
 cast-find-target c =
     let l = c.before.before.before.before.before in
-    omega (arith, few_shown l.before.before.before.args.bytes.now, ap (λ (e : Emitted). e.size) l.load.ensures)
+    omega (arith, few_shown l.before.before.before.args.bytes.now, ap (λ (e : Emitted). e.size) l.load-loaded.ensures)
 
-find-target-requires : tie.Need-find-target-requires
+find-target-requires : tie.Need-find_target-requires
 find-target-requires c κs = search rules
 
-returns-2 : tie.Need-returns-2
+returns-2 : tie.Need-returns
 returns-2 c =
     let r = c.before.before in
     let l = r.before.before.before.before in
     let a = l.before.before.before.args in
-    c.find-target.ensures ∙
-    target_read a.bytes.now (sym (ap (λ (e : Emitted). e.number) l.load.ensures) ∙ r.before.before.if1.false) r.rest2.result.now l.load.result.size a.symbol a.states.now
-    (r.rest2.ensures ∙ ap behind r.before.rest.ensures) (ap (λ (e : Emitted). e.size) l.load.ensures)
+    c.find_target.ensures ∙
+    target_read a.bytes.now (sym (ap (λ (e : Emitted). e.number) l.load-loaded.ensures) ∙ r.before.before.if-loaded-ne0.false) r.rest-2.result.now l.load-loaded.result.size a.symbol a.states.now
+    (r.rest-2.ensures ∙ ap behind r.before.rest.ensures) (ap (λ (e : Emitted). e.size) l.load-loaded.ensures)
 
-pub target-seen-spec : {M : Type 1} → statement M
-target-seen-spec = tie.close (tie.spec load-requires absent-requires returns rest-requires rest-requires-2 cast-find-target find-target-requires returns-2)
+pub target_seen_spec : {M : Type 1} → statement M
+target_seen_spec = tie.close (tie.spec load-requires absent-requires returns rest-requires rest-requires-2 cast-find-target find-target-requires returns-2)
