@@ -49,155 +49,155 @@ abbrev Start : ℕ → Type 0
 Start t = list-lts.Start (list_claims t) (list_at t) list.Post
 
 abbrev Looked : ℕ → Type 0
-Looked t = list-lts.After-read-record (list_claims t) (list_at t) list.Post
+Looked t = list-lts.After-read_record-child_read (list_claims t) (list_at t) list.Post
 
 abbrev Found : ℕ → Type 0
-Found t = list-lts.Else1 (list_claims t) (list_at t) list.Post
+Found t = list-lts.Else-child_read-eq0 (list_claims t) (list_at t) list.Post
 
 abbrev More : ℕ → Type 0
-More t = list-lts.Else2 (list_claims t) (list_at t) list.Post
+More t = list-lts.Else-next-len (list_claims t) (list_at t) list.Post
 
 abbrev start : (t : ℕ) → Looked t → Start t
 start t c = c.before.before
 
-tried : (t : ℕ) (c : Looked t) → Tried (start t c).args.text.now (start t c).args.known.now (start t c).args.len (start t c).args.at (start t c).args.size c.read-record.result c.read-record.new.0
-tried t c = record { reads = (start t c).requires.1.0; came = c.read-record.ensures }
+tried : (t : ℕ) (c : Looked t) → Tried (start t c).args.text.now (start t c).args.known.now (start t c).args.len (start t c).args.at (start t c).args.size c.read_record-child_read.result c.read_record-child_read.new.text
+tried t c = record { reads = (start t c).requires.1.0; came = c.read_record-child_read.ensures }
 
 found : (t : ℕ) (c : Found t) → Child (record_at (start t c.before).args.known.now (take (start t c.before).args.size (start t c.before).args.text.now) (left_at (start t c.before).args.text.now (start t c.before).args.len (start t c.before).args.at))
-    (c.before.read-record.result / 131072) (c.before.read-record.result % 131072) (start t c.before).args.len (start t c.before).args.at c.before.read-record.new.0
-found t c = the_child (tried t c.before) (start t c.before).args.letter (start t c.before).args.child c.if1.false
+    (c.before.read_record-child_read.result / 131072) (c.before.read_record-child_read.result % 131072) (start t c.before).args.len (start t c.before).args.at c.before.read_record-child_read.new.text
+found t c = the_child (tried t c.before) (start t c.before).args.letter (start t c.before).args.child c.if-child_read-eq0.false
 
-list_read_record_requires : (t : ℕ) → list-lts.Need-read-record-requires (list_claims t) (list_at t) list.Post
+list_read_record_requires : (t : ℕ) → list-lts.Need-read_record-child_read-requires (list_claims t) (list_at t) list.Post
 list_read_record_requires t c κs = search rules
 
-list_returns : (t : ℕ) → list-lts.Need-returns (list_claims t) (list_at t) list.Post
-list_returns t c = let s = (start t c.before).args in list_unread (tried t c.before) s.letter s.child c.if1.true
+list_returns : (t : ℕ) → list-lts.Need-returns-then-child_read-eq0 (list_claims t) (list_at t) list.Post
+list_returns t c = let s = (start t c.before).args in list_unread (tried t c.before) s.letter s.child c.if-child_read-eq0.true
 
-list_cast_next : (t : ℕ) → list-lts.Need-overflow-cast-next (list_claims t) (list_at t) list.Post
-list_cast_next t c = omega (arith, (found t c).within, (start t c.before).pre.1.0.few)
+list_cast_next : (t : ℕ) → list-lts.Need-overflow_cast-next (list_claims t) (list_at t) list.Post
+list_cast_next t c = omega (arith, (found t c).within, (start t c.before).requires.1.0.few)
 
-list_cast_n : (t : ℕ) → list-lts.Need-overflow-cast-n (list_claims t) (list_at t) list.Post
+list_cast_n : (t : ℕ) → list-lts.Need-overflow_cast-n (list_claims t) (list_at t) list.Post
 list_cast_n t c = search rules
 
-list_returns_2 : (t : ℕ) → list-lts.Need-returns-2 (list_claims t) (list_at t) list.Post
+list_returns_2 : (t : ℕ) → list-lts.Need-returns-then-next-len (list_claims t) (list_at t) list.Post
 list_returns_2 t c =
     let d = c.before.before in
     let s = (start t d).args in
-    list_end (tried t d) s.letter s.child c.before.if1.false c.if2.true
+    list_end (tried t d) s.letter s.child c.before.if-child_read-eq0.false c.if-next-len.true
 
-list_cast_i : (t : ℕ) → list-lts.Need-overflow-cast-i (list_claims t) (list_at t) list.Post
+list_cast_i : (t : ℕ) → list-lts.Need-overflow_cast-i (list_claims t) (list_at t) list.Post
 list_cast_i t c = search rules
 
-list_element_copy_out_byte : (t : ℕ) → list-lts.Need-element-copy-out-byte (list_claims t) (list_at t) list.Post
-list_element_copy_out_byte t c = omega (arith, (found t c.before).within, c.if2.false, (start t c.before.before).pre.1.0.few)
+list_element_copy_out_byte : (t : ℕ) → list-lts.Need-bounds-text-i (list_claims t) (list_at t) list.Post
+list_element_copy_out_byte t c = omega (arith, (found t c.before.before).within, c.if-next-len.false, (start t c.before.before.before).requires.1.0.few)
 
-list_add_close : (t : ℕ) → list-lts.Need-overflow-add-close (list_claims t) (list_at t) list.Post
+list_add_close : (t : ℕ) → list-lts.Need-overflow_add-next (list_claims t) (list_at t) list.Post
 list_add_close t c =
-    let d = c.before.before.before.before in omega (arith, (found t d).within, (start t d.before).pre.1.0.few)
+    let d = c.before.before.before.before.before in omega (arith, (found t d).within, (start t d.before).requires.1.0.few)
 
 list_close_requires : (t : ℕ) → list-lts.Need-close-requires (list_claims t) (list_at t) list.Post
 list_close_requires t c κs =
-    let m : More t = c.before.before.before in
+    let m : More t = c.before.before.before.before in
     let d = m.before.before in
     let i = start t d in (
-      behind (tried t d) i.args.letter i.args.child m.before.if1.false m.if2.false,
-      i.pre.1.1,
+      behind (tried t d) i.args.letter i.args.child m.before.if-child_read-eq0.false m.if-next-len.false,
+      i.requires.1.1,
       omega (arith, (found t m.before).before),
     )
 
-list_returns_3 : (t : ℕ) → list-lts.Need-returns-3 (list_claims t) (list_at t) list.Post
+list_returns_3 : (t : ℕ) → list-lts.Need-returns-then-byte-eq93 (list_claims t) (list_at t) list.Post
 list_returns_3 t c =
-    let m : More t = c.before.before.before.before in
-    let d = m.before.before in
-    let s = (start t d).args in
-    list_closes (tried t d) s.letter s.child m.before.if1.false m.if2.false c.close.result c.close.new.0 c.before.before.if3.true c.close.ensures
-
-list_returns_4 : (t : ℕ) → list-lts.Need-returns-4 (list_claims t) (list_at t) list.Post
-list_returns_4 t c =
-    let m : More t = c.before.before.before in
-    let d = m.before.before in
-    let s = (start t d).args in
-    list_stops (tried t d) s.letter s.child m.before.if1.false m.if2.false c.before.if3.false c.if4.true
-
-list_returns_5 : (t : ℕ) → list-lts.Need-returns-5 (list_claims t) (list_at t) list.Post
-list_returns_5 t c =
-    let m : More t = c.before.before.before.before in
-    let d = m.before.before in
-    let s = (start t d).args in
-    list_full (tried t d) s.letter s.child m.before.if1.false m.if2.false c.before.before.if3.false c.if5.true
-
-list_add_read_list : (t : ℕ) → list-lts.Need-overflow-add-read-list (list_claims t) (list_at t) list.Post
-list_add_read_list t c =
-    omega (arith, (start t c.before.before.before.before.before.before.before).pre.1.1)
-
-list_add_read_list_2 : (t : ℕ) → list-lts.Need-overflow-add-read-list-2 (list_claims t) (list_at t) list.Post
-list_add_read_list_2 t c =
-    let d = c.before.before.before.before.before.before in omega (arith, (found t d).within, (start t d.before).pre.1.0.few)
-
-list_read_list_requires : (t : ℕ) → list-lts.Need-read-list-requires (list_claims t) (list_at t) list.Post
-list_read_list_requires t c κs =
     let m : More t = c.before.before.before.before.before in
+    let d = m.before.before in
+    let s = (start t d).args in
+    list_closes (tried t d) s.letter s.child m.before.if-child_read-eq0.false m.if-next-len.false c.close.result c.close.new.text c.before.before.if-byte-eq93.true c.close.ensures
+
+list_returns_4 : (t : ℕ) → list-lts.Need-returns-then-byte-ne44 (list_claims t) (list_at t) list.Post
+list_returns_4 t c =
+    let m : More t = c.before.before.before.before in
+    let d = m.before.before in
+    let s = (start t d).args in
+    list_stops (tried t d) s.letter s.child m.before.if-child_read-eq0.false m.if-next-len.false c.before.if-byte-eq93.false c.if-byte-ne44.true
+
+list_returns_5 : (t : ℕ) → list-lts.Need-returns-then-child-eq4 (list_claims t) (list_at t) list.Post
+list_returns_5 t c =
+    let m : More t = c.before.before.before.before.before in
+    let d = m.before.before in
+    let s = (start t d).args in
+    list_full (tried t d) s.letter s.child m.before.if-child_read-eq0.false m.if-next-len.false c.before.before.if-byte-eq93.false c.if-child-eq4.true
+
+list_add_read_list : (t : ℕ) → list-lts.Need-overflow_add-child (list_claims t) (list_at t) list.Post
+list_add_read_list t c =
+    omega (arith, (start t c.before.before.before.before.before.before.before.before).requires.1.1)
+
+list_add_read_list_2 : (t : ℕ) → list-lts.Need-overflow_add-next-2 (list_claims t) (list_at t) list.Post
+list_add_read_list_2 t c =
+    let d = c.before.before.before.before.before.before.before in omega (arith, (found t d).within, (start t d.before).requires.1.0.few)
+
+list_read_list_requires : (t : ℕ) → list-lts.Need-read_list-requires (list_claims t) (list_at t) list.Post
+list_read_list_requires t c κs =
+    let m : More t = c.before.before.before.before.before.before in
     let d = m.before.before in
     let i = start t d in
     let g = found t m.before in (
-      omega (arith, g.past, g.within, m.if2.false, i.pre.0),
+      omega (arith, g.past, g.within, m.if-next-len.false, i.requires.0),
       (
-        behind (tried t d) i.args.letter i.args.child m.before.if1.false m.if2.false,
-        omega (arith, i.pre.1.1, c.before.if5.false),
+        behind (tried t d) i.args.letter i.args.child m.before.if-child_read-eq0.false m.if-next-len.false,
+        omega (arith, i.requires.1.1, c.before.if-child-eq4.false),
         omega (arith, g.before),
       ),
     )
 
-list_returns_6 : (t : ℕ) → list-lts.Need-returns-6 (list_claims t) (list_at t) list.Post
+list_returns_6 : (t : ℕ) → list-lts.Need-returns (list_claims t) (list_at t) list.Post
 list_returns_6 t c =
-    let m : More t = c.before.before.before.before.before.before in
+    let m : More t = c.before.before.before.before.before.before.before in
     let d = m.before.before in
     let i = start t d in
-    list_goes (tried t d) i.args.letter i.args.child m.before.if1.false m.if2.false c.before.before.before.before.if3.false c.read-list.result c.read-list.new.0
-    c.before.before.before.if4.false (omega (arith, i.pre.1.1, c.before.before.if5.false)) c.read-list.ensures
+    list_goes (tried t d) i.args.letter i.args.child m.before.if-child_read-eq0.false m.if-next-len.false c.before.before.before.before.if-byte-eq93.false c.read_list.result c.read_list.new.text
+    c.before.before.before.if-byte-ne44.false (omega (arith, i.requires.1.1, c.before.before.if-child-eq4.false)) c.read_list.ensures
 
 -- THE RECORD
-record_returns : (t : ℕ) → record-lts.Need-returns (record_claims t) (record_at_law t) record'.Post
-record_returns t c = record_end c.before.requires.1 c.if1.true
+record_returns : (t : ℕ) → record-lts.Need-returns-then-at-len (record_claims t) (record_at_law t) record'.Post
+record_returns t c = record_end c.before.requires.1 c.if-at-len.true
 
-record_element_copy_out_letter : (t : ℕ) → record-lts.Need-element-copy-out-letter (record_claims t) (record_at_law t) record'.Post
+record_element_copy_out_letter : (t : ℕ) → record-lts.Need-bounds-text-i (record_claims t) (record_at_law t) record'.Post
 record_element_copy_out_letter t c = search rules
 
-record_add_if2 : (t : ℕ) → record-lts.Need-overflow-add-if2 (record_claims t) (record_at_law t) record'.Post
+record_add_if2 : (t : ℕ) → record-lts.Need-overflow_add-at (record_claims t) (record_at_law t) record'.Post
 record_add_if2 t c = search rules
 
-record_add_behind : (t : ℕ) → record-lts.Need-overflow-add-behind (record_claims t) (record_at_law t) record'.Post
+record_add_behind : (t : ℕ) → record-lts.Need-overflow_add-behind (record_claims t) (record_at_law t) record'.Post
 record_add_behind t c = search rules
 
-record_element_copy_out_if3 : (t : ℕ) → record-lts.Need-element-copy-out-if3 (record_claims t) (record_at_law t) record'.Post
+record_element_copy_out_if3 : (t : ℕ) → record-lts.Need-bounds-text-behind (record_claims t) (record_at_law t) record'.Post
 record_element_copy_out_if3 t c = search rules
 
-record_add_read_list : (t : ℕ) → record-lts.Need-overflow-add-read-list (record_claims t) (record_at_law t) record'.Post
+record_add_read_list : (t : ℕ) → record-lts.Need-overflow_add-at-then-text-behind-eq91 (record_claims t) (record_at_law t) record'.Post
 record_add_read_list t c = search rules
 
-record_read_list_requires : (t : ℕ) → record-lts.Need-read-list-requires (record_claims t) (record_at_law t) record'.Post
+record_read_list_requires : (t : ℕ) → record-lts.Need-read_list-requires (record_claims t) (record_at_law t) record'.Post
 record_read_list_requires t c κs = search rules
 
-record_returns_2 : (t : ℕ) → record-lts.Need-returns-2 (record_claims t) (record_at_law t) record'.Post
+record_returns_2 : (t : ℕ) → record-lts.Need-returns-then-text-behind-eq91 (record_claims t) (record_at_law t) record'.Post
 record_returns_2 t c =
     let b = c.before.before.before.before in
-    record_opens b.before.before.before.requires.1 (omega (arith, b.if2.true)) c.read-list.result c.read-list.new.0 b.if2.true c.before.before.if3.true c.read-list.ensures
+    record_opens b.before.before.before.requires.1 (omega (arith, b.if-at-len-2.true)) c.read_list.result c.read_list.new.text b.if-at-len-2.true c.before.before.if-text-behind-eq91.true c.read_list.ensures
 
-record_add_close : (t : ℕ) → record-lts.Need-overflow-add-close (record_claims t) (record_at_law t) record'.Post
+record_add_close : (t : ℕ) → record-lts.Need-overflow_add-at-2 (record_claims t) (record_at_law t) record'.Post
 record_add_close t c = search rules
 
 record_close_requires : (t : ℕ) → record-lts.Need-close-requires (record_claims t) (record_at_law t) record'.Post
 record_close_requires t c κs = search rules
 
-record_returns_3 : (t : ℕ) → record-lts.Need-returns-3 (record_claims t) (record_at_law t) record'.Post
+record_returns_3 : (t : ℕ) → record-lts.Need-returns (record_claims t) (record_at_law t) record'.Post
 record_returns_3 t c =
     let j = c.before.before in
     let i = j.before.before.before in
-    record_closes i.requires.1 (omega (arith, i.requires.1.within, j.before.before.if1.false)) c.close.result c.close.new.0
-    (⊎_elim (λ w m. w.2.left) (λ w m e. omega (arith, w.left)) j.if2.branch) c.close.ensures
+    record_closes i.requires.1 (omega (arith, i.requires.1.within, j.before.before.if-at-len.false)) c.close.result c.close.new.text
+    (⊎_elim (λ w m. w.if-text-behind-eq91.false) (λ w m e. omega (arith, w.if-at-len-2.false)) j.if-at-len-2.branch-raw) c.close.ensures
 
-pub +read-list-read-record-spec : {M : Type 1} → statement M
-+read-list-read-record-spec =
+pub +read_list_read_record_spec : {M : Type 1} → statement M
++read_list_read_record_spec =
     close μ-list μ-record
     (λ t. list-lts.spec (list_claims t)
     (list_at t)

@@ -10,46 +10,46 @@ use Rattle.text_read.proofs.read_text.Statement.{statement}
 use Rattle.text_read.proofs.read_text.Tie as tie
 
 -- the record looked for
-abbrev Start : tie.After-read-record → tie.Start
-Start c = c.before.before.before.before.before.before.before.before.before
+abbrev Start : tie.After-read_record-whole → tie.Start
+Start c = c.before.before.before.before.before.before.before.before
 
-looked : (c : tie.After-read-record) → Text (Start c).args.letters.now (Start c).args.counts.now c.before.before.before.index.result
-    (take (Start c).args.len (Start c).args.text.now) (Start c).args.len c.read-record.result c.read-record.new.0
+looked : (c : tie.After-read_record-whole) → Text (Start c).args.letters.now (Start c).args.counts.now c.before.before.before.index-known.result
+    (take (Start c).args.len (Start c).args.text.now) (Start c).args.len c.read_record-whole.result c.read_record-whole.new.text
 looked c =
     let e = c.before.before.before.before in
     record {
       few = (Start c).requires.1;
-      balanced = sym e.before.is-balanced.ensures ∙ not-false e.before.is-balanced.result e.if1.false;
-      known = c.before.before.before.index.ensures;
-      came = c.read-record.ensures;
+      balanced = sym e.before.is_balanced.ensures ∙ not-false e.before.is_balanced.result e.if-not-is_balanced.false-raw;
+      known = c.before.before.before.index-known.ensures;
+      came = c.read_record-whole.ensures;
     }
 
-is-balanced-requires : tie.Need-is-balanced-requires
+is-balanced-requires : tie.Need-is_balanced-requires
 is-balanced-requires c κs = search rules
 
-returns : tie.Need-returns
+returns : tie.Need-returns-then-not-is_balanced
 returns c =
-    let i = c.before.before.before.before.before in
-    let b = c.before.is-balanced in
-    unbalanced i.args.letters.now i.args.counts.now (take i.args.len i.args.text.now) i.args.text.now (sym b.ensures ∙ not-true b.result c.if1.true) i.requires.0
+    let i = c.before.before.before.before in
+    let b = c.before.is_balanced in
+    unbalanced i.args.letters.now i.args.counts.now (take i.args.len i.args.text.now) i.args.text.now (sym b.ensures ∙ not-true b.result c.if-not-is_balanced.true-raw) i.requires.0
 
-index-requires : tie.Need-index-requires
+index-requires : tie.Need-index-known-requires
 index-requires c κs = search rules
 
-read-record-requires : tie.Need-read-record-requires
+read-record-requires : tie.Need-read_record-whole-requires
 read-record-requires c κs = search rules
 
-cast-if2 : tie.Need-overflow-cast-if2
+cast-if2 : tie.Need-overflow_cast-whole
 cast-if2 c = omega (arith, text_within (looked c), (Start c).requires.1)
 
-returns-2 : tie.Need-returns-2
-returns-2 c = text_more (looked c.before) c.if2.true
+returns-2 : tie.Need-returns-then-whole-len
+returns-2 c = text_more (looked c.before) c.if-whole-len.true
 
-returns-3 : tie.Need-returns-3
-returns-3 c = text_whole (looked c.before) c.if2.false
+returns-3 : tie.Need-returns
+returns-3 c = text_whole (looked c.before) c.if-whole-len.false
 
-pub read-text-spec : {M : Type 1} → statement M
-read-text-spec =
+pub read_text_spec : {M : Type 1} → statement M
+read_text_spec =
     tie.close
     (tie.spec
     is-balanced-requires
