@@ -9,19 +9,19 @@ abbrev start : tie.After-descend → tie.Start
 start c = c.before.before.before.before.before.before
 
 -- the turns of all rows are noted
-abbrev noted : tie.After-column3 → tie.After-descend
-noted c = c.before.before.before.before.before.before
+abbrev noted : tie.After-column-exchanged → tie.After-descend
+noted c = c.before.before.before.before.before
 
 descend-requires : tie.Need-descend-requires
 descend-requires c κs = let s = c.before.before.before.before.before in (s.requires.0, s.requires.2, hole_rep s.requires.1.noted)
 
-column-requires : tie.Need-column-requires
+column-requires : tie.Need-column-reps-requires
 column-requires c κs = search rules
 
-column-requires-2 : tie.Need-column-requires-2
+column-requires-2 : tie.Need-column-at-requires
 column-requires-2 c κs = search rules
 
-column-requires-3 : tie.Need-column-requires-3
+column-requires-3 : tie.Need-column-exchanged-requires
 column-requires-3 c κs = search rules
 
 search-requires : tie.Need-search-requires
@@ -29,16 +29,16 @@ search-requires c κs =
     let d = noted c in
     let s = start d in
     let e = d.descend.ensures in
-    let own = c.before.before.column.ensures ∙ e.0 in
-    (s.pre.0.finding.room, s.pre.0.finding.few, rw (c.column3.ensures, c.before.column2.ensures, own) e.1.turns, rw own s.pre.1)
+    let own = c.before.before.column-reps.ensures ∙ e.0 in
+    (s.requires.0.finding.room, s.requires.0.finding.few, rw (c.column-exchanged.ensures, c.before.column-at.ensures, own) e.1.turns, rw own s.requires.1)
 
-same_length : tie.Need-same-length
+same_length : tie.Need-shape_of-notes
 same_length c = search rules
 
 returns : tie.Need-returns
 returns c =
     let d = noted c.before in
-    (d.descend.ensures, rw (sym (c.before.before.before.column.ensures ∙ d.descend.ensures.0)) c.search.ensures)
+    (d.descend.ensures, rw (sym (c.before.before.before.column-reps.ensures ∙ d.descend.ensures.0)) c.search.ensures)
 
 pub find_spec : {M : Type 1} → statement M
 find_spec =

@@ -9,23 +9,23 @@ use Rattle.step_search.specs.Spots.{own_rep}
 use Rattle.step_search.proofs.is_rep.Statement.{statement}
 use Rattle.step_search.proofs.is_rep.Tie as tie
 
-returns : tie.Need-returns
-returns c = sym (ap (own_rep c.before.args.reps.now) c.if1.true)
+returns : tie.Need-returns-then-i-eq0
+returns c = sym (ap (own_rep c.before.args.reps.now) c.if-i-eq0.true)
 
-cast-result : tie.Need-overflow-cast-result
+cast-result : tie.Need-overflow_cast-result
 cast-result c = search rules
 
-mul-result : tie.Need-overflow-mul-result
+mul-result : tie.Need-offset_bounds-reps-i
 mul-result c = search rules
 
-shared-slice-read-result : tie.Need-shared-slice-read-result
+shared-slice-read-result : tie.Need-bounds-reps-i
 shared-slice-read-result c = search rules
 
-returns-2 : tie.Need-returns-2
+returns-2 : tie.Need-returns
 returns-2 c =
     let s = c.before.before in
     let i = s.args.row.0 in
-    sym (ap (λ (b : Bool). not b && eqb (get_or s.args.reps.now i 0) i) (ne_eqb i 0 c.before.if1.false))
+    sym (ap (λ (b : Bool). not b && eqb (get_or s.args.reps.now i 0) i) (ne_eqb i 0 c.before.if-i-eq0.false))
 
-pub is-rep-spec : {M : Type 1} → statement M
-is-rep-spec = tie.close (tie.spec returns cast-result mul-result shared-slice-read-result returns-2)
+pub is_rep_spec : {M : Type 1} → statement M
+is_rep_spec = tie.close (tie.spec returns cast-result mul-result shared-slice-read-result returns-2)
