@@ -21,17 +21,17 @@ use Rattle.bank_listed.proofs.known_row.Reads as reads
 use Rattle.bank_listed.proofs.known_row.Lts as lts
 use Rattle.bank_listed.proofs.top_places.Reads as top-places-reads
 
-abbrev invariant-loop : tie.invariant-loop
+abbrev invariant-loop : tie.invariant-loop-at
 invariant-loop words counts used index symbols stack₀ height₀ at₀ stack height at =
     Reading (store_of words counts used) symbols stack height at ×
     (known_from (store_of words counts used) (drop at symbols) (stack_of stack height) ≡ known_row (store_of words counts used) symbols)
 
-abbrev decreases-loop : tie.decreases-loop
+abbrev decreases-loop : tie.decreases-loop-at
 decreases-loop words counts used index symbols stack₀ height₀ at₀ stack height at = length symbols - at
 
 -- a turn: its start, the store, and what is known of the reading there
 abbrev Turn : Type 0
-Turn = lts.In-loop (top-places-reads.Asked, top-places-reads.Learnt, find-reads.Asked, find-reads.Learnt) reads.Pre reads.Post invariant-loop decreases-loop
+Turn = lts.In-loop-at (top-places-reads.Asked, top-places-reads.Learnt, find-reads.Asked, find-reads.Learnt) reads.Pre reads.Post invariant-loop decreases-loop
 
 abbrev start : (t : Turn) → lts.Start (top-places-reads.Asked, top-places-reads.Learnt, find-reads.Asked, find-reads.Learnt) reads.Pre reads.Post invariant-loop decreases-loop
 start t = t.before.before.before.before.before.before
@@ -43,104 +43,104 @@ abbrev store : Turn → Store
 store t = store_of (start t).args.words.now (start t).args.counts.now (start t).args.used
 
 abbrev symbol : Turn → ℕ
-symbol t = R.symbol_next (xs t) t.before.loop.at
+symbol t = R.symbol_next (xs t) t.before.loop-at.at
 
-abbrev reading : (t : Turn) → Reading (store t) (xs t) t.before.loop.stack t.before.loop.height t.before.loop.at
-reading t = t.before.loop.inv.0
+abbrev reading : (t : Turn) → Reading (store t) (xs t) t.before.loop-at.stack t.before.loop-at.height t.before.loop-at.at
+reading t = t.before.loop-at.invariant.0
 
 -- past the search: its row is that of the symbol over the children on the stack
 abbrev Sought : Type 0
-Sought = lts.After-find (top-places-reads.Asked, top-places-reads.Learnt, find-reads.Asked, find-reads.Learnt) reads.Pre reads.Post invariant-loop decreases-loop
+Sought = lts.After-find-row (top-places-reads.Asked, top-places-reads.Learnt, find-reads.Asked, find-reads.Learnt) reads.Pre reads.Post invariant-loop decreases-loop
 
 abbrev turn : Sought → Turn
 turn c = c.before.before.before.before.before
 
-sought : (c : Sought) → c.find.result.0 ≡
-    find_row (store (turn c)) (symbol (turn c)) (R.kids_next (store (turn c)) (xs (turn c)) (turn c).before.loop.stack (turn c).before.loop.height (turn c).before.loop.at)
+sought : (c : Sought) → c.find-row.result.0 ≡
+    find_row (store (turn c)) (symbol (turn c)) (R.kids_next (store (turn c)) (xs (turn c)) (turn c).before.loop-at.stack (turn c).before.loop-at.height (turn c).before.loop-at.at)
 sought c =
-    c.find.ensures ∙
-    ap (find_in (start (turn c)).args.words.now (start (turn c)).args.used (symbol (turn c))) c.before.top-places.ensures
+    c.find-row.ensures ∙
+    ap (find_in (start (turn c)).args.words.now (start (turn c)).args.used (symbol (turn c))) c.before.top_places-places.ensures
 
-loop-holds : tie.Need-loop-init invariant-loop decreases-loop
+loop-holds : tie.Need-loop-at-init invariant-loop decreases-loop
 unfolding backwards
 loop-holds c =
     let s = c.before.before.before.before in
     (R.reading_start (store_of s.args.words.now s.args.counts.now s.args.used) s.args.symbols.now _ s.requires.0.good s.requires.1 refl s.requires.2, refl)
 
-shared-slice-read-symbol : tie.Need-shared-slice-read-symbol invariant-loop decreases-loop
+shared-slice-read-symbol : tie.Need-bounds-symbols-at invariant-loop decreases-loop
 shared-slice-read-symbol c = search rules
 
-cast-symbol : tie.Need-overflow-cast-symbol invariant-loop decreases-loop
-cast-symbol c = omega (arith, c.shared-slice-known5.given c.before.before.loop.at)
+cast-symbol : tie.Need-overflow_cast-symbol invariant-loop decreases-loop
+cast-symbol c = omega (arith, c.shared_slice_known-in-loop-at-1.given c.before.before.loop-at.at)
 
-cast-count : tie.Need-overflow-cast-count invariant-loop decreases-loop
-cast-count c = omega (arith, c.shared-slice-known5.given c.before.before.loop.at)
+cast-count : tie.Need-overflow_cast-count invariant-loop decreases-loop
+cast-count c = omega (arith, c.shared_slice_known-in-loop-at-1.given c.before.before.loop-at.at)
 
-shared-slice-read-count : tie.Need-shared-slice-read-count invariant-loop decreases-loop
-shared-slice-read-count c = R.known (reading c.before.before) c.before.before.loop-test.true
+shared-slice-read-count : tie.Need-bounds-counts-symbol invariant-loop decreases-loop
+shared-slice-read-count c = R.known (reading c.before.before) c.before.before.loop-at-test.true
 
-cast-count-2 : tie.Need-overflow-cast-count-2 invariant-loop decreases-loop
-cast-count-2 c = omega (arith, c.shared-slice-known6.given (symbol c.before.before))
+cast-count-2 : tie.Need-overflow_cast-count-in-loop-at invariant-loop decreases-loop
+cast-count-2 c = omega (arith, c.shared_slice_known-in-loop-at-2-1.given (symbol c.before.before))
 
-top-places-requires : tie.Need-top-places-requires invariant-loop decreases-loop
+top-places-requires : tie.Need-top_places-places-requires invariant-loop decreases-loop
 top-places-requires c κs =
     let t : Turn = c.before.before.before in
     let r = reading t in
-    (r.long, r.good.wide (symbol t), R.enough r t.loop-test.true, omega (arith, r.low, r.within, r.few))
+    (r.long, r.good.wide (symbol t), R.enough r t.loop-at-test.true, omega (arith, r.low, r.within, r.few))
 
-find-requires : tie.Need-find-requires invariant-loop decreases-loop
-find-requires c κs = (start c.before.before.before.before).pre.0.finding
+find-requires : tie.Need-find-row-requires invariant-loop decreases-loop
+find-requires c κs = (start c.before.before.before.before).requires.0.finding
 
-returns : tie.Need-returns invariant-loop decreases-loop
+returns : tie.Need-returns-then-row-eq0 invariant-loop decreases-loop
 returns c =
     let m : Sought = c.before.before in
     let t : Turn = turn m in
-    sym (R.known_none (reading t) t.loop-test.taken (sym (sought m) ∙ c.if1.true)) ∙ t.before.loop.inv.1
+    sym (R.known_none (reading t) t.loop-at-test.true (sym (sought m) ∙ c.if-row-eq0.true)) ∙ t.before.loop-at.invariant.1
 
-sub-height : tie.Need-overflow-sub-height invariant-loop decreases-loop
-sub-height c = R.enough (reading (turn c.before.before)) (turn c.before.before).loop-test.taken
+sub-height : tie.Need-overflow_sub-height invariant-loop decreases-loop
+sub-height c = R.enough (reading (turn c.before.before)) (turn c.before.before).loop-at-test.true
 
-mul-stack : tie.Need-overflow-mul-stack invariant-loop decreases-loop
+mul-stack : tie.Need-offset_bounds-stack-height invariant-loop decreases-loop
 mul-stack c =
     let t : Turn = turn c.before.before in
-    omega (arith, R.lower (reading t) t.loop-test.taken, (reading t).long)
+    omega (arith, R.lower (reading t) t.loop-at-test.true, (reading t).long)
 
-array-write-stack : tie.Need-array-write-stack invariant-loop decreases-loop
+array-write-stack : tie.Need-bounds-stack-height invariant-loop decreases-loop
 array-write-stack c =
     let t : Turn = turn c.before.before in
-    omega (arith, R.lower (reading t) t.loop-test.taken, (reading t).long)
+    omega (arith, R.lower (reading t) t.loop-at-test.true, (reading t).long)
 
-add-height : tie.Need-overflow-add-height invariant-loop decreases-loop
+add-height : tie.Need-overflow_add-height invariant-loop decreases-loop
 add-height c =
     let t : Turn = turn c.before.before in
-    omega (arith, R.lower (reading t) t.loop-test.taken, (reading t).long)
+    omega (arith, R.lower (reading t) t.loop-at-test.true, (reading t).long)
 
-add_at : tie.Need-overflow-add-at invariant-loop decreases-loop
+add_at : tie.Need-overflow_add-at invariant-loop decreases-loop
 add_at c =
     let t : Turn = turn c.before.before in
-    omega (arith, t.loop-test.taken, (reading t).few)
+    omega (arith, t.loop-at-test.true, (reading t).few)
 
-loop-less : tie.Need-loop-smaller invariant-loop decreases-loop
+loop-less : tie.Need-loop-at-smaller invariant-loop decreases-loop
 loop-less c =
     let t : Turn = turn c.before.before in
-    omega (arith, t.loop-test.taken)
+    omega (arith, t.loop-at-test.true)
 
-loop-again : tie.Need-loop-preserved invariant-loop decreases-loop
+loop-again : tie.Need-loop-at-preserved invariant-loop decreases-loop
 loop-again c =
     let m : Sought = c.before.before in
     let t : Turn = turn m in
-    let j : ℕ = m.find.result.0 in
-    let p = R.pushed (reading t) t.loop-test.taken j (store t) (R.found (reading t) t.loop-test.taken j (sought m) c.if1.false) in
-    (p.1, sym (R.known_found (reading t) t.loop-test.taken j (sought m) c.if1.false) ∙ t.before.loop.inv.1)
+    let j : ℕ = m.find-row.result.0 in
+    let p = R.pushed (reading t) t.loop-at-test.true j (store t) (R.found (reading t) t.loop-at-test.true j (sought m) c.if-row-eq0.false) in
+    (p.1, sym (R.known_found (reading t) t.loop-at-test.true j (sought m) c.if-row-eq0.false) ∙ t.before.loop-at.invariant.1)
 
-array-read-t23 : tie.Need-array-read-t23 invariant-loop decreases-loop
+array-read-t23 : tie.Need-bounds-stack-0 invariant-loop decreases-loop
 array-read-t23 c = omega arith
 
-returns-2 : tie.Need-returns-2 invariant-loop decreases-loop
-returns-2 c = sym (R.known_end c.before.loop.invariant.0 c.loop-test.false) ∙ c.before.loop.invariant.1
+returns-2 : tie.Need-returns invariant-loop decreases-loop
+returns-2 c = sym (R.known_end c.before.loop-at.invariant.0 c.loop-at-test.false) ∙ c.before.loop-at.invariant.1
 
-pub known-row-spec : {M : Type 1} → statement M
-known-row-spec =
+pub known_row_spec : {M : Type 1} → statement M
+known_row_spec =
     tie.close
     (tie.spec
     invariant-loop

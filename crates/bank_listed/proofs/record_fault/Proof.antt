@@ -54,16 +54,16 @@ module _ (ns xs : List ℕ) (k at : ℕ) where
   unfolding symbols_fault
   ended_more h e = rw (drop_of_length-le xs h, ne_eqb k 1 e)
 
-abbrev invariant-loop : tie.invariant-loop
+abbrev invariant-loop : tie.invariant-loop-at
 invariant-loop counts symbols trees₀ at₀ trees at =
     (at ≤ length symbols) × (trees ≤ at) × (symbols_fault counts trees (drop at symbols) ≡ record_fault counts symbols)
 
-abbrev decreases-loop : tie.decreases-loop
+abbrev decreases-loop : tie.decreases-loop-at
 decreases-loop counts symbols trees₀ at₀ trees at = length symbols - at
 
 -- a turn: the symbol, the trees ready, and what is known of the symbols left
 abbrev Turn : Type 0
-Turn = lts.In-loop reads.Pre reads.Post invariant-loop decreases-loop
+Turn = lts.In-loop-at reads.Pre reads.Post invariant-loop decreases-loop
 
 abbrev ns : Turn → List ℕ
 ns c = c.before.before.before.before.args.counts.now
@@ -71,69 +71,69 @@ ns c = c.before.before.before.before.args.counts.now
 abbrev xs : Turn → List ℕ
 xs c = c.before.before.before.before.args.symbols.now
 
-returns : tie.Need-returns invariant-loop decreases-loop
-returns c = no_symbol c.before.args.counts.now c.before.args.symbols.now c.if1.true
+returns : tie.Need-returns-then-symbols-eq0 invariant-loop decreases-loop
+returns c = no_symbol c.before.args.counts.now c.before.args.symbols.now c.if-symbols-eq0.true
 
-returns-2 : tie.Need-returns-2 invariant-loop decreases-loop
-returns-2 c = too_long c.before.before.args.counts.now c.before.before.args.symbols.now c.if2.true
+returns-2 : tie.Need-returns-then-symbols-gt-MOST_LISTED invariant-loop decreases-loop
+returns-2 c = too_long c.before.before.args.counts.now c.before.before.args.symbols.now c.if-symbols-gt-MOST_LISTED.true
 
-loop-holds : tie.Need-loop-init invariant-loop decreases-loop
+loop-holds : tie.Need-loop-at-init invariant-loop decreases-loop
 loop-holds c =
     let ns : List ℕ = c.before.before.args.counts.now in
     let xs : List ℕ = c.before.before.args.symbols.now in
     (omega arith, omega arith, within ns xs (omega arith) (omega arith))
 
-shared-slice-read-symbol : tie.Need-shared-slice-read-symbol invariant-loop decreases-loop
+shared-slice-read-symbol : tie.Need-bounds-symbols-at invariant-loop decreases-loop
 shared-slice-read-symbol c = search rules
 
-cast-symbol : tie.Need-overflow-cast-symbol invariant-loop decreases-loop
-cast-symbol c = omega (arith, c.shared-slice-known.given c.before.before.loop.at)
+cast-symbol : tie.Need-overflow_cast-symbol invariant-loop decreases-loop
+cast-symbol c = omega (arith, c.shared_slice_known-1.given c.before.before.loop-at.at)
 
-returns-3 : tie.Need-returns-3 invariant-loop decreases-loop
+returns-3 : tie.Need-returns-then-counts-symbol invariant-loop decreases-loop
 returns-3 c =
     let t : Turn = c.before.before in
-    unknown (ns t) (xs t) t.before.loop.trees t.before.loop.at t.loop-test.true c.if3.true ∙ t.before.loop.invariant.2
+    unknown (ns t) (xs t) t.before.loop-at.trees t.before.loop-at.at t.loop-at-test.true c.if-counts-symbol.true ∙ t.before.loop-at.invariant.2
 
-shared-slice-read-count : tie.Need-shared-slice-read-count invariant-loop decreases-loop
+shared-slice-read-count : tie.Need-bounds-counts-symbol invariant-loop decreases-loop
 shared-slice-read-count c = search rules
 
-cast-count : tie.Need-overflow-cast-count invariant-loop decreases-loop
+cast-count : tie.Need-overflow_cast-count invariant-loop decreases-loop
 cast-count c =
     let t : Turn = c.before.before.before in
-    omega (arith, c.shared-slice-known2.given (get_or (xs t) t.before.loop.at 0))
+    omega (arith, c.shared_slice_known-in-loop-at-1.given (get_or (xs t) t.before.loop-at.at 0))
 
-returns-4 : tie.Need-returns-4 invariant-loop decreases-loop
+returns-4 : tie.Need-returns-then-trees-count invariant-loop decreases-loop
 returns-4 c =
     let t : Turn = c.before.before.before.before in
-    short (ns t) (xs t) t.before.loop.trees t.before.loop.at t.loop-test.true c.before.before.if3.false c.if4.true ∙ t.before.loop.invariant.2
+    short (ns t) (xs t) t.before.loop-at.trees t.before.loop-at.at t.loop-at-test.true c.before.before.if-counts-symbol.false c.if-trees-count.true ∙ t.before.loop-at.invariant.2
 
-add-trees : tie.Need-overflow-add-trees invariant-loop decreases-loop
+add-trees : tie.Need-overflow_add-trees invariant-loop decreases-loop
 add-trees c = search rules
 
-add_at : tie.Need-overflow-add-at invariant-loop decreases-loop
+add_at : tie.Need-overflow_add-at invariant-loop decreases-loop
 add_at c = search rules
 
-loop-less : tie.Need-loop-smaller invariant-loop decreases-loop
+loop-less : tie.Need-loop-at-smaller invariant-loop decreases-loop
 loop-less c = search rules
 
-loop-again : tie.Need-loop-preserved invariant-loop decreases-loop
+loop-again : tie.Need-loop-at-preserved invariant-loop decreases-loop
 loop-again c =
     let t : Turn = c.before.before.before.before in
-    let e = taken (ns t) (xs t) t.before.loop.trees t.before.loop.at t.loop-test.true c.before.before.if3.false c.if4.false in
-    (omega arith, omega arith, e ∙ t.before.loop.invariant.2)
+    let e = taken (ns t) (xs t) t.before.loop-at.trees t.before.loop-at.at t.loop-at-test.true c.before.before.if-counts-symbol.false c.if-trees-count.false in
+    (omega arith, omega arith, e ∙ t.before.loop-at.invariant.2)
 
-returns-5 : tie.Need-returns-5 invariant-loop decreases-loop
+returns-5 : tie.Need-returns-then-trees-eq1 invariant-loop decreases-loop
 returns-5 c =
     let b = c.before.before in
-    ended_one b.before.before.before.args.counts.now b.before.before.before.args.symbols.now b.loop.trees b.loop.at c.before.loop-test.false c.if5.true ∙ b.loop.invariant.2
+    ended_one b.before.before.before.args.counts.now b.before.before.before.args.symbols.now b.loop-at.trees b.loop-at.at c.before.loop-at-test.false c.if-trees-eq1.true ∙ b.loop-at.invariant.2
 
-returns-6 : tie.Need-returns-6 invariant-loop decreases-loop
+returns-6 : tie.Need-returns invariant-loop decreases-loop
 returns-6 c =
     let b = c.before.before in
-    ended_more b.before.before.before.args.counts.now b.before.before.before.args.symbols.now b.loop.trees b.loop.at c.before.loop-test.false c.if5.false ∙ b.loop.invariant.2
+    ended_more b.before.before.before.args.counts.now b.before.before.before.args.symbols.now b.loop-at.trees b.loop-at.at c.before.loop-at-test.false c.if-trees-eq1.false ∙ b.loop-at.invariant.2
 
-pub record-fault-spec : {M : Type 1} → statement M
-record-fault-spec =
+pub record_fault_spec : {M : Type 1} → statement M
+record_fault_spec =
     tie.close
     (tie.spec
     invariant-loop

@@ -20,17 +20,17 @@ use Rattle.bank_listed.proofs.store.Lts as lts
 use Rattle.bank_fill.proofs.add.row_for.Reads as row-for-reads
 use Rattle.bank_listed.proofs.top_places.Reads as top-places-reads
 
-abbrev invariant-loop : tie.invariant-loop
+abbrev invariant-loop : tie.invariant-loop-at
 invariant-loop words₀ counts used index₀ symbols stack₀ height₀ n₀ at₀ words index stack height n at =
     Storing words₀ counts used symbols words index stack height n at × (length words ≡ length words₀) × (length index ≡ length index₀)
 
-abbrev decreases-loop : tie.decreases-loop
+abbrev decreases-loop : tie.decreases-loop-at
 decreases-loop words₀ counts used index₀ symbols stack₀ height₀ n₀ at₀ words index stack height n at =
     length symbols - at
 
 -- a turn: its start, and what is known of the storing there
 abbrev Turn : Type 0
-Turn = lts.In-loop (top-places-reads.Asked, top-places-reads.Learnt, row-for-reads.Asked, row-for-reads.Learnt) reads.Pre reads.Post invariant-loop decreases-loop
+Turn = lts.In-loop-at (top-places-reads.Asked, top-places-reads.Learnt, row-for-reads.Asked, row-for-reads.Learnt) reads.Pre reads.Post invariant-loop decreases-loop
 
 abbrev start : (t : Turn) → lts.Start (top-places-reads.Asked, top-places-reads.Learnt, row-for-reads.Asked, row-for-reads.Learnt) reads.Pre reads.Post invariant-loop decreases-loop
 start t = t.before.before.before.before.before.before
@@ -39,126 +39,126 @@ abbrev xs : Turn → List ℕ
 xs t = (start t).args.symbols.now
 
 abbrev symbol : Turn → ℕ
-symbol t = R.symbol_next (xs t) t.before.loop.at
+symbol t = R.symbol_next (xs t) t.before.loop-at.at
 
 abbrev storing : (t : Turn) →
-    Storing (start t).args.words.now (start t).args.counts.now (start t).args.used (xs t) t.before.loop.words t.before.loop.index t.before.loop.stack t.before.loop.height t.before.loop.n t.before.loop.at
-storing t = t.before.loop.inv.0
+    Storing (start t).args.words.now (start t).args.counts.now (start t).args.used (xs t) t.before.loop-at.words t.before.loop-at.index t.before.loop-at.stack t.before.loop-at.height t.before.loop-at.n t.before.loop-at.at
+storing t = t.before.loop-at.invariant.0
 
 -- past the call for a row
 abbrev Called : Type 0
-Called = lts.After-row-for (top-places-reads.Asked, top-places-reads.Learnt, row-for-reads.Asked, row-for-reads.Learnt) reads.Pre reads.Post invariant-loop decreases-loop
+Called = lts.After-row_for-grown (top-places-reads.Asked, top-places-reads.Learnt, row-for-reads.Asked, row-for-reads.Learnt) reads.Pre reads.Post invariant-loop decreases-loop
 
 abbrev turn : Called → Turn
 turn c = c.before.before.before.before.before.before.before
 
 -- how it ended
 called : (c : Called) →
-    Comes (turn c).before.loop.words (start (turn c)).args.counts.now (turn c).before.loop.n
-    (row_for (store_of (turn c).before.loop.words (start (turn c)).args.counts.now (turn c).before.loop.n) (symbol (turn c))
-    (kids_of (start (turn c)).args.counts.now (symbol (turn c)) c.before.before.before.top-places.result))
-    c.row-for.result c.row-for.new.0 c.row-for.new.1.1.1.0
-called c = record { came = c.row-for.ensures }
+    Comes (turn c).before.loop-at.words (start (turn c)).args.counts.now (turn c).before.loop-at.n
+    (row_for (store_of (turn c).before.loop-at.words (start (turn c)).args.counts.now (turn c).before.loop-at.n) (symbol (turn c))
+    (kids_of (start (turn c)).args.counts.now (symbol (turn c)) c.top_places-places.result))
+    c.row_for-grown.result c.row_for-grown.new.words c.row_for-grown.new.index
+called c = record { came = c.row_for-grown.ensures }
 
-loop-holds : tie.Need-loop-init invariant-loop decreases-loop
+loop-holds : tie.Need-loop-at-init invariant-loop decreases-loop
 loop-holds c =
     let s = c.before.before.before.before in
     (S.storing_start s.args.symbols.now _ s.requires.0 s.requires.1 refl s.requires.2, refl, refl)
 
-shared-slice-read-symbol : tie.Need-shared-slice-read-symbol invariant-loop decreases-loop
+shared-slice-read-symbol : tie.Need-bounds-symbols-at invariant-loop decreases-loop
 shared-slice-read-symbol c = search rules
 
-cast-symbol : tie.Need-overflow-cast-symbol invariant-loop decreases-loop
-cast-symbol c = omega (arith, c.shared-slice-known3.given c.before.before.loop.at)
+cast-symbol : tie.Need-overflow_cast-symbol invariant-loop decreases-loop
+cast-symbol c = omega (arith, c.shared_slice_known-in-loop-at-1.given c.before.before.loop-at.at)
 
-cast-count : tie.Need-overflow-cast-count invariant-loop decreases-loop
-cast-count c = omega (arith, c.shared-slice-known3.given c.before.before.loop.at)
+cast-count : tie.Need-overflow_cast-count invariant-loop decreases-loop
+cast-count c = omega (arith, c.shared_slice_known-in-loop-at-1.given c.before.before.loop-at.at)
 
-shared-slice-read-count : tie.Need-shared-slice-read-count invariant-loop decreases-loop
-shared-slice-read-count c = R.known (storing c.before.before).reading c.before.before.loop-test.true
+shared-slice-read-count : tie.Need-bounds-counts-symbol invariant-loop decreases-loop
+shared-slice-read-count c = R.known (storing c.before.before).reading c.before.before.loop-at-test.true
 
-cast-count-2 : tie.Need-overflow-cast-count-2 invariant-loop decreases-loop
-cast-count-2 c = omega (arith, c.shared-slice-known4.given (symbol c.before.before))
+cast-count-2 : tie.Need-overflow_cast-count-in-loop-at invariant-loop decreases-loop
+cast-count-2 c = omega (arith, c.shared_slice_known-in-loop-at-2-1.given (symbol c.before.before))
 
-top-places-requires : tie.Need-top-places-requires invariant-loop decreases-loop
+top-places-requires : tie.Need-top_places-places-requires invariant-loop decreases-loop
 top-places-requires c κs =
     let t : Turn = c.before.before.before in
     let r = (storing t).reading in
-    (r.long, r.good.wide (symbol t), R.enough r t.loop-test.true, omega (arith, r.low, r.within, r.few))
+    (r.long, r.good.wide (symbol t), R.enough r t.loop-at-test.true, omega (arith, r.low, r.within, r.few))
 
-row-for-requires : tie.Need-row-for-requires invariant-loop decreases-loop
+row-for-requires : tie.Need-row_for-grown-requires invariant-loop decreases-loop
 row-for-requires c κs =
     let t : Turn = c.before.before.before.before.before.before in
-    ((storing t).stage.bank, S.row_asked (storing t) t.loop-test.true c.before.before.top-places.ensures)
+    ((storing t).stage.bank, S.row_asked (storing t) t.loop-at-test.true c.top_places-places.ensures)
 
-enum_told : tie.Need-enum-told invariant-loop decreases-loop
+enum_told : tie.Need-enum_told-1 invariant-loop decreases-loop
 enum_told c = search rules
 
-same_length : tie.Need-same-length invariant-loop decreases-loop
+same_length : tie.Need-shape_of-words-in-Full invariant-loop decreases-loop
 same_length c = search rules
 
-same-length-2 : tie.Need-same-length-2 invariant-loop decreases-loop
+same-length-2 : tie.Need-shape_of-index-in-Full invariant-loop decreases-loop
 same-length-2 c = search rules
 
-returns : tie.Need-returns invariant-loop decreases-loop
+returns : tie.Need-returns-in-Full invariant-loop decreases-loop
 returns c =
-    let d : Called = c.before.before.before.before.before.before in
+    let d : Called = c.before.before.before.before.before in
     let t : Turn = turn d in
-    (S.ran_out (storing t) t.loop-test.taken d.before.before.before.top-places.ensures (comes_as c.enum_told.given.1 (called d))).came
+    (S.ran_out (storing t) t.loop-at-test.true d.top_places-places.ensures (comes_as c.in-Full.is (called d))).came
 
-enum-known-grown : tie.Need-enum-known-grown invariant-loop decreases-loop
+enum-known-grown : tie.Need-enum_known-grown invariant-loop decreases-loop
 enum-known-grown c = search rules
 
-sub-height : tie.Need-overflow-sub-height invariant-loop decreases-loop
+sub-height : tie.Need-overflow_sub-height invariant-loop decreases-loop
 sub-height c =
-    let t : Turn = turn c.before.before.before.before.before.before.before in
-    R.enough (storing t).reading t.loop-test.taken
+    let t : Turn = turn c.before.before.before.before.before in
+    R.enough (storing t).reading t.loop-at-test.true
 
-mul-stack : tie.Need-overflow-mul-stack invariant-loop decreases-loop
+mul-stack : tie.Need-offset_bounds-stack-height invariant-loop decreases-loop
 mul-stack c =
-    let t : Turn = turn c.before.before.before.before.before.before.before in
-    omega (arith, R.lower (storing t).reading t.loop-test.taken, (storing t).reading.long)
+    let t : Turn = turn c.before.before.before.before.before in
+    omega (arith, R.lower (storing t).reading t.loop-at-test.true, (storing t).reading.long)
 
-array-write-stack : tie.Need-array-write-stack invariant-loop decreases-loop
+array-write-stack : tie.Need-bounds-stack-height invariant-loop decreases-loop
 array-write-stack c =
-    let t : Turn = turn c.before.before.before.before.before.before.before in
-    omega (arith, R.lower (storing t).reading t.loop-test.taken, (storing t).reading.long)
+    let t : Turn = turn c.before.before.before.before.before in
+    omega (arith, R.lower (storing t).reading t.loop-at-test.true, (storing t).reading.long)
 
-add-height : tie.Need-overflow-add-height invariant-loop decreases-loop
+add-height : tie.Need-overflow_add-height invariant-loop decreases-loop
 add-height c =
-    let t : Turn = turn c.before.before.before.before.before.before.before in
-    omega (arith, R.lower (storing t).reading t.loop-test.taken, (storing t).reading.long)
+    let t : Turn = turn c.before.before.before.before.before in
+    omega (arith, R.lower (storing t).reading t.loop-at-test.true, (storing t).reading.long)
 
-add_at : tie.Need-overflow-add-at invariant-loop decreases-loop
+add_at : tie.Need-overflow_add-at invariant-loop decreases-loop
 add_at c =
-    let t : Turn = turn c.before.before.before.before.before.before.before in
-    omega (arith, t.loop-test.taken, (storing t).reading.few)
+    let t : Turn = turn c.before.before.before.before.before in
+    omega (arith, t.loop-at-test.true, (storing t).reading.few)
 
-loop-less : tie.Need-loop-smaller invariant-loop decreases-loop
+loop-less : tie.Need-loop-at-smaller invariant-loop decreases-loop
 loop-less c =
-    let t : Turn = turn c.before.before.before.before.before.before.before in
-    omega (arith, t.loop-test.taken)
+    let t : Turn = turn c.before.before.before.before.before in
+    omega (arith, t.loop-at-test.true)
 
-loop-again : tie.Need-loop-preserved invariant-loop decreases-loop
+loop-again : tie.Need-loop-at-preserved invariant-loop decreases-loop
 loop-again c =
-    let d : Called = c.before.before.before.before.before.before.before in
+    let d : Called = c.before.before.before.before.before in
     let t : Turn = turn d in
-    let m = S.storing_more (storing t) t.loop-test.taken d.before.before.before.top-places.ensures (comes_as c.before.grown.given.1 (called d)) in
-    let k = d.row-for.auto in
-    let i = t.before.loop.inv in
-    (m, k.0 ∙ i.1, k.1.1.1.0 ∙ i.2)
+    let m = S.storing_more (storing t) t.loop-at-test.true d.top_places-places.ensures (comes_as c.in-At.is (called d)) in
+    let k = d.row_for-grown.auto in
+    let i = t.before.loop-at.invariant in
+    (m, k.words ∙ i.1, k.index ∙ i.2)
 
-array-read-t31 : tie.Need-array-read-t31 invariant-loop decreases-loop
+array-read-t31 : tie.Need-bounds-stack-0 invariant-loop decreases-loop
 array-read-t31 c = search rules
 
-same-length-3 : tie.Need-same-length-3 invariant-loop decreases-loop
+same-length-3 : tie.Need-shape_of-words invariant-loop decreases-loop
 same-length-3 c = search rules
 
-same-length-4 : tie.Need-same-length-4 invariant-loop decreases-loop
+same-length-4 : tie.Need-shape_of-index invariant-loop decreases-loop
 same-length-4 c = search rules
 
-returns-2 : tie.Need-returns-2 invariant-loop decreases-loop
-returns-2 c = (S.stored c.before.loop.invariant.0 c.loop-test.false).came
+returns-2 : tie.Need-returns invariant-loop decreases-loop
+returns-2 c = (S.stored c.before.loop-at.invariant.0 c.loop-at-test.false).came
 
 pub store_spec : {M : Type 1} → statement M
 store_spec =

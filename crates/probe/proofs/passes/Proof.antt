@@ -10,16 +10,16 @@ use Rattle.probe.proofs.Laws.Sizes.{not_sized, sized}
 use Rattle.probe.proofs.passes.Statement.{statement}
 use Rattle.probe.proofs.passes.Tie as tie
 
-fits : (c : tie.Else1) → size_fits c.before.before.before.before.before.args.words.now ≡ true
-fits c = sym c.before.size_fits.ensures ∙ not-false _ c.if1.false
+fits : (c : tie.Else-not-size_fits) → size_fits c.before.before.before.before.before.args.words.now ≡ true
+fits c = sym c.before.size_fits.ensures ∙ not-false _ c.if-not-size_fits.false-raw
 
-size-fits-requires : tie.Need-size-fits-requires
+size-fits-requires : tie.Need-size_fits-requires
 size-fits-requires c κs = search rules
 
-returns : tie.Need-returns
+returns : tie.Need-returns-then-not-size_fits
 returns c =
     let s = c.before.before.before.before.before in
-    (not_sized s.args.words.now s.args.counts.now s.args.used (sym c.before.size_fits.ensures ∙ not-true _ c.if1.true), λ f. absurd (true≢false (sym f)))
+    (not_sized s.args.words.now s.args.counts.now s.args.used (sym c.before.size_fits.ensures ∙ not-true _ c.if-not-size_fits.true-raw), λ f. absurd (true≢false (sym f)))
 
 t1-requires : tie.Need-t1-requires
 t1-requires c κs =
@@ -29,17 +29,17 @@ t1-requires c κs =
     let w = size_fits_facts s.args.words.now (fits d) in
     (fits d, record { some = omega (arith, p); few = omega (arith, p); long = omega (arith, p, w.whole, w.most) })
 
-same_length : tie.Need-same-length
+same_length : tie.Need-shape_of-index
 same_length c = search rules
 
-returns-2 : tie.Need-returns-2
+returns-2 : tie.Need-returns
 returns-2 c =
     let d = c.before.before.before.before in
     let s = d.before.before.before.before.before in
     (c.before.before.t1.ensures.0 ∙ sized s.args.words.now s.args.counts.now s.args.used (fits d), c.before.before.t1.ensures.1)
 
-pub passes-spec : {M : Type 1} → statement M
-passes-spec =
+pub passes_spec : {M : Type 1} → statement M
+passes_spec =
     tie.close
     (tie.spec
     size-fits-requires

@@ -16,45 +16,45 @@ use Rattle.probe.proofs.probe_known.Tie as tie
 abbrev start : tie.After-passes → tie.Start
 start c = c.before.before.before.before.before
 
-passed : (c : tie.Else1) → is_passed (start c.before.before).args.words.now (start c.before.before).args.counts.now (start c.before.before).args.used ≡ true
-passed c = sym c.before.before.passes.ensures.0 ∙ not-false _ c.if1.false
+passed : (c : tie.Else-not-passes) → is_passed (start c.before.before).args.words.now (start c.before.before).args.counts.now (start c.before.before).args.used ≡ true
+passed c = sym c.before.before.passes.ensures.0 ∙ not-false _ c.if-not-passes.false-raw
 
-bank : (c : tie.Else1) →
-    Bank (start c.before.before).args.words.now (start c.before.before).args.counts.now (start c.before.before).args.used c.before.before.passes.new.1.1.1.0
-bank c = c.before.before.passes.ensures.1 (not-false _ c.if1.false)
+bank : (c : tie.Else-not-passes) →
+    Bank (start c.before.before).args.words.now (start c.before.before).args.counts.now (start c.before.before).args.used c.before.before.passes.new.index
+bank c = c.before.before.passes.ensures.1 (not-false _ c.if-not-passes.false-raw)
 
-failed : (c : tie.Then1) → is_passed (start c.before.before).args.words.now (start c.before.before).args.counts.now (start c.before.before).args.used ≡ false
-failed c = sym c.before.before.passes.ensures.0 ∙ not-true _ c.if1.true
+failed : (c : tie.Then-not-passes) → is_passed (start c.before.before).args.words.now (start c.before.before).args.counts.now (start c.before.before).args.used ≡ false
+failed c = sym c.before.before.passes.ensures.0 ∙ not-true _ c.if-not-passes.true-raw
 
 -- the record, past its test
-faultless : (c : tie.Else2) → record_fault (start c.before.before.before.before).args.counts.now (start c.before.before.before.before).args.symbols.now ≡ 0
-faultless c = sym c.before.record-fault.ensures ∙ c.if2.false
+faultless : (c : tie.Else-record_fault-ne0) → record_fault (start c.before.before.before.before).args.counts.now (start c.before.before.before.before).args.symbols.now ≡ 0
+faultless c = sym c.before.record_fault.ensures ∙ c.if-record_fault-ne0.false
 
-slice-aggregate-passes : tie.Need-slice-aggregate-passes
+slice-aggregate-passes : tie.Need-slice_bounds-passes-end
 slice-aggregate-passes c = search rules
 
 passes-requires : tie.Need-passes-requires
 passes-requires c κs = search rules
 
-returns : tie.Need-returns
+returns : tie.Need-returns-then-not-passes
 returns c =
     let s = start c.before.before in
     number_before _ (is_passed s.args.words.now s.args.counts.now s.args.used) (is_listed s.args.counts.now s.args.symbols.now) (failed c)
 
-record-fault-requires : tie.Need-record-fault-requires
+record-fault-requires : tie.Need-record_fault-requires
 record-fault-requires c κs = search rules
 
-returns-2 : tie.Need-returns-2
+returns-2 : tie.Need-returns-then-record_fault-ne0
 returns-2 c =
     let d = c.before.before in
     let s = start d.before.before in
     number_between _ (is_passed s.args.words.now s.args.counts.now s.args.used) (is_listed s.args.counts.now s.args.symbols.now) (passed d)
-    (ne_eqb (record_fault s.args.counts.now s.args.symbols.now) 0 (λ e. c.if2.true (c.before.record-fault.ensures ∙ e)))
+    (ne_eqb (record_fault s.args.counts.now s.args.symbols.now) 0 (λ e. c.if-record_fault-ne0.true (c.before.record_fault.ensures ∙ e)))
 
-slice-aggregate-known-row : tie.Need-slice-aggregate-known-row
+slice-aggregate-known-row : tie.Need-slice_bounds-known_row-end
 slice-aggregate-known-row c = search rules
 
-known-row-requires : tie.Need-known-row-requires
+known-row-requires : tie.Need-known_row-requires
 known-row-requires c κs =
     let e = c.before in
     let d = e.before.before in
@@ -62,16 +62,16 @@ known-row-requires c κs =
     let p = record_fault_parses s.args.counts.now s.args.symbols.now (faultless e) in
     (bank d, p.0, p.2)
 
-returns-3 : tie.Need-returns-3
+returns-3 : tie.Need-returns
 returns-3 c =
     let e = c.before.before in
     let d = e.before.before in
     let s = start d.before.before in
     number_behind _ (is_passed s.args.words.now s.args.counts.now s.args.used) (is_listed s.args.counts.now s.args.symbols.now) (passed d)
-    (eq-eqb (record_fault s.args.counts.now s.args.symbols.now) 0 (faultless e)) c.known-row.result.0 c.known-row.ensures
+    (eq-eqb (record_fault s.args.counts.now s.args.symbols.now) 0 (faultless e)) c.known_row.result.0 c.known_row.ensures
 
-pub probe-known-spec : {M : Type 1} → statement M
-probe-known-spec =
+pub probe_known_spec : {M : Type 1} → statement M
+probe_known_spec =
     tie.close
     (tie.spec
     slice-aggregate-passes

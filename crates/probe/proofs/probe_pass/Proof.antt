@@ -14,48 +14,48 @@ use Rattle.probe.proofs.probe_pass.Tie as tie
 abbrev start : tie.After-passes → tie.Start
 start c = c.before.before.before.before.before
 
-passed : (c : tie.Else1) → is_passed (start c.before.before).args.words.now (start c.before.before).args.counts.now (start c.before.before).args.used ≡ true
-passed c = sym c.before.before.passes.ensures.0 ∙ not-false _ c.if1.false
+passed : (c : tie.Else-not-passes) → is_passed (start c.before.before).args.words.now (start c.before.before).args.counts.now (start c.before.before).args.used ≡ true
+passed c = sym c.before.before.passes.ensures.0 ∙ not-false _ c.if-not-passes.false-raw
 
-bank : (c : tie.Else1) →
-    Bank (start c.before.before).args.words.now (start c.before.before).args.counts.now (start c.before.before).args.used c.before.before.passes.new.1.1.1.0
-bank c = c.before.before.passes.ensures.1 (not-false _ c.if1.false)
+bank : (c : tie.Else-not-passes) →
+    Bank (start c.before.before).args.words.now (start c.before.before).args.counts.now (start c.before.before).args.used c.before.before.passes.new.index
+bank c = c.before.before.passes.ensures.1 (not-false _ c.if-not-passes.false-raw)
 
-failed : (c : tie.Then1) → is_passed (start c.before.before).args.words.now (start c.before.before).args.counts.now (start c.before.before).args.used ≡ false
-failed c = sym c.before.before.passes.ensures.0 ∙ not-true _ c.if1.true
+failed : (c : tie.Then-not-passes) → is_passed (start c.before.before).args.words.now (start c.before.before).args.counts.now (start c.before.before).args.used ≡ false
+failed c = sym c.before.before.passes.ensures.0 ∙ not-true _ c.if-not-passes.true-raw
 
-slice-aggregate-passes : tie.Need-slice-aggregate-passes
+slice-aggregate-passes : tie.Need-slice_bounds-passes-end
 slice-aggregate-passes c = search rules
 
 passes-requires : tie.Need-passes-requires
 passes-requires c κs = search rules
 
-returns : tie.Need-returns
+returns : tie.Need-returns-then-not-passes
 returns c = (sym (failed c), λ f. absurd (true≢false (sym f)))
 
-returns-2 : tie.Need-returns-2
-returns-2 c = (sym (passed c.before), λ f l. absurd (omega (arith, c.if2.true, l)))
+returns-2 : tie.Need-returns-then-marks-used
+returns-2 c = (sym (passed c.before), λ f l. absurd (omega (arith, c.if-marks-used.true, l)))
 
-slice-aggregate-show : tie.Need-slice-aggregate-show
+slice-aggregate-show : tie.Need-slice_bounds-show-end
 slice-aggregate-show c = search rules
 
 show-requires : tie.Need-show-requires
 show-requires c κs =
     let e = c.before.before in
     let r = bank e.before in
-    (omega (arith, r.finding.roomy.long, r.finding.room), e.if2.false)
+    (omega (arith, r.finding.roomy.long, r.finding.room), e.if-marks-used.false)
 
-same_length : tie.Need-same-length
+same_length : tie.Need-shape_of-marks
 same_length c = search rules
 
-returns-3 : tie.Need-returns-3
+returns-3 : tie.Need-returns
 returns-3 c =
     let m = c.before.before in
     let d = m.before.before.before.before in
     (sym (passed d), λ f l i u. m.show.ensures.same i u ∙ (bank d).holed i u)
 
-pub probe-pass-spec : {M : Type 1} → statement M
-probe-pass-spec =
+pub probe_pass_spec : {M : Type 1} → statement M
+probe_pass_spec =
     tie.close
     (tie.spec
     slice-aggregate-passes

@@ -5,17 +5,17 @@ use Rattle.probe.specs.Probed.{said_of}
 use Rattle.probe.proofs.reply_of.Statement.{statement}
 use Rattle.probe.proofs.reply_of.Tie as tie
 
-enum_told : tie.Need-enum-told
+enum_told : tie.Need-enum_told-1
 enum_told c = search rules
 
-enum-known-grown : tie.Need-enum-known-grown
+enum-known-grown : tie.Need-enum_known-grown
 enum-known-grown c = search rules
 
-returns : tie.Need-returns
-returns c = sym (ap said_of c.enum_told.given.1)
+returns : tie.Need-returns-in-Full
+returns c = sym (ap said_of c.in-Full.is)
 
-returns-2 : tie.Need-returns-2
-returns-2 c = sym (ap said_of c.before.grown.given.1)
+returns-2 : tie.Need-returns-in-At
+returns-2 c = sym (ap said_of c.in-At.is)
 
-pub reply-of-spec : {M : Type 1} → statement M
-reply-of-spec = tie.close (tie.spec enum_told enum-known-grown returns returns-2)
+pub reply_of_spec : {M : Type 1} → statement M
+reply_of_spec = tie.close (tie.spec enum_told enum-known-grown returns returns-2)

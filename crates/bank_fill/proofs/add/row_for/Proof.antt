@@ -7,10 +7,10 @@ use Rattle.bank_fill.proofs.add.row_for.Tie as tie
 put-requires : tie.Need-put-requires
 put-requires c κs = search rules
 
-same_length : tie.Need-same-length
+same_length : tie.Need-shape_of-words
 same_length c = search rules
 
-same-length-2 : tie.Need-same-length-2
+same-length-2 : tie.Need-shape_of-index
 same-length-2 c = search rules
 
 returns : tie.Need-returns
@@ -18,5 +18,5 @@ returns c =
     let s = c.before.before.before.before.before.before.before.before.before.before in
     (put_comes s.requires.0 s.requires.1 c.before.before.before.before.put.ensures).came
 
-pub row-for-spec : {M : Type 1} → statement M
-row-for-spec = tie.close (tie.spec put-requires same_length same-length-2 returns)
+pub row_for_spec : {M : Type 1} → statement M
+row_for_spec = tie.close (tie.spec put-requires same_length same-length-2 returns)
