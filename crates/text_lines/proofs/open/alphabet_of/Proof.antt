@@ -13,116 +13,116 @@ use Rattle.text_lines.proofs.Laws.Opening.{Opening, fits_at, alphabet_none, open
 use Rattle.text_lines.proofs.open.alphabet_of.Statement.{statement}
 use Rattle.text_lines.proofs.open.alphabet_of.Tie as tie
 
-abbrev invariant-loop : tie.invariant-loop
+abbrev invariant-loop : tie.invariant-loop-at
 invariant-loop line letters₀ counts₀ size₀ at₀ len letters counts size at = Opening line letters₀ letters counts size at
 
-abbrev decreases-loop : tie.decreases-loop
+abbrev decreases-loop : tie.decreases-loop-at
 decreases-loop line letters₀ counts₀ size₀ at₀ len letters counts size at = length line - at
 
-returns : tie.Need-returns invariant-loop decreases-loop
+returns : tie.Need-returns-then-len-eq0 invariant-loop decreases-loop
 returns c =
     let s = c.before.before in
-    opened_by 0 s.args.letters.now s.args.letters.now s.args.counts.now (alphabet_none s.args.line.now c.if1.true) (omega arith) s.requires.0 s.requires.1 refl
+    opened_by 0 s.args.letters.now s.args.letters.now s.args.counts.now (alphabet_none s.args.line.now c.if-len-eq0.true) (omega arith) s.requires.0 s.requires.1 refl
 
-loop-holds : tie.Need-loop-init invariant-loop decreases-loop
+loop-holds : tie.Need-loop-at-init invariant-loop decreases-loop
 loop-holds c =
     let s = c.before.before in
-    opening_first s.args.line.now s.args.letters.now s.args.counts.now c.if1.false s.requires.0 s.requires.1
+    opening_first s.args.line.now s.args.letters.now s.args.counts.now c.if-len-eq0.false s.requires.0 s.requires.1
 
-sub-loop : tie.Need-overflow-sub-loop invariant-loop decreases-loop
+sub-loop : tie.Need-overflow_sub-len invariant-loop decreases-loop
 sub-loop c = search rules
 
-shared-slice-read-letter : tie.Need-shared-slice-read-letter invariant-loop decreases-loop
+shared-slice-read-letter : tie.Need-bounds-line-at invariant-loop decreases-loop
 shared-slice-read-letter c = search rules
 
-add-digit : tie.Need-overflow-add-digit invariant-loop decreases-loop
+add-digit : tie.Need-overflow_add-digit invariant-loop decreases-loop
 add-digit c = search rules
 
-shared-slice-read-digit : tie.Need-shared-slice-read-digit invariant-loop decreases-loop
+shared-slice-read-digit : tie.Need-bounds-line-at-in-loop-at invariant-loop decreases-loop
 shared-slice-read-digit c = search rules
 
-add-pair-fits : tie.Need-overflow-add-pair-fits invariant-loop decreases-loop
+add-pair-fits : tie.Need-overflow_add-at invariant-loop decreases-loop
 add-pair-fits c = search rules
 
-shared-slice-read-pair-fits : tie.Need-shared-slice-read-pair-fits invariant-loop decreases-loop
+shared-slice-read-pair-fits : tie.Need-bounds-line-at-in-loop-at-2 invariant-loop decreases-loop
 shared-slice-read-pair-fits c = search rules
 
-pair-fits-requires : tie.Need-pair-fits-requires invariant-loop decreases-loop
+pair-fits-requires : tie.Need-pair_fits-requires invariant-loop decreases-loop
 pair-fits-requires c κs = search rules
 
 -- a turn: the line, where it begins, and how many pairs came before
 abbrev Turn : Type 0
-Turn = tie.After-pair-fits invariant-loop decreases-loop
+Turn = tie.After-pair_fits invariant-loop decreases-loop
 
-abbrev head : Turn → tie.At-loop invariant-loop decreases-loop
-head c = c.before.before.before.before.before.before
+abbrev head : Turn → tie.At-loop-at invariant-loop decreases-loop
+head c = c.before.before.before.before.before
 
 abbrev line : Turn → List ℕ
 line c = (head c).before.before.before.args.line.now
 
 abbrev at : Turn → ℕ
-at c = (head c).loop.at
+at c = (head c).loop-at.at
 
 three : (c : Turn) → at c + 3 ≤ length (line c)
-three c = let t = c.before.before.before.before.before.loop-test.true in let w = (head c).loop.invariant.within in omega arith
+three c = let t = c.before.before.before.before.loop-at-test.true in let w = (head c).loop-at.invariant.within in omega arith
 
-returns-2 : tie.Need-returns-2 invariant-loop decreases-loop
+returns-2 : tie.Need-returns-then-not-pair_fits invariant-loop decreases-loop
 returns-2 c =
     let t = c.before in
-    opened_not (opening_stop (head t).loop.invariant (three t) (sym t.pair_Fits.ensures ∙ not-true t.pair_Fits.result c.if2.true)) _ _ _
+    opened_not (opening_stop (head t).loop-at.invariant (three t) (sym t.pair_fits.ensures ∙ not-true t.pair_fits.result c.if-not-pair_fits.true-raw)) _ _ _
 
-fits : (c : tie.Else2 invariant-loop decreases-loop) → fits_at (line c.before) (head c.before).loop.letters (head c.before).loop.size (at c.before) ≡ true
-fits c = sym c.before.pair_Fits.ensures ∙ not-false c.before.pair_Fits.result c.if2.false
+fits : (c : tie.Else-not-pair_fits invariant-loop decreases-loop) → fits_at (line c.before) (head c.before).loop-at.letters (head c.before).loop-at.size (at c.before) ≡ true
+fits c = sym c.before.pair_fits.ensures ∙ not-false c.before.pair_fits.result c.if-not-pair_fits.false-raw
 
-room : (c : tie.Else2 invariant-loop decreases-loop) → (head c.before).loop.size < most_symbols
-room c = opening_room (head c.before).loop.inv (three c.before) (fits c)
+room : (c : tie.Else-not-pair_fits invariant-loop decreases-loop) → (head c.before).loop-at.size < most_symbols
+room c = opening_room (head c.before).loop-at.invariant (three c.before) (fits c)
 
-element-write-letters : tie.Need-element-write-letters invariant-loop decreases-loop
-element-write-letters c = room c
+element-write-letters : tie.Need-bounds-letters-size invariant-loop decreases-loop
+element-write-letters c = room c.before
 
-sub-counts : tie.Need-overflow-sub-counts invariant-loop decreases-loop
-sub-counts c = opening_digit (head c.before).loop.inv (three c.before) (fits c)
+sub-counts : tie.Need-overflow_sub-counts invariant-loop decreases-loop
+sub-counts c = opening_digit (head c.before.before).loop-at.invariant (three c.before.before) (fits c.before)
 
-element-write-counts : tie.Need-element-write-counts invariant-loop decreases-loop
-element-write-counts c = room c
+element-write-counts : tie.Need-bounds-counts-size invariant-loop decreases-loop
+element-write-counts c = room c.before.before
 
-add-size : tie.Need-overflow-add-size invariant-loop decreases-loop
+add-size : tie.Need-overflow_add-size invariant-loop decreases-loop
 add-size c = search rules
 
-add_at : tie.Need-overflow-add-at invariant-loop decreases-loop
+add_at : tie.Need-overflow_add-at-in-loop-at invariant-loop decreases-loop
 add_at c = search rules
 
-returns-3 : tie.Need-returns-3 invariant-loop decreases-loop
-returns-3 c = opening_last (head c.before.before).loop.inv (three c.before.before) (fits c.before) c.if3.true
+returns-3 : tie.Need-returns-then-at-len invariant-loop decreases-loop
+returns-3 c = opening_last (head c.before.before.before.before).loop-at.invariant (three c.before.before.before.before) (fits c.before.before.before) c.if-at-len.true
 
-shared-slice-read-if4 : tie.Need-shared-slice-read-if4 invariant-loop decreases-loop
+shared-slice-read-if4 : tie.Need-bounds-line-at-in-loop-at-3 invariant-loop decreases-loop
 shared-slice-read-if4 c = search rules
 
 -- the line goes on
-further : (c : tie.Else3 invariant-loop decreases-loop) → at c.before.before + 3 < length (line c.before.before)
-further c = let t = three c.before.before in let n = c.if3.false in omega arith
+further : (c : tie.Else-at-len invariant-loop decreases-loop) → at c.before.before.before.before + 3 < length (line c.before.before.before.before)
+further c = let t = three c.before.before.before.before in let n = c.if-at-len.false in omega arith
 
-returns-4 : tie.Need-returns-4 invariant-loop decreases-loop
+returns-4 : tie.Need-returns-then-line-at-ne32 invariant-loop decreases-loop
 returns-4 c =
     let t = c.before.before in
-    opened_not (opening_unparted (head t.before.before).loop.inv (three t.before.before) (fits t.before) (further t) c.if4.true) _ _ _
+    opened_not (opening_unparted (head t.before.before.before.before).loop-at.invariant (three t.before.before.before.before) (fits t.before.before.before) (further t) c.if-line-at-ne32.true) _ _ _
 
-add-at-2 : tie.Need-overflow-add-at-2 invariant-loop decreases-loop
+add-at-2 : tie.Need-overflow_add-at-in-loop-at-2 invariant-loop decreases-loop
 add-at-2 c = search rules
 
-loop-less : tie.Need-loop-smaller invariant-loop decreases-loop
+loop-less : tie.Need-loop-at-smaller invariant-loop decreases-loop
 loop-less c = search rules
 
-loop-again : tie.Need-loop-preserved invariant-loop decreases-loop
+loop-again : tie.Need-loop-at-preserved invariant-loop decreases-loop
 loop-again c =
     let t = c.before.before in
-    opening_more (head t.before.before).loop.inv (three t.before.before) (fits t.before) (further t) c.if4.false
+    opening_more (head t.before.before.before.before).loop-at.invariant (three t.before.before.before.before) (fits t.before.before.before) (further t) c.if-line-at-ne32.false
 
-returns-5 : tie.Need-returns-5 invariant-loop decreases-loop
-returns-5 c = opened_not (opening_short c.before.loop.invariant c.loop-test.false) _ _ _
+returns-5 : tie.Need-returns invariant-loop decreases-loop
+returns-5 c = opened_not (opening_short c.before.loop-at.invariant c.loop-at-test.false) _ _ _
 
-pub alphabet-of-spec : {M : Type 1} → statement M
-alphabet-of-spec =
+pub alphabet_of_spec : {M : Type 1} → statement M
+alphabet_of_spec =
     tie.close
     (tie.spec
     invariant-loop

@@ -4,11 +4,11 @@ use borrow.Author.Tests.{le-leb, lt-leb}
 use Rattle.text_lines.proofs.open.is_digit.Statement.{statement}
 use Rattle.text_lines.proofs.open.is_digit.Tie as tie
 
-returns : tie.Need-returns
-returns c = rw (le-leb 48 c.before.args.byte c.if1.true)
+returns : tie.Need-returns-then-byte-ge48
+returns c = rw (le-leb 48 c.before.args.byte c.if-byte-ge48.true)
 
-returns-2 : tie.Need-returns-2
-returns-2 c = rw (lt-leb 48 c.before.args.byte c.if1.false)
+returns-2 : tie.Need-returns-else-byte-ge48
+returns-2 c = rw (lt-leb 48 c.before.args.byte c.if-byte-ge48.false)
 
-pub is-digit-spec : {M : Type 1} → statement M
-is-digit-spec = tie.close (tie.spec returns returns-2)
+pub is_digit_spec : {M : Type 1} → statement M
+is_digit_spec = tie.close (tie.spec returns returns-2)

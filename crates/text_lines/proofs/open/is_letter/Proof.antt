@@ -8,21 +8,21 @@ use Rattle.model.specs.Base.{is_in}
 use Rattle.text_lines.proofs.open.is_letter.Statement.{statement}
 use Rattle.text_lines.proofs.open.is_letter.Tie as tie
 
-returns : tie.Need-returns
-returns c = rw (le-leb 65 c.before.before.args.byte c.before.if1.true, c.if2.true)
+returns : tie.Need-returns-then-byte-le90
+returns c = rw (le-leb 65 c.before.before.args.byte c.before.if-byte-ge65.true, c.if-byte-le90.true-raw)
 
-no_capital : (c : tie.Joined1) → is_in 65 90 c.before.args.byte ≡ false
+no_capital : (c : tie.Joined-else-byte-ge65) → is_in 65 90 c.before.args.byte ≡ false
 no_capital c =
     ⊎_elim
-    (λ w. rw (le-leb 65 c.before.args.byte w.0.taken, w.1.left))
-    (λ w. rw (lt-leb 65 c.before.args.byte w.left))
-    c.if1.branch
+    (λ w. rw (le-leb 65 c.before.args.byte w.if-byte-ge65.true, w.if-byte-le90.false-raw))
+    (λ w. rw (lt-leb 65 c.before.args.byte w.if-byte-ge65.false))
+    c.else-byte-ge65.branch-raw
 
-returns-2 : tie.Need-returns-2
-returns-2 c = rw (no_capital c.before, le-leb 97 c.before.before.args.byte c.if3.true)
+returns-2 : tie.Need-returns-then-byte-ge97
+returns-2 c = rw (no_capital c.before, le-leb 97 c.before.before.args.byte c.if-byte-ge97.true)
 
-returns-3 : tie.Need-returns-3
-returns-3 c = rw (no_capital c.before, lt-leb 97 c.before.before.args.byte c.if3.false)
+returns-3 : tie.Need-returns-else-byte-ge97
+returns-3 c = rw (no_capital c.before, lt-leb 97 c.before.before.args.byte c.if-byte-ge97.false)
 
-pub is-letter-spec : {M : Type 1} → statement M
-is-letter-spec = tie.close (tie.spec returns returns-2 returns-3)
+pub is_letter_spec : {M : Type 1} → statement M
+is_letter_spec = tie.close (tie.spec returns returns-2 returns-3)
