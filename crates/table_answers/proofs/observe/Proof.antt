@@ -19,7 +19,7 @@ use Rattle.table_answers.proofs.Laws.Steps.{next, tops_below, tops_fill, row_ans
 use Rattle.table_answers.proofs.observe.Statement.{statement}
 use Rattle.table_answers.proofs.observe.Tie as tie
 
-abbrev invariant-loop : tie.invariant-loop
+abbrev invariant-loop : tie.invariant-loop-k
 invariant-loop words counts used index t c table₀ notes₀ tops n contexts k₀ table notes k =
     let x = store_of words counts used in
     (k ≤ length t) ×
@@ -28,7 +28,7 @@ invariant-loop words counts used index t c table₀ notes₀ tops n contexts k�
     NeededFor x index used c notes n tops ×
     (length notes ≡ length notes₀)
 
-abbrev decreases-loop : tie.decreases-loop
+abbrev decreases-loop : tie.decreases-loop-k
 decreases-loop words counts used index t c table₀ notes₀ tops n contexts k₀ table notes k = length t - k
 
 -- the function's start; the needed rows listed; the loop's head; a transition's column filled; its answers read
@@ -36,16 +36,16 @@ abbrev Start : Type 0
 Start = tie.Start invariant-loop decreases-loop
 
 abbrev Listed : Type 0
-Listed = tie.After-needed-rows invariant-loop decreases-loop
+Listed = tie.After-needed_rows-n invariant-loop decreases-loop
 
 abbrev Head : Type 0
-Head = tie.At-loop invariant-loop decreases-loop
+Head = tie.At-loop-k invariant-loop decreases-loop
 
 abbrev Filled : Type 0
-Filled = tie.After-fill-column invariant-loop decreases-loop
+Filled = tie.After-fill_column invariant-loop decreases-loop
 
 abbrev Read : Type 0
-Read = tie.After-read-column invariant-loop decreases-loop
+Read = tie.After-read_column invariant-loop decreases-loop
 
 abbrev start : Listed → Start
 start c = c.before.before.before.before.before.before.before.before.before.before
@@ -60,7 +60,7 @@ abbrev head : Filled → Head
 head c = c.before.before.before.before
 
 abbrev filled : Read → Filled
-filled c = c.before.before.before.before.before.before
+filled c = c.before.before.before.before.before
 
 -- the positions of C's members
 module _ (c : Listed) where
@@ -68,11 +68,11 @@ module _ (c : Listed) where
   members = (start c).args.c.now
 
   abbrev tops : List ℕ
-  tops = c.needed-rows.new.1.1.1.1.1.1.0
+  tops = c.needed_rows-n.new.tops
 
   -- the array has room for them
   enough : length members ≤ length tops
-  enough = let e : length tops ≡ most_contexts = c.needed-rows.auto.1.1.1.1.1.1.0 in omega (arith, (start c).requires.4)
+  enough = let e : length tops ≡ most_contexts = c.needed_rows-n.auto.tops in omega (arith, (start c).requires.4)
 
   -- those lent are as many as C has members
   lent : length (take (length members) tops) ≡ length members
@@ -105,34 +105,34 @@ module _ (c : Filled) where
   cs = s.args.c.now
 
   abbrev k : ℕ
-  k = (head c).loop.k
+  k = (head c).loop-k.k
 
   abbrev notes : List ℕ
-  notes = c.fill-column.new.1.1.1.1.1.1.0
+  notes = c.fill_column.new.notes
 
   abbrev places : List ℕ
   places = take (length cs) (tops (listed (head c)))
 
   -- the turn is of a transition
   taken : k < length ts
-  taken = c.before.before.before.loop-test.true
+  taken = c.before.before.before.loop-k-test.true
 
   low : AllBelow (room_in notes) places
-  low = tops_below ws ns u (head c).loop.invariant.3 c.fill-column.ensures.1 c.fill-column.ensures.0 (enough (listed (head c)))
+  low = tops_below ws ns u (head c).loop-k.invariant.3 c.fill_column.ensures.1 c.fill_column.ensures.0 (enough (listed (head c)))
 
   used : UsedAt u (room_in notes) notes places
-  used = tops_fill ws ns u (head c).loop.invariant.3 c.fill-column.ensures.1 c.fill-column.ensures.0 (enough (listed (head c)))
+  used = tops_fill ws ns u (head c).loop-k.invariant.3 c.fill_column.ensures.1 c.fill_column.ensures.0 (enough (listed (head c)))
 
   -- the transition's answers
   abbrev right : List ℕ
   right = answers_of x w (take (length cs) cs) (get_or ts k 0)
 
   answers : column_answers ws (room_in notes) notes places ≡ right
-  answers = row_answers ws ns u (head c).loop.invariant.3 c.fill-column.ensures.1 c.fill-column.ensures.0 (enough (listed (head c)))
+  answers = row_answers ws ns u (head c).loop-k.invariant.3 c.fill_column.ensures.1 c.fill_column.ensures.0 (enough (listed (head c)))
 
   -- the needed rows stay listed
-  kept : NeededFor x s.args.index.now u cs notes (listed (head c)).needed-rows.result (tops (listed (head c)))
-  kept = next ws ns u (head c).loop.invariant.3 c.fill-column.ensures.1 c.fill-column.ensures.0 (enough (listed (head c)))
+  kept : NeededFor x s.args.index.now u cs notes (listed (head c)).needed_rows-n.result (tops (listed (head c)))
+  kept = next ws ns u (head c).loop-k.invariant.3 c.fill_column.ensures.1 c.fill_column.ensures.0 (enough (listed (head c)))
 
 -- the answers read: the transition has its row of them in the table
 module _ (c : Read) where
@@ -140,99 +140,99 @@ module _ (c : Read) where
   f = filled c
 
   abbrev old : List ℕ
-  old = (head f).loop.table
+  old = (head f).loop-k.table
 
   abbrev table : List ℕ
-  table = c.read-column.new.1.1.1.1.1.0
+  table = c.read_column.new.table
 
   row : table ≡ sets old (most_contexts * k f) (right f)
-  row = c.read-column.ensures ∙ ap (sets old (most_contexts * k f)) (answers f)
+  row = c.read_column.ensures ∙ ap (sets old (most_contexts * k f)) (answers f)
 
   observed : Observed (x f) (w f) (ts f) (k f + 1) (cs f) (length (cs f)) table
   observed =
-      let p = (s f).pre in
-      let v = (head f).loop.inv in
+      let p = (s f).requires in
+      let v = (head f).loop-k.invariant in
       let all : length (cs f) ≤ length (cs f) = omega arith in
       let o = observed_more v.2 (omega (arith, taken f, p.5)) (omega (arith, taken f, v.1, p.6)) all in
       subst (Observed (x f) (w f) (ts f) (k f + 1) (cs f) (length (cs f))) (sym row) o
 
-slice-aggregate-needed-rows : tie.Need-slice-aggregate-needed-rows invariant-loop decreases-loop
+slice-aggregate-needed-rows : tie.Need-slice_bounds-needed_rows-end invariant-loop decreases-loop
 slice-aggregate-needed-rows c = search rules
 
-needed-rows-requires : tie.Need-needed-rows-requires invariant-loop decreases-loop
+needed-rows-requires : tie.Need-needed_rows-n-requires invariant-loop decreases-loop
 needed-rows-requires c κs = let s = c.before.before.before.before.before.before.before.before.before in (s.requires.0, s.requires.3, s.requires.7, s.requires.4)
 
-loop-holds : tie.Need-loop-init invariant-loop decreases-loop
+loop-holds : tie.Need-loop-k-init invariant-loop decreases-loop
 loop-holds c =
     let d : Listed = c.before.before.before in
     let s = start d in
     let x = store_of s.args.words.now s.args.counts.now s.args.used in
     let w = answers_in s.args.used s.args.words.now in
-    let e = d.needed-rows.ensures in (
+    let e = d.needed_rows-n.ensures in (
       omega arith,
       refl,
-      observed_none x w s.args.t.now s.args.c.now (length s.args.c.now) s.args.table.now s.pre.4,
-      needed_for s.args.notes.now d.needed-rows.auto.1.1.1.1.1.0 s.pre.7 e.0 e.1 e.2,
+      observed_none x w s.args.t.now s.args.c.now (length s.args.c.now) s.args.table.now s.requires.4,
+      needed_for s.args.notes.now d.needed_rows-n.auto.notes s.requires.7 e.0 e.1 e.2,
       refl,
     )
 
-mul-t17 : tie.Need-overflow-mul-t17 invariant-loop decreases-loop
+mul-t17 : tie.Need-offset_bounds-t-k invariant-loop decreases-loop
 mul-t17 c = search rules
 
-shared-slice-read-t21 : tie.Need-shared-slice-read-t21 invariant-loop decreases-loop
+shared-slice-read-t21 : tie.Need-bounds-t-k invariant-loop decreases-loop
 shared-slice-read-t21 c = search rules
 
-fill-column-requires : tie.Need-fill-column-requires invariant-loop decreases-loop
+fill-column-requires : tie.Need-fill_column-requires invariant-loop decreases-loop
 fill-column-requires c κs =
-    let d : tie.In-loop invariant-loop decreases-loop = c.before.before in
+    let d : tie.In-loop-k invariant-loop decreases-loop = c.before.before in
     let s = begun d.before in
-    let l = d.before.loop in
+    let l = d.before.loop-k in
     let h = l.invariant.3 in
-    (s.pre.0, h.needed, h.runs, h.fits, s.pre.2 l.k d.loop-test.true)
+    (s.requires.0, h.needed, h.runs, h.fits, s.requires.2 l.k d.loop-k-test.true)
 
-array-share-prefix-tops : tie.Need-array-share-prefix-tops invariant-loop decreases-loop
+array-share-prefix-tops : tie.Need-slice_bounds-tops-end invariant-loop decreases-loop
 array-share-prefix-tops c = enough (listed (head c.before.before))
 
-slice-aggregate-read-column : tie.Need-slice-aggregate-read-column invariant-loop decreases-loop
+slice-aggregate-read-column : tie.Need-slice_bounds-read_column-end invariant-loop decreases-loop
 slice-aggregate-read-column c = sym (lent (listed (head c.before.before.before)))
 
-read-column-requires : tie.Need-read-column-requires invariant-loop decreases-loop
+read-column-requires : tie.Need-read_column-requires invariant-loop decreases-loop
 read-column-requires c κs =
-    let f : Filled = c.before.before.before.before.before in
+    let f : Filled = c.before.before.before.before in
     let h = head f in
-    let p = (begun h).pre in
-    (p.0.finding.room, p.1, low f, used f, omega (arith, lent (listed h), h.loop.inv.1, p.4, taken f, p.6))
+    let p = (begun h).requires in
+    (p.0.finding.room, p.1, low f, used f, omega (arith, lent (listed h), h.loop-k.invariant.1, p.4, taken f, p.6))
 
-add-k : tie.Need-overflow-add-k invariant-loop decreases-loop
+add-k : tie.Need-overflow_add-k invariant-loop decreases-loop
 add-k c = search rules
 
-loop-less : tie.Need-loop-smaller invariant-loop decreases-loop
+loop-less : tie.Need-loop-k-smaller invariant-loop decreases-loop
 loop-less c = search rules
 
-loop-again : tie.Need-loop-preserved invariant-loop decreases-loop
+loop-again : tie.Need-loop-k-preserved invariant-loop decreases-loop
 loop-again c =
     let r : Read = c.before.before in
     let f = filled r in
-    let v = (head f).loop.inv in
-    (omega (arith, taken f), r.read-column.auto.1.1.1.1.1.0 ∙ v.1, observed r, kept f, f.fill-column.ensures.1.size ∙ v.4)
+    let v = (head f).loop-k.invariant in
+    (omega (arith, taken f), r.read_column.auto.table ∙ v.1, observed r, kept f, f.fill_column.ensures.1.size ∙ v.4)
 
-same_length : tie.Need-same-length invariant-loop decreases-loop
-same_length c = let h : Head = c.before in h.loop.invariant.1
+same_length : tie.Need-shape_of-table invariant-loop decreases-loop
+same_length c = let h : Head = c.before in h.loop-k.invariant.1
 
-same-length-2 : tie.Need-same-length-2 invariant-loop decreases-loop
-same-length-2 c = let h : Head = c.before in h.loop.invariant.4 ∙ (listed h).needed-rows.auto.1.1.1.1.1.0
+same-length-2 : tie.Need-shape_of-notes invariant-loop decreases-loop
+same-length-2 c = let h : Head = c.before in h.loop-k.invariant.4 ∙ (listed h).needed_rows-n.auto.notes
 
 returns : tie.Need-returns invariant-loop decreases-loop
 returns c =
     let h : Head = c.before in
     let a = (begun h).args in
-    let l = h.loop in
+    let l = h.loop-k in
     let x = store_of a.words.now a.counts.now a.used in
     let e : l.k ≡ length a.t.now = omega (arith, l.invariant.0) in
     subst (λ (k : ℕ). Observed x (answers_in a.used a.words.now) a.t.now k a.c.now (length a.c.now) l.table) e l.invariant.2
 
-pub observe-spec : {M : Type 1} → statement M
-observe-spec =
+pub observe_spec : {M : Type 1} → statement M
+observe_spec =
     tie.close
     (tie.spec
     invariant-loop

@@ -15,11 +15,11 @@ use Rattle.table_columns.proofs.Laws.Columns.{column_start, same_first, first_fi
 use Rattle.table_columns.proofs.fill_column.Statement.{statement}
 use Rattle.table_columns.proofs.fill_column.Tie as tie
 
-abbrev invariant-loop : tie.invariant-loop
+abbrev invariant-loop : tie.invariant-loop-p
 invariant-loop words counts used index n notes₀ p₀ notes p =
     (0 < p) × (p ≤ n + 1) × Column (store_of words counts used) (filled_note (room_in notes₀) notes₀ 0) (room_in notes₀) notes p × SameNotes 3 (room_in notes₀) notes₀ notes × (filled_note (room_in notes₀) notes 0 ≡ filled_note (room_in notes₀) notes₀ 0)
 
-abbrev decreases-loop : tie.decreases-loop
+abbrev decreases-loop : tie.decreases-loop-p
 decreases-loop words counts used index n notes₀ p₀ notes p = n + 1 - p
 
 abbrev Start : Type 0
@@ -56,24 +56,24 @@ runs s =
     subst (λ (z : ℕ). Runs z (start s) 1 s.args.n) (sym (same_room s))
     (runs_kept (same_first (room_in s.args.notes.now) s.args.notes.now s.args.with.0) (omega (arith, s.requires.1.few, s.requires.3)) s.requires.2)
 
-mul-notes : tie.Need-overflow-mul-notes invariant-loop decreases-loop
+mul-notes : tie.Need-overflow_mul-notes invariant-loop decreases-loop
 mul-notes c = search rules
 
-mul-notes-2 : tie.Need-overflow-mul-notes-2 invariant-loop decreases-loop
+mul-notes-2 : tie.Need-offset_bounds-notes-notes invariant-loop decreases-loop
 mul-notes-2 c = search rules
 
-slice-write-notes : tie.Need-slice-write-notes invariant-loop decreases-loop
+slice-write-notes : tie.Need-bounds-notes-notes invariant-loop decreases-loop
 slice-write-notes c = search rules
 
-loop-holds : tie.Need-loop-init invariant-loop decreases-loop
+loop-holds : tie.Need-loop-p-init invariant-loop decreases-loop
 loop-holds c =
     let s = c.before.before.before.before in
     (omega arith, omega arith, column_start s.requires.0 (needed s) (filled_note (room s) (start s) 0) refl (omega (arith, first s, s.requires.4)), record { size = refl; same = λ i l. refl }, refl)
 
-fill-next-requires : tie.Need-fill-next-requires invariant-loop decreases-loop
+fill-next-requires : tie.Need-fill_next-p-requires invariant-loop decreases-loop
 fill-next-requires c κs =
     let s = c.before.before.before.before.before.before.before in
-    let l = c.before.before.loop in
+    let l = c.before.before.loop-p in
     let e : room_in l.notes ≡ room s = ap (λ (m : ℕ). m / 4) l.invariant.3.size in
     let f = (needed s).few in (
       s.requires.0,
@@ -82,32 +82,32 @@ fill-next-requires c κs =
       subst (λ (z : ℕ). Column (store s) (filled_note z l.notes 0) z l.notes l.p) (sym e) (subst (λ (row : ℕ). Column (store s) row (room s) l.notes l.p) (sym l.invariant.4) l.invariant.2),
       omega (arith, e, fits s),
       l.invariant.0,
-      c.before.loop-test.true,
+      c.before.loop-p-test.true,
     )
 
-loop-less : tie.Need-loop-smaller invariant-loop decreases-loop
+loop-less : tie.Need-loop-p-smaller invariant-loop decreases-loop
 loop-less c = search rules
 
-loop-again : tie.Need-loop-preserved invariant-loop decreases-loop
+loop-again : tie.Need-loop-p-preserved invariant-loop decreases-loop
 loop-again c =
     let s = c.before.before.before.before.before.before.before.before.before.before in
-    let l = c.before.before.before.before.before.loop in
-    let g = c.before.before.fill-next.ensures in
-    let us = c.before.before.fill-next.new.1.1.1.1.1.1.0 in
-    let r = c.before.before.fill-next.result in
+    let l = c.before.before.before.before.before.loop-p in
+    let g = c.before.before.fill_next-p.ensures in
+    let us = c.before.before.fill_next-p.new.notes in
+    let r = c.before.before.fill_next-p.result in
     let e : room_in l.notes ≡ room s = ap (λ (m : ℕ). m / 4) l.invariant.3.size in
     let h = subst (λ (z : ℕ). Column (store s) (filled_note z l.notes 0) z us r) e g.0 in
     let k = subst (λ (z : ℕ). SameNotes 3 z l.notes us) e g.1 in
     let o = subst (λ (z : ℕ). filled_note z us 0 ≡ filled_note z l.notes 0) e g.2 in
     (omega (arith, g.3), g.4, subst (λ (row : ℕ). Column (store s) row (room s) us r) l.invariant.4 h, same_both l.invariant.3 k, o ∙ l.invariant.4)
 
-same_length : tie.Need-same-length invariant-loop decreases-loop
-same_length c = c.before.loop.invariant.3.size ∙ simp length-set
+same_length : tie.Need-shape_of-notes invariant-loop decreases-loop
+same_length c = c.before.loop-p.invariant.3.size ∙ simp length-set
 
 returns : tie.Need-returns invariant-loop decreases-loop
 returns c =
     let s = c.before.before.before.before.before.before in
-    let l = c.before.loop in
+    let l = c.before.loop-p in
     let e : l.p ≡ s.args.n + 1 = omega (arith, l.invariant.1) in
     let h = subst (λ (p : ℕ). Column (store s) (filled_note (room s) (start s) 0) (room s) l.notes p) e l.invariant.2 in
     let k = subst (λ (row : ℕ). Column (store s) row (room s) l.notes (s.args.n + 1)) (first s) h in (
@@ -115,8 +115,8 @@ returns c =
       same_both (same_first (room_in s.args.notes.now) s.args.notes.now s.args.with.0) (subst (λ (z : ℕ). SameNotes 3 z (start s) l.notes) (same_room s) l.invariant.3),
     )
 
-pub fill-column-spec : {M : Type 1} → statement M
-fill-column-spec =
+pub fill_column_spec : {M : Type 1} → statement M
+fill_column_spec =
     tie.close
     (tie.spec
     invariant-loop

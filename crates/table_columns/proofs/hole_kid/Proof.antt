@@ -20,24 +20,24 @@ falls : (s : tie.Start) → hole_kid (store_of s.args.words.now s.args.counts.no
 falls s = kid_early s.requires.0 s.args.row.0 s.requires.1 s.requires.2
 
 -- the child that is read
-read : (c : tie.After-kid-of) → let s = c.before.before.before.before.before in
-    c.IsKid-of.result ≡ hole_kid (store_of s.args.words.now s.args.counts.now s.args.used) s.args.index.now s.args.row.0
+read : (c : tie.After-kid_of-kid) → let s = c.before.before.before.before.before in
+    c.kid_of-kid.result ≡ hole_kid (store_of s.args.words.now s.args.counts.now s.args.used) s.args.index.now s.args.row.0
 read c =
     let s = c.before.before.before.before.before in
-    c.IsKid-of.ensures ∙ ap (λ (k : ℕ). kid_in s.args.words.now s.args.row.0 (k - 1)) c.before.hole_of_law.ensures ∙ kid_read s.requires.0 s.args.row.0 s.requires.1 s.requires.2
+    c.kid_of-kid.ensures ∙ ap (λ (k : ℕ). kid_in s.args.words.now s.args.row.0 (k - 1)) c.before.hole_of.ensures ∙ kid_read s.requires.0 s.args.row.0 s.requires.1 s.requires.2
 
-cast-place : tie.Need-overflow-cast-place
+cast-place : tie.Need-overflow_cast-place
 cast-place c = search rules
 
-sub-place : tie.Need-overflow-sub-place
+sub-place : tie.Need-overflow_sub-place
 sub-place c = search rules
 
-kid-of-requires : tie.Need-kid-of-requires
+kid-of-requires : tie.Need-kid_of-kid-requires
 kid-of-requires c κs =
     let s = c.before.before.before.before in
-    (omega (arith, s.requires.0.finding.room, s.requires.1), omega (arith, small s, c.hole_of_law.ensures))
+    (omega (arith, s.requires.0.finding.room, s.requires.1), omega (arith, small s, c.hole_of.ensures))
 
-cast-t8 : tie.Need-overflow-cast-t8
+cast-t8 : tie.Need-overflow_cast-result
 cast-t8 c = let s = c.before.before.before.before.before in omega (arith, falls s, read c, s.requires.0.finding.few)
 
 returns : tie.Need-returns
@@ -46,11 +46,11 @@ returns c =
     let e = read c in
     (e, omega (arith, e, falls s))
 
-hole-of-requires : tie.Need-hole-of-requires
+hole-of-requires : tie.Need-hole_of-requires
 hole-of-requires c = search rules
 
-pub hole-kid-spec : {M : Type 1} → statement M
-hole-kid-spec =
+pub hole_kid_spec : {M : Type 1} → statement M
+hole_kid_spec =
     tie.close
     (tie.spec
     hole-of-requires

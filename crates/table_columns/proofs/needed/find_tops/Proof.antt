@@ -11,11 +11,11 @@ use Rattle.bank.specs.Notes.{room_in}
 use Rattle.table_columns.proofs.needed.find_tops.Statement.{statement}
 use Rattle.table_columns.proofs.needed.find_tops.Tie as tie
 
-abbrev invariant-loop : tie.invariant-loop
+abbrev invariant-loop : tie.invariant-loop-j
 invariant-loop c notes tops₀ last j₀ tops j =
     (j ≤ length c) × ((i : ℕ) → i < j → get_or tops i 0 ≡ get_or notes (3 * room_in notes + get_or c i 0) 0) × (length tops ≡ length tops₀)
 
-abbrev decreases-loop : tie.decreases-loop
+abbrev decreases-loop : tie.decreases-loop-j
 decreases-loop c notes tops₀ last j₀ tops j = length c - j
 
 -- one more read
@@ -28,57 +28,57 @@ read_more c ns ps j h l i a =
     v : ℕ
     v = get_or ns (3 * room_in ns + get_or c j 0) 0
 
-mul-last : tie.Need-overflow-mul-last invariant-loop decreases-loop
+mul-last : tie.Need-overflow_mul-last invariant-loop decreases-loop
 mul-last c = search rules
 
-loop-holds : tie.Need-loop-init invariant-loop decreases-loop
+loop-holds : tie.Need-loop-j-init invariant-loop decreases-loop
 loop-holds c = (omega arith, (λ i a. absurd (omega arith)), refl)
 
-mul-tops : tie.Need-overflow-mul-tops invariant-loop decreases-loop
+mul-tops : tie.Need-offset_bounds-c-j invariant-loop decreases-loop
 mul-tops c = search rules
 
-shared-slice-read-tops : tie.Need-shared-slice-read-tops invariant-loop decreases-loop
+shared-slice-read-tops : tie.Need-bounds-c-j invariant-loop decreases-loop
 shared-slice-read-tops c = search rules
 
-cast-tops : tie.Need-overflow-cast-tops invariant-loop decreases-loop
-cast-tops c = let s = c.before.before.before in omega (arith, s.requires.0 c.before.before.loop.j c.before.loop-test.true)
+cast-tops : tie.Need-overflow_cast-tops invariant-loop decreases-loop
+cast-tops c = let s = c.before.before.before in omega (arith, s.requires.0 c.before.before.loop-j.j c.before.loop-j-test.true)
 
-add-tops : tie.Need-overflow-add-tops invariant-loop decreases-loop
-add-tops c = let s = c.before.before.before in omega (arith, s.requires.0 c.before.before.loop.j c.before.loop-test.true)
+add-tops : tie.Need-overflow_add-tops invariant-loop decreases-loop
+add-tops c = let s = c.before.before.before in omega (arith, s.requires.0 c.before.before.loop-j.j c.before.loop-j-test.true)
 
-mul-tops-2 : tie.Need-overflow-mul-tops-2 invariant-loop decreases-loop
-mul-tops-2 c = let s = c.before.before.before in omega (arith, s.requires.0 c.before.before.loop.j c.before.loop-test.true)
+mul-tops-2 : tie.Need-offset_bounds-notes-last invariant-loop decreases-loop
+mul-tops-2 c = let s = c.before.before.before in omega (arith, s.requires.0 c.before.before.loop-j.j c.before.loop-j-test.true)
 
-shared-slice-read-tops-2 : tie.Need-shared-slice-read-tops-2 invariant-loop decreases-loop
-shared-slice-read-tops-2 c = let s = c.before.before.before.before in omega (arith, s.requires.0 c.before.before.before.loop.j c.before.before.loop-test.true)
+shared-slice-read-tops-2 : tie.Need-bounds-notes-last invariant-loop decreases-loop
+shared-slice-read-tops-2 c = let s = c.before.before.before.before in omega (arith, s.requires.0 c.before.before.before.loop-j.j c.before.before.loop-j-test.true)
 
-mul-tops-3 : tie.Need-overflow-mul-tops-3 invariant-loop decreases-loop
+mul-tops-3 : tie.Need-offset_bounds-tops-j invariant-loop decreases-loop
 mul-tops-3 c = search rules
 
-slice-write-tops : tie.Need-slice-write-tops invariant-loop decreases-loop
-slice-write-tops c = let l = c.before.before.before.loop in omega (arith, l.invariant.2, c.before.before.loop-test.true, c.before.before.before.before.requires.1)
+slice-write-tops : tie.Need-bounds-tops-j invariant-loop decreases-loop
+slice-write-tops c = let l = c.before.before.before.loop-j in omega (arith, l.invariant.2, c.before.before.loop-j-test.true, c.before.before.before.before.requires.1)
 
-add-j : tie.Need-overflow-add-j invariant-loop decreases-loop
+add-j : tie.Need-overflow_add-j invariant-loop decreases-loop
 add-j c = search rules
 
-loop-less : tie.Need-loop-smaller invariant-loop decreases-loop
+loop-less : tie.Need-loop-j-smaller invariant-loop decreases-loop
 loop-less c = search rules
 
-loop-again : tie.Need-loop-preserved invariant-loop decreases-loop
+loop-again : tie.Need-loop-j-preserved invariant-loop decreases-loop
 loop-again c =
     let s = c.before.before.before.before in
-    let l = c.before.before.before.loop in
-    let more = c.before.before.loop-test.true in
+    let l = c.before.before.before.loop-j in
+    let more = c.before.before.loop-j-test.true in
     (omega (arith, more), read_more s.args.c.now s.args.notes.now l.tops l.j l.invariant.1 (omega (arith, l.invariant.2, more, s.requires.1)), simp length-set l.invariant.2)
 
-same_length : tie.Need-same-length invariant-loop decreases-loop
-same_length c = c.before.loop.invariant.2
+same_length : tie.Need-shape_of-tops invariant-loop decreases-loop
+same_length c = c.before.loop-j.invariant.2
 
 returns : tie.Need-returns invariant-loop decreases-loop
-returns c = λ i a. c.before.loop.invariant.1 i (omega (arith, a))
+returns c = λ i a. c.before.loop-j.invariant.1 i (omega (arith, a))
 
-pub find-tops-spec : {M : Type 1} → statement M
-find-tops-spec =
+pub find_tops_spec : {M : Type 1} → statement M
+find_tops_spec =
     tie.close
     (tie.spec
     invariant-loop
