@@ -5,11 +5,11 @@ use borrow.Author.Rules.{rules}
 use Rattle.call.proofs.ladder.is_small.Statement.{statement}
 use Rattle.call.proofs.ladder.is_small.Tie as tie
 
-returns : tie.Need-returns
+returns : tie.Need-returns-then-rows-gt-SMALL_ROWS
 returns c = λ e. absurd (true≢false (sym e))
 
-returns-2 : tie.Need-returns-2
+returns-2 : tie.Need-returns
 returns-2 c = search rules
 
-pub is-small-spec : {M : Type 1} → statement M
-is-small-spec = tie.close (tie.spec returns returns-2)
+pub is_small_spec : {M : Type 1} → statement M
+is_small_spec = tie.close (tie.spec returns returns-2)
