@@ -77,7 +77,7 @@ fn print_list(
         × (row.0 < used)
         × (place ≤ length (kids_at x row.0))
         × (at + length (others (drop place (map (row_text letters.now x) (kids_at x row.0)))) ≤ length out.old) }
-    ensures result_value { let x = store_of words.now counts.now used in
+    ensures value { let x = store_of words.now counts.now used in
         result ≡ at + length (others (drop place (map (row_text letters.now x) (kids_at x row.0)))) }
     ensures out { let x = store_of words.now counts.now used in
         out.new ≡ put_at at (others (drop place (map (row_text letters.now x) (kids_at x row.0)))) out.old }

@@ -6,14 +6,14 @@ use lib.ListN.{get_or-eq_default}
 use Rattle.text_print.proofs.print.count_of.Statement.{statement}
 use Rattle.text_print.proofs.print.count_of.Tie as tie
 
-shared-slice-read-result : tie.Need-shared-slice-read-result
+shared-slice-read-result : tie.Need-bounds-counts-i
 shared-slice-read-result c = search rules
 
-returns : tie.Need-returns
+returns : tie.Need-returns-then-i-counts
 returns c = search rules
 
-returns-2 : tie.Need-returns-2
-returns-2 c = sym (get_or-eq_default c.before.args.counts.now 0 c.if1.false)
+returns-2 : tie.Need-returns
+returns-2 c = sym (get_or-eq_default c.before.args.counts.now 0 c.if-i-counts.false)
 
-pub count-of-spec : {M : Type 1} → statement M
-count-of-spec = tie.close (tie.spec shared-slice-read-result returns returns-2)
+pub count_of_spec : {M : Type 1} → statement M
+count_of_spec = tie.close (tie.spec shared-slice-read-result returns returns-2)

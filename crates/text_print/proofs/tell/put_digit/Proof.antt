@@ -6,31 +6,31 @@ use Rattle.text_print.proofs.Laws.Telling.{digit_none, digit_one}
 use Rattle.text_print.proofs.tell.put_digit.Statement.{statement}
 use Rattle.text_print.proofs.tell.put_digit.Tie as tie
 
-returns : tie.Need-returns
-returns c = let a = c.before.args in let r = digit_none a.n a.power a.at a.out.now c.if1.true (omega arith) in (r.end, r.bytes)
+returns : tie.Need-returns-then-n-power
+returns c = let a = c.before.args in let r = digit_none a.n a.power a.at a.out.now c.if-n-power.true (omega arith) in (r.end, r.bytes)
 
-div-out : tie.Need-nonzero-div-out
+div-out : tie.Need-nonzero_div-out
 div-out c = search rules
 
-cast-out : tie.Need-overflow-cast-out
+cast-out : tie.Need-overflow_cast-out
 cast-out c = search rules
 
-add-out : tie.Need-overflow-add-out
+add-out : tie.Need-overflow_add-out
 add-out c = search rules
 
-slice-write-out : tie.Need-slice-write-out
+slice-write-out : tie.Need-bounds-out-at
 slice-write-out c = search rules
 
-add-result : tie.Need-overflow-add-result
+add-result : tie.Need-overflow_add-result
 add-result c = search rules
 
-same_length : tie.Need-same-length
+same_length : tie.Need-shape_of-out
 same_length c = search rules
 
-returns-2 : tie.Need-returns-2
-returns-2 c = let a = c.before.args in let r = digit_one a.n a.power a.at a.out.now c.if1.false (omega arith) in (r.end, r.bytes)
+returns-2 : tie.Need-returns
+returns-2 c = let a = c.before.args in let r = digit_one a.n a.power a.at a.out.now c.if-n-power.false (omega arith) in (r.end, r.bytes)
 
-pub put-digit-spec : {M : Type 1} → statement M
-put-digit-spec =
+pub put_digit_spec : {M : Type 1} → statement M
+put_digit_spec =
     tie.close
     (tie.spec returns div-out cast-out add-out slice-write-out add-result same_length returns-2)

@@ -10,31 +10,31 @@ use Rattle.text_print.proofs.Laws.Runs.{Run, run_of, run_byte, run_long, run_ove
 use Rattle.text_print.proofs.tell.tell_refused.Statement.{statement}
 use Rattle.text_print.proofs.tell.tell_refused.Tie as tie
 
-abbrev start : tie.After-put-refused → tie.Start
+abbrev start : tie.After-put_refused-end → tie.Start
 start c = c.before.before.before
 
-told : (c : tie.After-put-refused) → Run 0 (numbered refused_word (start c).args.number) (start c).args.out.now c.Put-refused.result c.Put-refused.new.1.0
-told c = run_of (omega (arith, c.Put-refused.ensures.0.0)) (omega arith) c.Put-refused.ensures.1
+told : (c : tie.After-put_refused-end) → Run 0 (numbered refused_word (start c).args.number) (start c).args.out.now c.put_refused-end.result c.put_refused-end.new.out
+told c = run_of (omega (arith, c.put_refused-end.ensures.0.0)) (omega arith) c.put_refused-end.ensures.1
 
-whole : (c : tie.After-put-refused) → let a = (start c).args in
-    Run 0 (refused_text a.number) a.out.now (c.Put-refused.result + 1) (set c.Put-refused.new.1.0 c.Put-refused.result newline)
+whole : (c : tie.After-put_refused-end) → let a = (start c).args in
+    Run 0 (refused_text a.number) a.out.now (c.put_refused-end.result + 1) (set c.put_refused-end.new.out c.put_refused-end.result newline)
 whole c = run_byte (told c) newline (omega arith)
 
-put-refused-requires : tie.Need-put-refused-requires
+put-refused-requires : tie.Need-put_refused-end-requires
 put-refused-requires c κs = search rules
 
-slice-write-out : tie.Need-slice-write-out
+slice-write-out : tie.Need-bounds-out-end
 slice-write-out c = search rules
 
-add-result : tie.Need-overflow-add-result
+add-result : tie.Need-overflow_add-result
 add-result c = search rules
 
-same_length : tie.Need-same-length
+same_length : tie.Need-shape_of-out
 same_length c = run_long (whole c.before.before)
 
 returns : tie.Need-returns
 returns c = run_over (whole c.before.before)
 
-pub tell-refused-spec : {M : Type 1} → statement M
-tell-refused-spec =
+pub tell_refused_spec : {M : Type 1} → statement M
+tell_refused_spec =
     tie.close (tie.spec put-refused-requires slice-write-out add-result same_length returns)
