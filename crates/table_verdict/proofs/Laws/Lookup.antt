@@ -91,6 +91,7 @@ module _ {x : Store} {s t reps : List ℕ} (g : Good x) (d : Ruled x s t reps) w
             ap (λ (j : ℕ). some (place_in s (get_or reps j 0))) one
         go ih false e (inl m) = absurd (true≢false (sym (hit u (ap (symbol_at x) (sym m) ∙ p) (ap (kids_at x) (sym m) ∙ q)) ∙ e))
         go ih false e (inr m) = ih m
+    rule_found [] sub i h p q = elim h [ ]
 
   -- A ROW'S REPRESENTATIVE: a member of S where the row is a transition, and 0 where it is none
   pub rep_of_law : (i : ℕ) → i < most_rows → Rep s (get_or reps i 0)

@@ -19,7 +19,7 @@ use Rattle.table_verdict.proofs.row_reps.Reads as row-reps-reads
 
 -- where `row_reps` has returned
 abbrev Called : Type 0
-Called = lts.After-row-reps (row-reps-reads.Asked, row-reps-reads.Learnt, is-final-reads.Asked, is-final-reads.Learnt) reads.Pre reads.Post
+Called = tie.After-row_reps
 
 abbrev start : Called → tie.Start
 start k = k.before.before.before.before.before.before
@@ -28,7 +28,7 @@ abbrev reps : Called → List ℕ
 reps k = reps_in (start k).args.notes.now
 
 abbrev noted : Called → List ℕ
-noted k = k.row-reps.last.1.1.1.1.1.0
+noted k = k.row_reps.new.notes
 
 -- the row's representative stands in the second column
 rep_right : (k : Called) →
@@ -36,49 +36,49 @@ rep_right : (k : Called) →
     get_or (noted k) (room_in (noted k) + s.args.row.0) 0 ≡ rep_row (store_of s.args.words.now s.args.counts.now s.args.used) (reps k) s.args.row.0
 rep_right k =
     let s = start k in
-    led_at (noted k) s.args.row.0 (omega (arith, k.row-reps.kept.1.1.1.1.1.0, s.pre.2, s.pre.3)) ∙ k.row-reps.ensures.1 s.args.row.0 (omega arith)
+    led_at (noted k) s.args.row.0 (omega (arith, k.row_reps.auto.notes, s.requires.2, s.requires.3)) ∙ k.row_reps.ensures.1 s.args.row.0 (omega arith)
 
-row-reps-requires : tie.Need-row-reps-requires
+row-reps-requires : tie.Need-row_reps-requires
 row-reps-requires c κs = search rules
 
-cast-rep : tie.Need-overflow-cast-rep
+cast-rep : tie.Need-overflow_cast-rep
 cast-rep c = search rules
 
-add-rep : tie.Need-overflow-add-rep
+add-rep : tie.Need-overflow_add-rep
 add-rep c = search rules
 
-mul-rep : tie.Need-overflow-mul-rep
+mul-rep : tie.Need-offset_bounds-notes-size
 mul-rep c = search rules
 
-slice-read-rep : tie.Need-slice-read-rep
+slice-read-rep : tie.Need-bounds-notes-size
 slice-read-rep c = search rules
 
-same_length : tie.Need-same-length
+same_length : tie.Need-shape_of-notes-then-rep-eq0
 same_length c = search rules
 
-returns : tie.Need-returns
+returns : tie.Need-returns-then-rep-eq0
 returns c =
     let k = c.before.before.before.before.before in
     let s = start k in
-    (verdict.row_no s.args.counts.now s.pre.0.finding s.pre.1 s.args.row.0 (rep_right k) c.if1.true, k.row-reps.ensures.0)
+    (verdict.row_no s.args.counts.now s.requires.0.finding s.requires.1 s.args.row.0 (rep_right k) c.if-rep-eq0.true, k.row_reps.ensures.0)
 
-is-final-requires : tie.Need-is-final-requires
+is-final-requires : tie.Need-is_final-requires
 is-final-requires c κs =
     let k = c.before.before.before.before.before in
     let s = start k in
-    verdict.row_lent s.args.counts.now s.pre.0.finding s.pre.1 s.args.row.0 (rep_right k)
+    verdict.row_lent s.args.counts.now s.requires.0.finding s.requires.1 s.args.row.0 (rep_right k)
 
-same-length-2 : tie.Need-same-length-2
+same-length-2 : tie.Need-shape_of-notes
 same-length-2 c = search rules
 
-returns-2 : tie.Need-returns-2
+returns-2 : tie.Need-returns
 returns-2 c =
     let k = c.before.before.before.before.before.before in
     let s = start k in
-    (verdict.row_says_law s.args.counts.now s.pre.0.finding s.pre.1 s.args.row.0 (rep_right k) c.before.if1.false c.is-final.ensures, k.row-reps.ensures.0)
+    (verdict.row_says_law s.args.counts.now s.requires.0.finding s.requires.1 s.args.row.0 (rep_right k) c.before.if-rep-eq0.false c.is_final.ensures, k.row_reps.ensures.0)
 
-pub accepts-row-spec : {M : Type 1} → statement M
-accepts-row-spec =
+pub accepts_row_spec : {M : Type 1} → statement M
+accepts_row_spec =
     tie.close
     (tie.spec
     row-reps-requires

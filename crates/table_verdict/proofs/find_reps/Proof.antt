@@ -16,30 +16,30 @@ use Rattle.table_verdict.proofs.find_reps.Lts as lts
 use Rattle.table_verdict.proofs.clear.Reads as clear_reads
 use Rattle.table.proofs.state_of.Reads as state-of-reads
 
-abbrev invariant-loop : tie.invariant-loop
+abbrev invariant-loop : tie.invariant-loop-k
 invariant-loop table contexts places s t reps₀ k₀ reps k =
     (k ≤ length t) × RepsTo table contexts (take (length s) places) s t reps k × (length reps ≡ length reps₀)
 
-abbrev decreases-loop : tie.decreases-loop
+abbrev decreases-loop : tie.decreases-loop-k
 decreases-loop table contexts places s t reps₀ k₀ reps k = length t - k
 
 abbrev Start : Type 0
-Start = lts.Start (clear_reads.Asked, clear_reads.Learnt, state-of-reads.Asked, state-of-reads.Learnt) reads.Pre reads.Post invariant-loop decreases-loop
+Start = tie.Start invariant-loop decreases-loop
 
 -- a turn: its start, and the row of its transition
 abbrev Turn : Type 0
-Turn = lts.In-loop (clear_reads.Asked, clear_reads.Learnt, state-of-reads.Asked, state-of-reads.Learnt) reads.Pre reads.Post invariant-loop decreases-loop
+Turn = tie.In-loop-k invariant-loop decreases-loop
 
 abbrev start : Turn → Start
 start t = t.before.before.before.before.before.before.before.before.before.before
 
-row_small : (t : Turn) → get_or (start t).args.t.now t.before.loop.k 0 < length t.before.loop.reps
+row_small : (t : Turn) → get_or (start t).args.t.now t.before.loop-k.k 0 < length t.before.loop-k.reps
 row_small t =
     let l = t.before.before.before.before.clear.ensures.0 in
-    omega (arith, (start t).pre.4 t.before.loop.k t.loop-test.taken, t.before.loop.inv.2)
+    omega (arith, (start t).requires.4 t.before.loop-k.k t.loop-k-test.true, t.before.loop-k.invariant.2)
 
 abbrev Told : Type 0
-Told = lts.After-struct-known (clear_reads.Asked, clear_reads.Learnt, state-of-reads.Asked, state-of-reads.Learnt) reads.Pre reads.Post invariant-loop decreases-loop
+Told = tie.After-struct_known-1 invariant-loop decreases-loop
 
 abbrev turn : Told → Turn
 turn d = d.before.before
@@ -47,7 +47,7 @@ turn d = d.before.before
 clear-requires : tie.Need-clear-requires invariant-loop decreases-loop
 clear-requires c κs = search rules
 
-loop-holds : tie.Need-loop-init invariant-loop decreases-loop
+loop-holds : tie.Need-loop-k-init invariant-loop decreases-loop
 loop-holds c =
     let s : Start = c.before.before.before.before.before.before.before.before in (
       omega arith,
@@ -56,75 +56,75 @@ loop-holds c =
       refl,
     )
 
-state-of-requires : tie.Need-state-of-requires invariant-loop decreases-loop
+state-of-requires : tie.Need-state_of-q-requires invariant-loop decreases-loop
 state-of-requires c κs = search rules
 
-cast-at : tie.Need-overflow-cast-at invariant-loop decreases-loop
+cast-at : tie.Need-overflow_cast-at invariant-loop decreases-loop
 cast-at c = search rules
 
-mul-i : tie.Need-overflow-mul-i invariant-loop decreases-loop
+mul-i : tie.Need-offset_bounds-t-k invariant-loop decreases-loop
 mul-i c = search rules
 
-cast-i : tie.Need-overflow-cast-i invariant-loop decreases-loop
+cast-i : tie.Need-overflow_cast-i invariant-loop decreases-loop
 cast-i c = omega (arith, row_small (turn c.before.before))
 
-mul-reps : tie.Need-overflow-mul-reps invariant-loop decreases-loop
+mul-reps : tie.Need-offset_bounds-s-at invariant-loop decreases-loop
 mul-reps c = search rules
 
-mul-reps-2 : tie.Need-overflow-mul-reps-2 invariant-loop decreases-loop
+mul-reps-2 : tie.Need-offset_bounds-reps-i invariant-loop decreases-loop
 mul-reps-2 c = omega (arith, row_small (turn c.before.before.before))
 
-slice-write-reps : tie.Need-slice-write-reps invariant-loop decreases-loop
+slice-write-reps : tie.Need-bounds-reps-i invariant-loop decreases-loop
 slice-write-reps c = row_small (turn c.before.before.before)
 
-add-k : tie.Need-overflow-add-k invariant-loop decreases-loop
+add-k : tie.Need-overflow_add-k invariant-loop decreases-loop
 add-k c = search rules
 
-loop-less : tie.Need-loop-smaller invariant-loop decreases-loop
+loop-less : tie.Need-loop-k-smaller invariant-loop decreases-loop
 loop-less c = search rules
 
-loop-again : tie.Need-loop-preserved invariant-loop decreases-loop
+loop-again : tie.Need-loop-k-preserved invariant-loop decreases-loop
 loop-again c =
     let d : Told = c.before in
     let t : Turn = turn d in
     let s : Start = start t in
-    let noted = t.before.loop.inv.1 in
+    let noted = t.before.loop-k.invariant.1 in
     let table : List ℕ = s.args.table.now in
     let ps : List ℕ = take (length s.args.s.now) s.args.s_in_t.now in
     let ss : List ℕ = s.args.s.now in
     let ts : List ℕ = s.args.t.now in
-    let e = ap (λ (q : ℕ). get_or ss q 0) d.before.state_of.ensures in
+    let e = ap (λ (q : ℕ). get_or ss q 0) d.before.state_of-q.ensures in
     ⊎_elim
     (λ w. (
       omega arith,
-      rw w.3 (R.reps_noted table s.args.contexts ps ss ts noted t.loop-test.taken s.pre.5 (get_or s.args.t.now t.before.loop.k 0) _ refl
+      rw w.reps-is (R.reps_noted table s.args.contexts ps ss ts noted t.loop-k-test.true s.requires.5 (get_or s.args.t.now t.before.loop-k.k 0) _ refl
           e (row_small t)),
-      rw w.3 (simp length-set t.before.loop.inv.2),
+      rw w.reps-is (simp length-set t.before.loop-k.invariant.2),
     ))
     (λ w. (
       omega arith,
-      rw w.1 (R.reps_passed table s.args.contexts ps ss ts noted t.loop-test.taken s.pre.5 (sym e ∙ get_or-eq_default ss 0 w.0.left)),
-      rw w.1 t.before.loop.inv.2,
+      rw w.reps-is (R.reps_passed table s.args.contexts ps ss ts noted t.loop-k-test.true s.requires.5 (sym e ∙ get_or-eq_default ss 0 w.if-at-s.false)),
+      rw w.reps-is t.before.loop-k.invariant.2,
     ))
-    c.if1.branch
+    c.if-at-s.branch-raw
 
-same_length : tie.Need-same-length invariant-loop decreases-loop
+same_length : tie.Need-shape_of-reps invariant-loop decreases-loop
 same_length c = search rules
 
 returns : tie.Need-returns invariant-loop decreases-loop
 returns c =
     let s : Start = c.before.before.before.before.before.before.before.before.before.before in
     R.reps_end s.args.table.now s.args.contexts (take (length s.args.s.now) s.args.s_in_t.now) s.args.s.now s.args.t.now
-    c.before.loop.invariant.1 c.loop-test.false
+    c.before.loop-k.invariant.1 c.loop-k-test.false
 
-shared-slice-read-i : tie.Need-shared-slice-read-i invariant-loop decreases-loop
+shared-slice-read-i : tie.Need-bounds-t-k invariant-loop decreases-loop
 shared-slice-read-i c = search rules
 
-shared-slice-read-reps : tie.Need-shared-slice-read-reps invariant-loop decreases-loop
+shared-slice-read-reps : tie.Need-bounds-s-at invariant-loop decreases-loop
 shared-slice-read-reps c = search rules
 
-pub find-reps-spec : {M : Type 1} → statement M
-find-reps-spec =
+pub find_reps_spec : {M : Type 1} → statement M
+find_reps_spec =
     tie.close
     (tie.spec
     invariant-loop

@@ -20,15 +20,15 @@ use Rattle.bank.proofs.rows.kid_of.Reads as kid-of-reads
 use Rattle.bank.proofs.rows.symbol_of.Reads as symbol-of-reads
 use Rattle.table_verdict.proofs.target_of.Reads as target-of-reads
 
-abbrev invariant-loop : tie.invariant-loop
+abbrev invariant-loop : tie.invariant-loop-k
 invariant-loop words counts used index reps led row symbol count places₀ k₀ places k =
     KidsLed (store_of words counts used) led row.0 places k × (count ≡ length (kids_at (store_of words counts used) row.0))
 
-abbrev decreases-loop : tie.decreases-loop
+abbrev decreases-loop : tie.decreases-loop-k
 decreases-loop words counts used index reps led row symbol count places₀ k₀ places k = count - k
 
 abbrev Start : Type 0
-Start = lts.Start (symbol-of-reads.Asked, symbol-of-reads.Learnt, kid-of-reads.Asked, kid-of-reads.Learnt, target-of-reads.Asked, target-of-reads.Learnt) reads.Pre reads.Post invariant-loop decreases-loop
+Start = tie.Start invariant-loop decreases-loop
 
 abbrev store : Start → Store
 store s = store_of s.args.words.now s.args.counts.now s.args.used
@@ -41,110 +41,110 @@ rows s = C.bank_stored s.requires.0
 
 -- a turn: its start, and the child that it reaches
 abbrev Turn : Type 0
-Turn = lts.In-loop (symbol-of-reads.Asked, symbol-of-reads.Learnt, kid-of-reads.Asked, kid-of-reads.Learnt, target-of-reads.Asked, target-of-reads.Learnt) reads.Pre reads.Post invariant-loop decreases-loop
+Turn = tie.In-loop-k invariant-loop decreases-loop
 
 abbrev start : Turn → Start
 start t = t.before.before.before.before.before.before.before.before.before
 
-within : (t : Turn) → t.before.loop.k < length (kids (start t))
-within t = omega (arith, t.loop-test.taken, t.before.loop.inv.1)
+within : (t : Turn) → t.before.loop-k.k < length (kids (start t))
+within t = omega (arith, t.loop-k-test.true, t.before.loop-k.invariant.1)
 
-few : (t : Turn) → t.before.loop.k < 4
-few t = let s : Start = start t in omega (arith, within t, C.row_few (rows s) s.args.row.0 s.pre.4 s.pre.3)
+few : (t : Turn) → t.before.loop-k.k < 4
+few t = let s : Start = start t in omega (arith, within t, C.row_few (rows s) s.args.row.0 s.requires.4 s.requires.3)
 
 abbrev Read : Type 0
-Read = lts.After-kid-of (symbol-of-reads.Asked, symbol-of-reads.Learnt, kid-of-reads.Asked, kid-of-reads.Learnt, target-of-reads.Asked, target-of-reads.Learnt) reads.Pre reads.Post invariant-loop decreases-loop
+Read = tie.After-kid_of-kid invariant-loop decreases-loop
 
-kid : (c : Read) → c.IsKid-of.result ≡ get_or (kids (start c.before)) c.before.before.loop.k 0
+kid : (c : Read) → c.kid_of-kid.result ≡ get_or (kids (start c.before)) c.before.before.loop-k.k 0
 kid c =
     let s : Start = start c.before in
-    c.IsKid-of.ensures ∙ C.row_kid (rows s) s.args.row.0 s.pre.4 s.pre.3 c.before.before.loop.k (within c.before)
+    c.kid_of-kid.ensures ∙ C.row_kid (rows s) s.args.row.0 s.requires.4 s.requires.3 c.before.before.loop-k.k (within c.before)
 
-early : (c : Read) → c.IsKid-of.result < (start c.before).args.row.0
+early : (c : Read) → c.kid_of-kid.result < (start c.before).args.row.0
 early c =
     let s : Start = start c.before in
-    omega (arith, c.IsKid-of.ensures, C.word_early (rows s) s.args.row.0 s.pre.4 s.pre.3 c.before.before.loop.k (within c.before))
+    omega (arith, c.kid_of-kid.ensures, C.word_early (rows s) s.args.row.0 s.requires.4 s.requires.3 c.before.before.loop-k.k (within c.before))
 
-symbol-of-requires : tie.Need-symbol-of-requires invariant-loop decreases-loop
+symbol-of-requires : tie.Need-symbol_of-symbol-requires invariant-loop decreases-loop
 symbol-of-requires c κs = let s : Start = c.before.before.before.before.before in C.row_within (rows s) s.args.row.0 s.requires.4
 
-cast-count : tie.Need-overflow-cast-count invariant-loop decreases-loop
+cast-count : tie.Need-overflow_cast-count invariant-loop decreases-loop
 cast-count c = search rules
 
-shared-slice-read-count : tie.Need-shared-slice-read-count invariant-loop decreases-loop
+shared-slice-read-count : tie.Need-bounds-counts-symbol invariant-loop decreases-loop
 shared-slice-read-count c =
     let s : Start = c.before.before.before.before.before.before.before in
-    omega (arith, c.before.symbol-of.ensures, C.row_known (rows s) s.args.row.0 s.requires.4 s.requires.3)
+    omega (arith, c.before.symbol_of-symbol.ensures, C.row_known (rows s) s.args.row.0 s.requires.4 s.requires.3)
 
-cast-count-2 : tie.Need-overflow-cast-count-2 invariant-loop decreases-loop
-cast-count-2 c = omega (arith, c.shared-slice-known6.given c.before.symbol-of.result)
+cast-count-2 : tie.Need-overflow_cast-count-2 invariant-loop decreases-loop
+cast-count-2 c = omega (arith, c.shared_slice_known-6-1.given c.before.symbol_of-symbol.result)
 
-loop-holds : tie.Need-loop-init invariant-loop decreases-loop
+loop-holds : tie.Need-loop-k-init invariant-loop decreases-loop
 loop-holds c =
     let s : Start = c.before.before.before.before.before.before.before in
     let i : ℕ = s.args.row.0 in (
       R.kids_start s.requires.0.good s.args.reps.now s.args.led.now i s.requires.3 (C.row_used (rows s) i s.requires.4) s.requires.5,
-      ap (λ (a : ℕ). get_or s.args.counts.now a 0) c.before.symbol-of.ensures ∙ C.count_kids (rows s) i s.requires.4,
+      ap (λ (a : ℕ). get_or s.args.counts.now a 0) c.before.symbol_of-symbol.ensures ∙ C.count_kids (rows s) i s.requires.4,
     )
 
-kid-of-requires : tie.Need-kid-of-requires invariant-loop decreases-loop
-kid-of-requires c κs = let s : Start = start c in (C.row_within (rows s) s.args.row.0 s.pre.4, few c)
+kid-of-requires : tie.Need-kid_of-kid-requires invariant-loop decreases-loop
+kid-of-requires c κs = let s : Start = start c in (C.row_within (rows s) s.args.row.0 s.requires.4, few c)
 
-cast-kid : tie.Need-overflow-cast-kid invariant-loop decreases-loop
+cast-kid : tie.Need-overflow_cast-kid invariant-loop decreases-loop
 cast-kid c = search rules
 
-mul-rep : tie.Need-overflow-mul-rep invariant-loop decreases-loop
+mul-rep : tie.Need-offset_bounds-led-kid invariant-loop decreases-loop
 mul-rep c = search rules
 
-shared-slice-read-rep : tie.Need-shared-slice-read-rep invariant-loop decreases-loop
+shared-slice-read-rep : tie.Need-bounds-led-kid invariant-loop decreases-loop
 shared-slice-read-rep c = omega (arith, early c.before, (start c.before.before).requires.4, (start c.before.before).requires.2)
 
-returns : tie.Need-returns invariant-loop decreases-loop
+returns : tie.Need-returns-then-rep-eq0 invariant-loop decreases-loop
 returns c =
     let t : Turn = c.before.before.before in
     let s : Start = start t in
-    R.kids_stop s.pre.0.good s.args.reps.now s.args.led.now s.args.row.0 s.pre.3 (C.row_used (rows s) s.args.row.0 s.pre.4) s.pre.5 t.before.loop.k (within t)
-    (ap (λ (j : ℕ). get_or s.args.led.now j 0) (sym (kid c.before.before)) ∙ c.if1.true)
+    R.kids_stop s.requires.0.good s.args.reps.now s.args.led.now s.args.row.0 s.requires.3 (C.row_used (rows s) s.args.row.0 s.requires.4) s.requires.5 t.before.loop-k.k (within t)
+    (ap (λ (j : ℕ). get_or s.args.led.now j 0) (sym (kid c.before.before)) ∙ c.if-rep-eq0.true)
 
-cast-places : tie.Need-overflow-cast-places invariant-loop decreases-loop
-cast-places c = omega (arith, c.before.shared-slice-known7.given c.before.before.IsKid-of.result)
+cast-places : tie.Need-overflow_cast-places invariant-loop decreases-loop
+cast-places c = omega (arith, c.before.shared_slice_known-in-loop-k-1.given c.before.before.kid_of-kid.result)
 
-mul-places : tie.Need-overflow-mul-places invariant-loop decreases-loop
+mul-places : tie.Need-offset_bounds-places-k invariant-loop decreases-loop
 mul-places c = omega (arith, few c.before.before.before)
 
-array-write-places : tie.Need-array-write-places invariant-loop decreases-loop
+array-write-places : tie.Need-bounds-places-k invariant-loop decreases-loop
 array-write-places c = few c.before.before.before
 
-add-k : tie.Need-overflow-add-k invariant-loop decreases-loop
+add-k : tie.Need-overflow_add-k invariant-loop decreases-loop
 add-k c = omega (arith, few c.before.before.before)
 
-loop-less : tie.Need-loop-smaller invariant-loop decreases-loop
+loop-less : tie.Need-loop-k-smaller invariant-loop decreases-loop
 loop-less c = search rules
 
-loop-again : tie.Need-loop-preserved invariant-loop decreases-loop
+loop-again : tie.Need-loop-k-preserved invariant-loop decreases-loop
 loop-again c =
     let t : Turn = c.before.before.before in
     let s : Start = start t in (
-      R.kids_more s.pre.0.good s.args.reps.now s.args.led.now s.args.row.0 s.pre.3 (C.row_used (rows s) s.args.row.0 s.pre.4) s.pre.5 t.before.loop.invariant.0 (within t)
-          (get_or s.args.led.now c.before.before.IsKid-of.result 0) (ap (λ (j : ℕ). get_or s.args.led.now j 0) (kid c.before.before)) c.if1.false,
-      t.before.loop.invariant.1,
+      R.kids_more s.requires.0.good s.args.reps.now s.args.led.now s.args.row.0 s.requires.3 (C.row_used (rows s) s.args.row.0 s.requires.4) s.requires.5 t.before.loop-k.invariant.0 (within t)
+          (get_or s.args.led.now c.before.before.kid_of-kid.result 0) (ap (λ (j : ℕ). get_or s.args.led.now j 0) (kid c.before.before)) c.if-rep-eq0.false,
+      t.before.loop-k.invariant.1,
     )
 
-target-of-requires : tie.Need-target-of-requires invariant-loop decreases-loop
+target-of-requires : tie.Need-target_of-requires invariant-loop decreases-loop
 target-of-requires c κs = let s : Start = c.before.before.before.before.before.before.before.before.before in (s.requires.0.finding, s.requires.1)
 
-returns-2 : tie.Need-returns-2 invariant-loop decreases-loop
+returns-2 : tie.Need-returns invariant-loop decreases-loop
 returns-2 c =
     let l = c.before.before in
     let s : Start = l.before.before.before.before.before.before.before.before in
     let i : ℕ = s.args.row.0 in
-    let a = l.before.before.symbol-of.ensures ∙ C.row_symbol (rows s) i s.requires.4 in
-    R.kids_end s.requires.0.good s.args.reps.now s.args.led.now i s.requires.3 (C.row_used (rows s) i s.requires.4) s.requires.5 l.loop.invariant.0
-    (omega (arith, c.before.loop-test.false, l.loop.invariant.1)) c.target-of.result.0
-    (c.target-of.ensures ∙ ap (λ (b : ℕ). get_or s.args.reps.now (find_places (store s) b l.loop.places) 0) a)
+    let a = l.before.before.symbol_of-symbol.ensures ∙ C.row_symbol (rows s) i s.requires.4 in
+    R.kids_end s.requires.0.good s.args.reps.now s.args.led.now i s.requires.3 (C.row_used (rows s) i s.requires.4) s.requires.5 l.loop-k.invariant.0
+    (omega (arith, c.before.loop-k-test.false, l.loop-k.invariant.1)) c.target_of.result.0
+    (c.target_of.ensures ∙ ap (λ (b : ℕ). get_or s.args.reps.now (find_places (store s) b l.loop-k.places) 0) a)
 
-pub row-rep-spec : {M : Type 1} → statement M
-row-rep-spec =
+pub row_rep_spec : {M : Type 1} → statement M
+row_rep_spec =
     tie.close
     (tie.spec
     invariant-loop

@@ -20,15 +20,15 @@ use Rattle.table_verdict.proofs.row_reps.Lts as lts
 use Rattle.bank.proofs.notes.column.Reads as column-reads
 use Rattle.table_verdict.proofs.row_rep.Reads as row-rep-reads
 
-abbrev invariant-loop : tie.invariant-loop
+abbrev invariant-loop : tie.invariant-loop-i
 invariant-loop words counts used index upto notes₀ size i₀ notes i =
     (0 < i) × (i ≤ upto.0 + 1) × Noted (store_of words counts used) notes₀ notes i
 
-abbrev decreases-loop : tie.decreases-loop
+abbrev decreases-loop : tie.decreases-loop-i
 decreases-loop words counts used index upto notes₀ size i₀ notes i = upto.0 + 1 - i
 
 abbrev Start : Type 0
-Start = lts.Start (column-reads.Asked, column-reads.Learnt, row-rep-reads.Asked, row-rep-reads.Learnt) reads.Pre reads.Post invariant-loop decreases-loop
+Start = tie.Start invariant-loop decreases-loop
 
 abbrev store : Start → Store
 store s = store_of s.args.words.now s.args.counts.now s.args.used
@@ -41,85 +41,85 @@ room : (s : Start) → used (store s) ≤ room_in s.args.notes.now
 room s = omega (arith, rows_used s, s.requires.1)
 
 abbrev After : Type 0
-After = lts.After-row-rep (column-reads.Asked, column-reads.Learnt, row-rep-reads.Asked, row-rep-reads.Learnt) reads.Pre reads.Post invariant-loop decreases-loop
+After = tie.After-row_rep-rep invariant-loop decreases-loop
 
 abbrev start : After → Start
-start c = c.before.before.before.before.before.before.before.before.before.before.before
+start c = c.before.before.before.before.before.before.before.before.before.before
 
-mul-notes : tie.Need-overflow-mul-notes invariant-loop decreases-loop
+mul-notes : tie.Need-offset_bounds-notes-size invariant-loop decreases-loop
 mul-notes c = search rules
 
-slice-write-notes : tie.Need-slice-write-notes invariant-loop decreases-loop
+slice-write-notes : tie.Need-bounds-notes-size invariant-loop decreases-loop
 slice-write-notes c = search rules
 
-loop-holds : tie.Need-loop-init invariant-loop decreases-loop
+loop-holds : tie.Need-loop-i-init invariant-loop decreases-loop
 loop-holds c =
     let s = c.before.before.before.before in
     (omega arith, omega arith, R.noted_start s.requires.0.good s.args.notes.now (room s))
 
-column-requires : tie.Need-column-requires invariant-loop decreases-loop
+column-requires : tie.Need-column-reps-requires invariant-loop decreases-loop
 column-requires c κs = search rules
 
-column-requires-2 : tie.Need-column-requires-2 invariant-loop decreases-loop
+column-requires-2 : tie.Need-column-led-requires invariant-loop decreases-loop
 column-requires-2 c κs = search rules
 
-row-rep-requires : tie.Need-row-rep-requires invariant-loop decreases-loop
+row-rep-requires : tie.Need-row_rep-rep-requires invariant-loop decreases-loop
 row-rep-requires c κs =
-    let s = c.before.before.before.before.before.before.before.before.before.before in
-    let l = c.before.before.before.before.before.loop in
-    let a = c.before.column.ensures in
-    let b = c.column2.ensures in
+    let s = c.before.before.before.before.before.before.before.before.before in
+    let l = c.before.before.before.before.loop-i in
+    let a = c.before.column-reps.ensures in
+    let b = c.column-led.ensures in
     let reps_long : s.args.used ≤ length (column_in l.notes 0) = omega (arith, R.noted_column s.args.notes.now l.invariant.2 (room s) 0 (omega arith), rows_used s) in
     let led_long : s.args.used ≤ length (column_in l.notes 1) = omega (arith, R.noted_column s.args.notes.now l.invariant.2 (room s) 1 (omega arith), rows_used s) in
     (s.requires.0, rw a reps_long, rw b led_long, l.invariant.0, omega (arith, s.requires.2), rw (a, b) (R.noted_now s.args.notes.now l.invariant.2))
 
-cast-notes : tie.Need-overflow-cast-notes invariant-loop decreases-loop
+cast-notes : tie.Need-overflow_cast-notes invariant-loop decreases-loop
 cast-notes c = search rules
 
-add-notes : tie.Need-overflow-add-notes invariant-loop decreases-loop
+add-notes : tie.Need-overflow_add-notes invariant-loop decreases-loop
 add-notes c = search rules
 
-mul-notes-2 : tie.Need-overflow-mul-notes-2 invariant-loop decreases-loop
+mul-notes-2 : tie.Need-offset_bounds-notes-size-in-loop-i invariant-loop decreases-loop
 mul-notes-2 c = search rules
 
-slice-write-notes-2 : tie.Need-slice-write-notes-2 invariant-loop decreases-loop
+slice-write-notes-2 : tie.Need-bounds-notes-size-in-loop-i invariant-loop decreases-loop
 slice-write-notes-2 c =
     let s = start c in
-    let l = c.before.before.before.before.before.before.loop in
-    R.noted_within s.args.notes.now l.invariant.2 (room s) (omega (arith, s.pre.2, rows_used s))
+    let l = c.before.before.before.before.before.loop-i in
+    R.noted_within s.args.notes.now l.invariant.2 (room s) (omega (arith, s.requires.2, rows_used s))
 
-add-i : tie.Need-overflow-add-i invariant-loop decreases-loop
+add-i : tie.Need-overflow_add-i invariant-loop decreases-loop
 add-i c = search rules
 
-loop-less : tie.Need-loop-smaller invariant-loop decreases-loop
+loop-less : tie.Need-loop-i-smaller invariant-loop decreases-loop
 loop-less c = search rules
 
-loop-again : tie.Need-loop-preserved invariant-loop decreases-loop
+loop-again : tie.Need-loop-i-preserved invariant-loop decreases-loop
 loop-again c =
     let s = start c in
-    let l = c.before.before.before.before.before.before.loop in
-    let b : l.i < used (store s) = omega (arith, s.pre.2, rows_used s) in (
+    let l = c.before.before.before.before.before.loop-i in
+    let b : l.i < used (store s) = omega (arith, s.requires.2, rows_used s) in (
       omega arith,
       omega arith,
-      R.noted_more s.args.notes.now l.invariant.2 (room s) s.pre.0.good b c.row-rep.result.0
-          (c.row-rep.ensures ∙ ap (λ (reps : List ℕ). rep_row (store s) reps l.i) c.before.before.column.ensures),
+      R.noted_more s.args.notes.now l.invariant.2 (room s) s.requires.0.good b c.row_rep-rep.result.0
+          (c.row_rep-rep.ensures ∙ ap (λ (reps : List ℕ). rep_row (store s) reps l.i) c.before.before.column-reps.ensures),
     )
 
-same_length : tie.Need-same-length invariant-loop decreases-loop
+same_length : tie.Need-shape_of-notes invariant-loop decreases-loop
 same_length c =
     let s = c.before.before.before.before.before.before.before in
-    R.noted_long s.args.notes.now c.before.before.loop.invariant.2
+    R.noted_long s.args.notes.now c.before.before.loop-i.invariant.2
 
 returns : tie.Need-returns invariant-loop decreases-loop
 returns c =
     let s = c.before.before.before.before.before.before.before in
-    let l = c.before.before.loop in (
+    let l = c.before.before.loop-i in (
       R.noted_reps s.args.notes.now l.invariant.2,
       λ i b. R.noted_right s.args.notes.now l.invariant.2 i (omega arith),
     )
 
-pub row-reps-spec : {M : Type 1} → statement M
-row-reps-spec =
+pub row_reps_spec : {M : Type 1} → statement M
+row_reps_spec =
     tie.close
     (tie.spec
     invariant-loop

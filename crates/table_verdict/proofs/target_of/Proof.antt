@@ -8,27 +8,27 @@ use Rattle.bank.proofs.Laws.Children.{find_used}
 use Rattle.table_verdict.proofs.target_of.Statement.{statement}
 use Rattle.table_verdict.proofs.target_of.Tie as tie
 
-find-requires : tie.Need-find-requires
+find-requires : tie.Need-find-found-requires
 find-requires c κs = search rules
 
-cast-t8 : tie.Need-overflow-cast-t8
+cast-t8 : tie.Need-overflow_cast-result
 cast-t8 c = search rules
 
-mul-t9 : tie.Need-overflow-mul-t9
+mul-t9 : tie.Need-offset_bounds-reps-found
 mul-t9 c = search rules
 
-shared-slice-read-t11 : tie.Need-shared-slice-read-t11
+shared-slice-read-t11 : tie.Need-bounds-reps-found
 shared-slice-read-t11 c =
     let s = c.before.before.before.before.before.before in
-    omega (arith, c.before.before.find.ensures, find_used s.requires.0 s.args.symbol s.args.places)
+    omega (arith, c.before.before.find-found.ensures, find_used s.requires.0 s.args.symbol s.args.places)
 
 returns : tie.Need-returns
 returns c =
     let s = c.before.before.before.before.before.before in
-    ap (λ (i : ℕ). get_or s.args.reps.now i 0) c.before.before.find.ensures
+    ap (λ (i : ℕ). get_or s.args.reps.now i 0) c.before.before.find-found.ensures
 
-pub target-of-spec : {M : Type 1} → statement M
-target-of-spec =
+pub target_of_spec : {M : Type 1} → statement M
+target_of_spec =
     tie.close
     (tie.spec
     find-requires

@@ -9,14 +9,14 @@ use Rattle.table_verdict.proofs.verdict_at.Tie as tie
 abbrev chosen : Bool → Verdict
 chosen b = cond b Verdict.Accepted Verdict.NotFinal
 
-is-final-requires : tie.Need-is-final-requires
+is-final-requires : tie.Need-is_final-requires
 is-final-requires c κs = search rules
 
-returns : tie.Need-returns
-returns c = sym (ap chosen (sym c.before.is-final.ensures ∙ c.if1.true))
+returns : tie.Need-returns-then-is_final
+returns c = sym (ap chosen (sym c.before.is_final.ensures ∙ c.if-is_final.true))
 
-returns-2 : tie.Need-returns-2
-returns-2 c = sym (ap chosen (sym c.before.is-final.ensures ∙ c.if1.false))
+returns-2 : tie.Need-returns
+returns-2 c = sym (ap chosen (sym c.before.is_final.ensures ∙ c.if-is_final.false))
 
-pub verdict-at-spec : {M : Type 1} → statement M
-verdict-at-spec = tie.close (tie.spec is-final-requires returns returns-2)
+pub verdict_at_spec : {M : Type 1} → statement M
+verdict_at_spec = tie.close (tie.spec is-final-requires returns returns-2)
