@@ -8,7 +8,7 @@ use native.Mathlib.Omega.{arith}
 use lib.ListN.{get_or}
 use Rattle.model.specs.Limits.{most_rows}
 use Rattle.model.specs.Base.{Below, none_below, one_below, among, sum}
-use Rattle.model.specs.Store.{Store, Split, Spot, nowhere, there, push, split_at, used, symbol_at, kids_at, frame, under, down_by, down_from, down, filled_row, fold_from, fold, outside, spot_of}
+use Rattle.model.specs.Store.{Store, Split, Spot, nowhere, there, push, split_at, used, symbol_at, kids_at, frame, under, down_by, down_from, filled_row, fold_from, fold, outside, spot_of}
 use Rattle.model.specs.Facts.{Good}
 use Rattle.model.specs.Entry.{store_of}
 use Rattle.model.proofs.Laws.Lists.{map_below, below_split}

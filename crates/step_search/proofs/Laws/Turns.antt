@@ -9,7 +9,7 @@ use native.Mathlib.Decide.{ℕ_discrete}
 use lib.Dec.{eqb}
 use borrow.Author.Tests.{eq-eqb, ne_eqb}
 use lib.ListN.{get_or}
-use Rattle.model.specs.Base.{In, among}
+use Rattle.model.specs.Base.{In}
 use Rattle.model.specs.Store.{Store, used, filled_row, outside, spot_of}
 use Rattle.model.specs.Table.{answer_at}
 use Rattle.model.specs.Steps.{Search, at_new_transition, at_unknown, at_difference, against, search}
