@@ -6,8 +6,8 @@ ghost use Rattle.model.specs.Limits.{most_symbols, most_rules, most_contexts};
 ghost use Rattle.model.specs.Base.{over};
 ghost use Rattle.model.specs.Calls.{started};
 ghost use Rattle.model.specs.Entry.{zero_lists, lists_of};
-ghost use Rattle.run_lists.specs.Changes.{asking as askingOf, closed as closedOf, taken_up, proposing as proposingOf};
-ghost use Rattle.run_lists.specs.Changes.{accepting as acceptingOf, with_rule, with_context};
+ghost use Rattle.run_lists.specs.Changes.{asking as asking_of, closed as closed_of, taken_up, proposing as proposing_of};
+ghost use Rattle.run_lists.specs.Changes.{accepting as accepting_of, with_rule, with_context};
 
 use crate::is_among;
 use model::limits::{MOST_CONTEXTS, MOST_RULES, MOST_STATES, MOST_SYMBOLS};
@@ -63,7 +63,7 @@ pub fn fresh(counts: &[u8]) -> Lists
 
 // A question is open.
 pub fn asking(lists: Lists, hand: Row, row: Row, used: u16) -> Lists
-    ensures { result ≡ askingOf lists hand.0 row.0 used }
+    ensures { result ≡ asking_of lists hand.0 row.0 used }
 {
     let mut left = lists;
     left.used = used;
@@ -75,7 +75,7 @@ pub fn asking(lists: Lists, hand: Row, row: Row, used: u16) -> Lists
 
 // The question is closed.
 pub fn closed(lists: Lists) -> Lists
-    ensures { result ≡ closedOf lists }
+    ensures { result ≡ closed_of lists }
 {
     asking(lists, Row(lists.hand), Row(0), lists.used)
 }
@@ -89,7 +89,7 @@ pub fn taken_up(lists: Lists, row: Row, used: u16) -> Lists
 
 // An automaton is proposed.
 pub fn proposing(lists: Lists, s: [u16; MOST_STATES], states: u16) -> Lists
-    ensures { result ≡ proposingOf lists s states }
+    ensures { result ≡ proposing_of lists s states }
 {
     let mut left = lists;
     left.states = states;
@@ -102,7 +102,7 @@ pub fn proposing(lists: Lists, s: [u16; MOST_STATES], states: u16) -> Lists
 
 // It is accepted.
 pub fn accepting(lists: Lists) -> Lists
-    ensures { result ≡ acceptingOf lists }
+    ensures { result ≡ accepting_of lists }
 {
     let mut left = lists;
     left.accepted = 1;

@@ -48,11 +48,11 @@ abbrev count : tie.After-with_context-left → ℕ
 count c = c.before.in-At.n
 
 -- the way down to the spot: by a column of places, which is that of the notes
-abbrev wayBy : tie.Start → (places : List ℕ) → List Frame
-wayBy s ds = path_of ds (tables_of s.args.words.now s.args.lists).store s.args.hand.0
+abbrev way_by : tie.Start → (places : List ℕ) → List Frame
+way_by s ds = path_of ds (tables_of s.args.words.now s.args.lists).store s.args.hand.0
 
 abbrev way : tie.Start → List Frame
-way s = wayBy s (down_in s.args.notes.now)
+way s = way_by s (down_in s.args.notes.now)
 
 places_are : (c : tie.After-column-down) → c.column-down.result.now ≡ down_in (start c).args.notes.now
 places_are c = c.column-down.ensures
@@ -70,7 +70,7 @@ arrays s =
 abbrev ComesBy : tie.After-fill → (places : List ℕ) → Type 0
 ComesBy c ds =
     let s : tie.Start = start (led c) in
-    Comes s.args.words.now (counts_in s.args.lists) s.args.lists.used (fill (tables_of s.args.words.now s.args.lists).store (wayBy s ds) 0)
+    Comes s.args.words.now (counts_in s.args.lists) s.args.lists.used (fill (tables_of s.args.words.now s.args.lists).store (way_by s ds) 0)
     c.fill.result c.fill.new.words c.fill.new.index
 
 came : (c : tie.After-fill) → ComesBy c (down_in (start (led c)).args.notes.now)
@@ -109,7 +109,7 @@ fill-requires c κs =
     let room : s.args.lists.used ≤ length (down_in s.args.notes.now) =
     omega (arith, noted s.requires.0 s.args.notes.now s.requires.2, column_long s.args.notes.now 1 (omega arith)) in
     let long = subst (λ (ds : List ℕ). s.args.lists.used ≤ length ds) (sym e) room in
-    let fits = subst (λ (ds : List ℕ). Fits (tables_of s.args.words.now s.args.lists).store (wayBy s ds)) (sym e) s.requires.6 in
+    let fits = subst (λ (ds : List ℕ). Fits (tables_of s.args.words.now s.args.lists).store (way_by s ds)) (sym e) s.requires.6 in
     (s.requires.0, long, h, s.requires.0.finding.some, fits)
 
 enum_told : tie.Need-enum_told-1
