@@ -10,78 +10,78 @@ use Rattle.sound.proofs.lists_sound.Statement.{statement}
 use Rattle.sound.proofs.lists_sound.Tie as tie
 
 -- the lists copied
-abbrev start : tie.After-c → tie.Start
+abbrev start : tie.After-c-1 → tie.Start
 start c = c.before.before.before.before.before.before.before.before.before.before.before.before
 
 arrays : (s : tie.Start) → Arrays s.args.lists
 arrays s = record { counts = search rules; s = search rules; t = search rules; c = search rules }
 
-cast-letters : tie.Need-overflow-cast-letters
+cast-letters : tie.Need-overflow_cast-letters
 cast-letters c = search rules
 
-cast-states : tie.Need-overflow-cast-states
+cast-states : tie.Need-overflow_cast-states
 cast-states c = search rules
 
-cast-rules : tie.Need-overflow-cast-rules
+cast-rules : tie.Need-overflow_cast-rules
 cast-rules c = search rules
 
-cast-contexts : tie.Need-overflow-cast-contexts
+cast-contexts : tie.Need-overflow_cast-contexts
 cast-contexts c = search rules
 
-array-share-prefix-counts : tie.Need-array-share-prefix-counts
-array-share-prefix-counts c = let s = start c in few_letters s.pre.1 (arrays s)
+array-share-prefix-counts : tie.Need-slice_bounds-counts-end
+array-share-prefix-counts c = let s = start c in few_letters s.requires.1 (arrays s)
 
-slice-aggregate-is-sound : tie.Need-slice-aggregate-is-sound
-slice-aggregate-is-sound c = let s = start c.before in letters_told s.pre.1 (arrays s)
+slice-aggregate-is-sound : tie.Need-slice_bounds-is_sound-end
+slice-aggregate-is-sound c = let s = start c.before in letters_told s.requires.1 (arrays s)
 
-array-share-prefix-s : tie.Need-array-share-prefix-s
-array-share-prefix-s c = let s = start c.before in few_states s.pre.1 (arrays s)
+array-share-prefix-s : tie.Need-slice_bounds-s-end
+array-share-prefix-s c = let s = start c.before in few_states s.requires.1 (arrays s)
 
-slice-aggregate-is-sound-2 : tie.Need-slice-aggregate-is-sound-2
-slice-aggregate-is-sound-2 c = let s = start c.before.before in states_told s.pre.1 (arrays s)
+slice-aggregate-is-sound-2 : tie.Need-slice_bounds-is_sound-end-2
+slice-aggregate-is-sound-2 c = let s = start c.before.before in states_told s.requires.1 (arrays s)
 
-array-share-prefix-t : tie.Need-array-share-prefix-t
-array-share-prefix-t c = let s = start c.before.before in few_rules s.pre.1 (arrays s)
+array-share-prefix-t : tie.Need-slice_bounds-t-end
+array-share-prefix-t c = let s = start c.before.before in few_rules s.requires.1 (arrays s)
 
-slice-aggregate-is-sound-3 : tie.Need-slice-aggregate-is-sound-3
-slice-aggregate-is-sound-3 c = let s = start c.before.before.before in rules_told s.pre.1 (arrays s)
+slice-aggregate-is-sound-3 : tie.Need-slice_bounds-is_sound-end-3
+slice-aggregate-is-sound-3 c = let s = start c.before.before.before in rules_told s.requires.1 (arrays s)
 
-array-share-prefix-c : tie.Need-array-share-prefix-c
-array-share-prefix-c c = let s = start c.before.before.before in few_contexts s.pre.1 (arrays s)
+array-share-prefix-c : tie.Need-slice_bounds-c-end
+array-share-prefix-c c = let s = start c.before.before.before in few_contexts s.requires.1 (arrays s)
 
-slice-aggregate-is-sound-4 : tie.Need-slice-aggregate-is-sound-4
-slice-aggregate-is-sound-4 c = let s = start c.before.before.before.before in contexts_told s.pre.1 (arrays s)
+slice-aggregate-is-sound-4 : tie.Need-slice_bounds-is_sound-end-4
+slice-aggregate-is-sound-4 c = let s = start c.before.before.before.before in contexts_told s.requires.1 (arrays s)
 
-is-sound-requires : tie.Need-is-sound-requires
+is-sound-requires : tie.Need-is_sound-requires
 is-sound-requires c κs =
     let s = start c.before.before.before.before.before.before.before in
-    let f = lists_fit_facts s.args.lists s.pre.1 in
-    let q = states_told s.pre.1 (arrays s) in
-    let n = rules_told s.pre.1 (arrays s) in
-    let m = contexts_told s.pre.1 (arrays s) in
-    let r = s.pre.2 in (
-      s.pre.0,
+    let f = lists_fit_facts s.args.lists s.requires.1 in
+    let q = states_told s.requires.1 (arrays s) in
+    let n = rules_told s.requires.1 (arrays s) in
+    let m = contexts_told s.requires.1 (arrays s) in
+    let r = s.requires.2 in (
+      s.requires.0,
       record { few_s = omega (arith, q, f.states); few_t = omega (arith, n, f.rules); few_c = omega (arith, m, f.contexts) },
       record { rows = r.rows; table_long = omega (arith, n, r.table_long); notes_long = r.notes_long },
     )
 
-same_length : tie.Need-same-length
+same_length : tie.Need-shape_of-index
 same_length c = search rules
 
-same-length-2 : tie.Need-same-length-2
+same-length-2 : tie.Need-shape_of-table
 same-length-2 c = search rules
 
-same-length-3 : tie.Need-same-length-3
+same-length-3 : tie.Need-shape_of-notes
 same-length-3 c = search rules
 
 returns : tie.Need-returns
 returns c =
     let d = c.before.before.before.before.before.before in
     let s = start d.before.before.before.before.before.before.before.before in
-    (d.is_sound_law.ensures.0, λ e. working_whole (counted s.pre.1 (arrays s)) (d.is_sound_law.ensures.1 e))
+    (d.is_sound.ensures.0, λ e. working_whole (counted s.requires.1 (arrays s)) (d.is_sound.ensures.1 e))
 
-pub lists-sound-spec : {M : Type 1} → statement M
-lists-sound-spec =
+pub lists_sound_spec : {M : Type 1} → statement M
+lists_sound_spec =
     tie.close
     (tie.spec
     cast-letters

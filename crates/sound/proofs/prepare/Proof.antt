@@ -24,49 +24,49 @@ idle s =
 abbrev start : tie.After-t1 → tie.Start
 start c = c.before.before.before.before.before.before.before.before.before.before
 
-abbrev tested : tie.Else1 → tie.After-t1
+abbrev tested : tie.Else-not-t1 → tie.After-t1
 tested c = c.before.before.before
 
-abbrev past : tie.Else2 → tie.Else1
-past c = c.before.before.before
+abbrev past : tie.Else-not-roles_fit → tie.Else-not-t1
+past c = c.before.before
 
-t1_true : (c : tie.Else1) → is_t1 (idle (start (tested c))) ≡ true
-t1_true c = sym (tested c).t1.ensures.0 ∙ not-false (tested c).t1.result c.if1.false
+t1_true : (c : tie.Else-not-t1) → is_t1 (idle (start (tested c))) ≡ true
+t1_true c = sym (tested c).t1.ensures.0 ∙ not-false (tested c).t1.result c.if-not-t1.false-raw
 
-bank : (c : tie.Else1) → Bank (start (tested c)).args.words.now (start (tested c)).args.counts.now (start (tested c)).args.used (tested c).t1.new.1.1.1.0
-bank c = (tested c).t1.ensures.1 (not-false (tested c).t1.result c.if1.false)
+bank : (c : tie.Else-not-t1) → Bank (start (tested c)).args.words.now (start (tested c)).args.counts.now (start (tested c)).args.used (tested c).t1.new.index
+bank c = (tested c).t1.ensures.1 (not-false (tested c).t1.result c.if-not-t1.false-raw)
 
-roles_true : (c : tie.Else2) → roles_fit (idle (start (tested (past c)))) ≡ true
-roles_true c = sym c.before.roles-fit.ensures ∙ not-false c.before.roles-fit.result c.if2.false
+roles_true : (c : tie.Else-not-roles_fit) → roles_fit (idle (start (tested (past c)))) ≡ true
+roles_true c = sym c.before.roles_fit.ensures ∙ not-false c.before.roles_fit.result c.if-not-roles_fit.false-raw
 
 t1-requires : tie.Need-t1-requires
 t1-requires c κs = search rules
 
-same_length : tie.Need-same-length
+same_length : tie.Need-shape_of-index-then-not-t1
 same_length c = search rules
 
-returns : tie.Need-returns
+returns : tie.Need-returns-then-not-t1
 returns c =
     let t = c.before.before.before in
-    (stops _ _ (sym t.t1.ensures.0 ∙ not-true t.t1.result c.if1.true), λ e. absurd (true≢false (sym e)))
+    (stops _ _ (sym t.t1.ensures.0 ∙ not-true t.t1.result c.if-not-t1.true-raw), λ e. absurd (true≢false (sym e)))
 
-roles-fit-requires : tie.Need-roles-fit-requires
-roles-fit-requires c κs = let f = (start (tested c.before)).requires.1 in (bank c.before, f.few_s, f.few_t)
+roles-fit-requires : tie.Need-roles_fit-requires
+roles-fit-requires c κs = let f = (start (tested c)).requires.1 in (bank c, f.few_s, f.few_t)
 
-same-length-2 : tie.Need-same-length-2
+same-length-2 : tie.Need-shape_of-index-then-not-roles_fit
 same-length-2 c = search rules
 
-returns-2 : tie.Need-returns-2
+returns-2 : tie.Need-returns-then-not-roles_fit
 returns-2 c =
-    let r = c.before.roles-fit in
-    (sym (sym r.ensures ∙ not-true r.result c.if2.true) ∙ goes_on _ _ (t1_true c.before.before.before), λ e. absurd (true≢false (sym e)))
+    let r = c.before.roles_fit in
+    (sym (sym r.ensures ∙ not-true r.result c.if-not-roles_fit.true-raw) ∙ goes_on _ _ (t1_true c.before.before), λ e. absurd (true≢false (sym e)))
 
 observe-requires : tie.Need-observe-requires
 observe-requires c κs =
-    let d = c.before.before.before in
+    let d = c.before.before in
     let s = start (tested (past d)) in
-    let f = s.pre.1 in
-    let room = s.pre.2 in
+    let f = s.requires.1 in
+    let room = s.requires.2 in
     let ok = bank (past d) in (
       ok,
       t1_answered s.args.words.now s.args.counts.now s.args.used s.args.s.now s.args.t.now s.args.c.now (t1_true (past d)),
@@ -78,23 +78,23 @@ observe-requires c κs =
       omega (arith, ok.finding.room, room.notes_long),
     )
 
-same-length-3 : tie.Need-same-length-3
+same-length-3 : tie.Need-shape_of-index
 same-length-3 c = search rules
 
-same-length-4 : tie.Need-same-length-4
+same-length-4 : tie.Need-shape_of-table
 same-length-4 c = search rules
 
-same-length-5 : tie.Need-same-length-5
+same-length-5 : tie.Need-shape_of-notes
 same-length-5 c = search rules
 
-returns-3 : tie.Need-returns-3
+returns-3 : tie.Need-returns
 returns-3 c =
     let o = c.before.before.before.before in
-    let d = o.before.before.before.before in
+    let d = o.before.before.before in
     (sym (true_both _ _ (t1_true (past d)) (roles_true d)), λ e. (bank (past d), o.observe.ensures))
 
-pub prepare-spec : {M : Type 1} → statement M
-prepare-spec =
+pub prepare_spec : {M : Type 1} → statement M
+prepare_spec =
     tie.close
     (tie.spec
     t1-requires

@@ -16,53 +16,53 @@ front : (s : tie.Start) → length (take (room_in s.args.notes.now) s.args.notes
 front s = length-take-le (room_in s.args.notes.now) s.args.notes.now (omega arith)
 
 -- the places found; the representatives asked for
-abbrev start : tie.After-find-s-in-t → tie.Start
+abbrev start : tie.After-find_s_in_t → tie.Start
 start c = c.before.before.before.before.before.before
 
-abbrev placed : tie.After-find-reps-arg2 → tie.After-find-s-in-t
-placed c = c.before.before.before.before
+abbrev placed : tie.After-find_reps-arg-1 → tie.After-find_s_in_t
+placed c = c.before.before.before
 
-find-s-in-t-requires : tie.Need-find-s-in-t-requires
+find-s-in-t-requires : tie.Need-find_s_in_t-requires
 find-s-in-t-requires c κs = search rules
 
-is-missing-requires : tie.Need-is-missing-requires
+is-missing-requires : tie.Need-is_missing-requires
 is-missing-requires c κs = search rules
 
-returns : tie.Need-returns
+returns : tie.Need-returns-then-is_missing
 returns c =
-    let m = sym c.if1.true ∙ c.before.is-missing.ensures in
-    let f = c.before.before.find-s-in-t in
+    let m = sym c.if-is_missing.true ∙ c.before.is_missing.ensures in
+    let f = c.before.before.find_s_in_t in
     (m, f.ensures.0, f.ensures.1, λ e. absurd (true≢false (m ∙ e)))
 
-slice-relend-prefix-find-reps : tie.Need-slice-relend-prefix-find-reps
+slice-relend-prefix-find-reps : tie.Need-slice_bounds-find_reps-end
 slice-relend-prefix-find-reps c = search rules
 
-slice-aggregate-find-reps : tie.Need-slice-aggregate-find-reps
+slice-aggregate-find-reps : tie.Need-slice_bounds-find_reps-end-2
 slice-aggregate-find-reps c = sym (front (start (placed c)))
 
-find-reps-requires : tie.Need-find-reps-requires
+find-reps-requires : tie.Need-find_reps-requires
 find-reps-requires c κs =
     let s = start (placed c) in
-    let p = (placed c).find-s-in-t.ensures.0 in
-    (s.pre.0, s.pre.1, p.long, p.within, λ k l. omega (arith, front s, s.pre.4 k l), s.pre.5)
+    let p = (placed c).find_s_in_t.ensures.0 in
+    (s.requires.0, s.requires.1, p.long, p.within, λ k l. omega (arith, front s, s.requires.4 k l), s.requires.5)
 
-same_length : tie.Need-same-length
+same_length : tie.Need-shape_of-notes
 same_length c = search rules
 
-returns-2 : tie.Need-returns-2
+returns-2 : tie.Need-returns
 returns-2 c =
     let r = c.before.before in
-    let f = (placed r.before).find-s-in-t in
+    let f = (placed r.before).find_s_in_t in
     let s = start (placed r.before) in
-    let m = r.before.before.before in (
-      sym m.if1.false ∙ m.before.is-missing.ensures,
+    let m = r.before.before in (
+      sym m.if-is_missing.false ∙ m.before.is_missing.ensures,
       f.ensures.0,
       f.ensures.1,
-      λ e. rw (front_reps s.args.notes.now r.find-reps.new.1.1.1.1.1.0 (r.find-reps.auto.1.1.1.1.1.0 ∙ front s)) r.find-reps.ensures,
+      λ e. rw (front_reps s.args.notes.now r.find_reps.new.reps (r.find_reps.auto.reps ∙ front s)) r.find_reps.ensures,
     )
 
-pub represent-spec : {M : Type 1} → statement M
-represent-spec =
+pub represent_spec : {M : Type 1} → statement M
+represent_spec =
     tie.close
     (tie.spec
     find-s-in-t-requires

@@ -7,48 +7,48 @@ use Rattle.sound_roles.proofs.Laws.Fit.{no_contexts, another_first, not_contexts
 use Rattle.sound_roles.proofs.contexts_fit.Statement.{statement}
 use Rattle.sound_roles.proofs.contexts_fit.Tie as tie
 
-returns : tie.Need-returns
-returns c = let s = c.before.before.before in no_contexts s.args.index.now s.args.used s.args.size s.args.c.now c.if1.true
+returns : tie.Need-returns-then-c-eq0
+returns c = let s = c.before.before.before in no_contexts s.args.index.now s.args.used s.args.size s.args.c.now c.if-c-eq0.true
 
-shared-slice-read-if2 : tie.Need-shared-slice-read-if2
+shared-slice-read-if2 : tie.Need-bounds-c-0
 shared-slice-read-if2 c = search rules
 
-returns-2 : tie.Need-returns-2
-returns-2 c = let s = c.before.before.before.before.before in another_first s.args.index.now s.args.used s.args.size s.args.c.now (omega arith) c.if2.true
+returns-2 : tie.Need-returns-then-c-ne0
+returns-2 c = let s = c.before.before.before.before.before in another_first s.args.index.now s.args.used s.args.size s.args.c.now (omega arith) c.if-c-ne0.true
 
-all-contexts-requires : tie.Need-all-contexts-requires
+all-contexts-requires : tie.Need-all_contexts-requires
 all-contexts-requires c κs = search rules
 
-returns-3 : tie.Need-returns-3
+returns-3 : tie.Need-returns-then-not-all_contexts
 returns-3 c =
     let s = c.before.before.before.before.before.before.before in
     let a = c.before.all_contexts in
-    not_contexts s.args.index.now s.args.used s.args.size s.args.c.now (omega arith) c.before.before.if2.false (sym a.ensures ∙ not-true a.result c.if3.true)
+    not_contexts s.args.index.now s.args.used s.args.size s.args.c.now (omega arith) c.before.before.if-c-ne0.false (sym a.ensures ∙ not-true a.result c.if-not-all_contexts.true-raw)
 
-no-repeats-requires : tie.Need-no-repeats-requires
+no-repeats-requires : tie.Need-no_repeats-requires
 no-repeats-requires c κs = search rules
 
-returns-4 : tie.Need-returns-4
+returns-4 : tie.Need-returns-then-not-no_repeats
 returns-4 c =
     let s = c.before.before.before.before.before.before.before.before.before in
     let a = c.before.before.before.all_contexts in
-    let d = c.before.no-repeats in
-    repeated s.args.index.now s.args.used s.args.size s.args.c.now (omega arith) c.before.before.before.before.if2.false (sym a.ensures ∙ not-false a.result c.before.before.if3.false)
-    (sym d.ensures ∙ not-true d.result c.if4.true)
+    let d = c.before.no_repeats in
+    repeated s.args.index.now s.args.used s.args.size s.args.c.now (omega arith) c.before.before.before.before.if-c-ne0.false (sym a.ensures ∙ not-false a.result c.before.before.if-not-all_contexts.false-raw)
+    (sym d.ensures ∙ not-true d.result c.if-not-no_repeats.true-raw)
 
-add-result : tie.Need-overflow-add-result
+add-result : tie.Need-overflow_add-result
 add-result c = search rules
 
-returns-5 : tie.Need-returns-5
+returns-5 : tie.Need-returns
 returns-5 c =
     let s = c.before.before.before.before.before.before.before.before.before in
     let a = c.before.before.before.all_contexts in
-    let d = c.before.no-repeats in
-    few_decide s.args.index.now s.args.used s.args.size s.args.c.now (omega arith) c.before.before.before.before.if2.false (sym a.ensures ∙ not-false a.result c.before.before.if3.false)
-    (sym d.ensures ∙ not-false d.result c.if4.false)
+    let d = c.before.no_repeats in
+    few_decide s.args.index.now s.args.used s.args.size s.args.c.now (omega arith) c.before.before.before.before.if-c-ne0.false (sym a.ensures ∙ not-false a.result c.before.before.if-not-all_contexts.false-raw)
+    (sym d.ensures ∙ not-false d.result c.if-not-no_repeats.false-raw)
 
-pub contexts-fit-spec : {M : Type 1} → statement M
-contexts-fit-spec =
+pub contexts_fit_spec : {M : Type 1} → statement M
+contexts_fit_spec =
     tie.close
     (tie.spec
     returns

@@ -5,17 +5,17 @@ use Rattle.sound_roles.proofs.Laws.Scan.{past, within}
 use Rattle.sound_roles.proofs.is_context.Statement.{statement}
 use Rattle.sound_roles.proofs.is_context.Tie as tie
 
-returns : tie.Need-returns
-returns c = past _ _ _ c.if1.true
+returns : tie.Need-returns-then-used-i
+returns c = past _ _ _ c.if-used-i.true
 
-has-hole-requires : tie.Need-has-hole-requires
+has-hole-requires : tie.Need-has_hole-requires
 has-hole-requires c κs = search rules
 
-returns-2 : tie.Need-returns-2
-returns-2 c = c.has-hole.ensures ∙ within _ _ _ c.before.if1.false
+returns-2 : tie.Need-returns
+returns-2 c = c.has_hole.ensures ∙ within _ _ _ c.before.if-used-i.false
 
-pub is-context-spec : {M : Type 1} → statement M
-is-context-spec =
+pub is_context_spec : {M : Type 1} → statement M
+is_context_spec =
     tie.close
     (tie.spec
     returns

@@ -25,45 +25,45 @@ yes tb n m = all (λ (k : ℕ). among 2 (answers_at tb m k)) (places_from 0 n)
 abbrev once : (table s_in_t : List ℕ) → (q n m : ℕ) → Bool
 once tb ps q n m = all (λ (k : ℕ). eqb (count_same (answers_at tb m k) (map (answers_at tb m) (take q ps))) 1) (places_from 0 n)
 
-few-fit-requires : tie.Need-few-fit-requires
+few-fit-requires : tie.Need-few_fit-requires
 few-fit-requires c κs = search rules
 
-returns : tie.Need-returns
+returns : tie.Need-returns-then-not-few_fit
 returns c =
     let s = c.before.before.before.args in
-    many_contexts (few_fit s.states s.rules s.contexts s.missing) (differ s.table.now s.s_in_t.now s.states s.contexts) (yes s.table.now s.rules s.contexts) s.missing (once s.table.now s.s_in_t.now s.states s.rules s.contexts) (sym c.before.few-fit.ensures ∙ not-true c.before.few-fit.result c.if1.true)
+    many_contexts (few_fit s.states s.rules s.contexts s.missing) (differ s.table.now s.s_in_t.now s.states s.contexts) (yes s.table.now s.rules s.contexts) s.missing (once s.table.now s.s_in_t.now s.states s.rules s.contexts) (sym c.before.few_fit.ensures ∙ not-true c.before.few_fit.result c.if-not-few_fit.true-raw)
 
-all-differ-requires : tie.Need-all-differ-requires
+all-differ-requires : tie.Need-all_differ-requires
 all-differ-requires c κs = search rules
 
-returns-2 : tie.Need-returns-2
+returns-2 : tie.Need-returns-then-not-all_differ
 returns-2 c =
     let s = c.before.before.before.before.before.args in
-    two_alike (few_fit s.states s.rules s.contexts s.missing) (differ s.table.now s.s_in_t.now s.states s.contexts) (yes s.table.now s.rules s.contexts) s.missing (once s.table.now s.s_in_t.now s.states s.rules s.contexts) (sym c.before.before.before.few-fit.ensures ∙ not-false c.before.before.before.few-fit.result c.before.before.if1.false) (sym c.before.all-differ.ensures ∙ not-true c.before.all-differ.result c.if2.true)
+    two_alike (few_fit s.states s.rules s.contexts s.missing) (differ s.table.now s.s_in_t.now s.states s.contexts) (yes s.table.now s.rules s.contexts) s.missing (once s.table.now s.s_in_t.now s.states s.rules s.contexts) (sym c.before.before.before.few_fit.ensures ∙ not-false c.before.before.before.few_fit.result c.before.before.if-not-few_fit.false-raw) (sym c.before.all_differ.ensures ∙ not-true c.before.all_differ.result c.if-not-all_differ.true-raw)
 
-all-yes-requires : tie.Need-all-yes-requires
+all-yes-requires : tie.Need-all_yes-requires
 all-yes-requires c κs = search rules
 
-returns-3 : tie.Need-returns-3
+returns-3 : tie.Need-returns-then-not-all_yes
 returns-3 c =
     let s = c.before.before.before.before.before.before.before.args in
-    none_yes (few_fit s.states s.rules s.contexts s.missing) (differ s.table.now s.s_in_t.now s.states s.contexts) (yes s.table.now s.rules s.contexts) s.missing (once s.table.now s.s_in_t.now s.states s.rules s.contexts) (sym c.before.before.before.before.before.few-fit.ensures ∙ not-false c.before.before.before.before.before.few-fit.result c.before.before.before.before.if1.false) (sym c.before.before.before.all-differ.ensures ∙ not-false c.before.before.before.all-differ.result c.before.before.if2.false) (sym c.before.all_yes.ensures ∙ not-true c.before.all_yes.result c.if3.true)
+    none_yes (few_fit s.states s.rules s.contexts s.missing) (differ s.table.now s.s_in_t.now s.states s.contexts) (yes s.table.now s.rules s.contexts) s.missing (once s.table.now s.s_in_t.now s.states s.rules s.contexts) (sym c.before.before.before.before.before.few_fit.ensures ∙ not-false c.before.before.before.before.before.few_fit.result c.before.before.before.before.if-not-few_fit.false-raw) (sym c.before.before.before.all_differ.ensures ∙ not-false c.before.before.before.all_differ.result c.before.before.if-not-all_differ.false-raw) (sym c.before.all_yes.ensures ∙ not-true c.before.all_yes.result c.if-not-all_yes.true-raw)
 
-returns-4 : tie.Need-returns-4
+returns-4 : tie.Need-returns-then-missing
 returns-4 c =
     let s = c.before.before.before.before.before.before.before.before.args in
-    missing_passes (few_fit s.states s.rules s.contexts s.missing) (differ s.table.now s.s_in_t.now s.states s.contexts) (yes s.table.now s.rules s.contexts) s.missing (once s.table.now s.s_in_t.now s.states s.rules s.contexts) (sym c.before.before.before.before.before.before.few-fit.ensures ∙ not-false c.before.before.before.before.before.before.few-fit.result c.before.before.before.before.before.if1.false) (sym c.before.before.before.before.all-differ.ensures ∙ not-false c.before.before.before.before.all-differ.result c.before.before.before.if2.false) (sym c.before.before.all_yes.ensures ∙ not-false c.before.before.all_yes.result c.before.if3.false) c.if4.true
+    missing_passes (few_fit s.states s.rules s.contexts s.missing) (differ s.table.now s.s_in_t.now s.states s.contexts) (yes s.table.now s.rules s.contexts) s.missing (once s.table.now s.s_in_t.now s.states s.rules s.contexts) (sym c.before.before.before.before.before.before.few_fit.ensures ∙ not-false c.before.before.before.before.before.before.few_fit.result c.before.before.before.before.before.if-not-few_fit.false-raw) (sym c.before.before.before.before.all_differ.ensures ∙ not-false c.before.before.before.before.all_differ.result c.before.before.before.if-not-all_differ.false-raw) (sym c.before.before.all_yes.ensures ∙ not-false c.before.before.all_yes.result c.before.if-not-all_yes.false-raw) c.if-missing.true
 
-all-once-requires : tie.Need-all-once-requires
+all-once-requires : tie.Need-all_once-requires
 all-once-requires c κs = search rules
 
-returns-5 : tie.Need-returns-5
+returns-5 : tie.Need-returns
 returns-5 c =
     let s = c.before.before.before.before.before.before.before.before.before.args in
-    c.all_once.ensures ∙ once_decides (few_fit s.states s.rules s.contexts s.missing) (differ s.table.now s.s_in_t.now s.states s.contexts) (yes s.table.now s.rules s.contexts) s.missing (once s.table.now s.s_in_t.now s.states s.rules s.contexts) (sym c.before.before.before.before.before.before.before.few-fit.ensures ∙ not-false c.before.before.before.before.before.before.before.few-fit.result c.before.before.before.before.before.before.if1.false) (sym c.before.before.before.before.before.all-differ.ensures ∙ not-false c.before.before.before.before.before.all-differ.result c.before.before.before.before.if2.false) (sym c.before.before.before.all_yes.ensures ∙ not-false c.before.before.before.all_yes.result c.before.before.if3.false) c.before.if4.false
+    c.all_once.ensures ∙ once_decides (few_fit s.states s.rules s.contexts s.missing) (differ s.table.now s.s_in_t.now s.states s.contexts) (yes s.table.now s.rules s.contexts) s.missing (once s.table.now s.s_in_t.now s.states s.rules s.contexts) (sym c.before.before.before.before.before.before.before.few_fit.ensures ∙ not-false c.before.before.before.before.before.before.before.few_fit.result c.before.before.before.before.before.before.if-not-few_fit.false-raw) (sym c.before.before.before.before.before.all_differ.ensures ∙ not-false c.before.before.before.before.before.all_differ.result c.before.before.before.before.if-not-all_differ.false-raw) (sym c.before.before.before.all_yes.ensures ∙ not-false c.before.before.before.all_yes.result c.before.before.if-not-all_yes.false-raw) c.before.if-missing.false
 
-pub table-fits-spec : {M : Type 1} → statement M
-table-fits-spec =
+pub table_fits_spec : {M : Type 1} → statement M
+table_fits_spec =
     tie.close
     (tie.spec
     few-fit-requires

@@ -19,53 +19,53 @@ use Rattle.sound_roles.proofs.transitions.all_kids_in.Tie as tie
 abbrev fits : (words counts : List ℕ) → (used : ℕ) → (s : List ℕ) → (i : ℕ) → Bool
 fits ws ns n s i = all_among (kids_at (store_of ws ns n) i) s
 
-abbrev invariant-loop : tie.invariant-loop
+abbrev invariant-loop : tie.invariant-loop-k
 invariant-loop words counts used t s k₀ k = (k ≤ length t) × (all (fits words counts used s) (drop k t) ≡ all (fits words counts used s) t)
 
-abbrev decreases-loop : tie.decreases-loop
+abbrev decreases-loop : tie.decreases-loop-k
 decreases-loop words counts used t s k₀ k = length t - k
 
-loop-holds : tie.Need-loop-init invariant-loop decreases-loop
+loop-holds : tie.Need-loop-k-init invariant-loop decreases-loop
 loop-holds c = (omega arith, refl)
 
-mul-t8 : tie.Need-overflow-mul-t8 invariant-loop decreases-loop
+mul-t8 : tie.Need-offset_bounds-t-k invariant-loop decreases-loop
 mul-t8 c = search rules
 
-shared-slice-read-t11 : tie.Need-shared-slice-read-t11 invariant-loop decreases-loop
+shared-slice-read-t11 : tie.Need-bounds-t-k invariant-loop decreases-loop
 shared-slice-read-t11 c = search rules
 
-kids-in-requires : tie.Need-kids-in-requires invariant-loop decreases-loop
+kids-in-requires : tie.Need-kids_in-requires invariant-loop decreases-loop
 kids-in-requires c κs =
     let s = c.before.before.before.before.before.before.before in
-    let a = record_at_law s.args.words.now s.args.counts.now s.args.used s.args.t.now s.requires.2 c.before.before.loop.k (omega arith) in
+    let a = record_at_law s.args.words.now s.args.counts.now s.args.used s.args.t.now s.requires.2 c.before.before.loop-k.k (omega arith) in
     (record { good = s.requires.0; room = s.requires.1 }, a.0, a.1)
 
-returns : tie.Need-returns invariant-loop decreases-loop
+returns : tie.Need-returns-then-not-kids_in invariant-loop decreases-loop
 returns c =
     let s = c.before.before.before.before.before.before.before.before.before in
-    let l = c.before.before.before.before.loop in
-    all_fails (fits s.args.words.now s.args.counts.now s.args.used s.args.s.now) s.args.t.now l.k _ l.invariant.1 (omega arith) (sym c.before.kids_in_law.ensures ∙ not-true c.before.kids_in_law.result c.if1.true)
+    let l = c.before.before.before.before.loop-k in
+    all_fails (fits s.args.words.now s.args.counts.now s.args.used s.args.s.now) s.args.t.now l.k _ l.invariant.1 (omega arith) (sym c.before.kids_in.ensures ∙ not-true c.before.kids_in.result c.if-not-kids_in.true-raw)
 
-add-k : tie.Need-overflow-add-k invariant-loop decreases-loop
+add-k : tie.Need-overflow_add-k invariant-loop decreases-loop
 add-k c = search rules
 
-loop-less : tie.Need-loop-smaller invariant-loop decreases-loop
+loop-less : tie.Need-loop-k-smaller invariant-loop decreases-loop
 loop-less c = search rules
 
-loop-again : tie.Need-loop-preserved invariant-loop decreases-loop
+loop-again : tie.Need-loop-k-preserved invariant-loop decreases-loop
 loop-again c =
     let s = c.before.before.before.before.before.before.before.before.before in
-    let l = c.before.before.before.before.loop in
-    (omega arith, all_passes (fits s.args.words.now s.args.counts.now s.args.used s.args.s.now) s.args.t.now l.k _ l.invariant.1 (omega arith) (sym c.before.kids_in_law.ensures ∙ not-false c.before.kids_in_law.result c.if1.false))
+    let l = c.before.before.before.before.loop-k in
+    (omega arith, all_passes (fits s.args.words.now s.args.counts.now s.args.used s.args.s.now) s.args.t.now l.k _ l.invariant.1 (omega arith) (sym c.before.kids_in.ensures ∙ not-false c.before.kids_in.result c.if-not-kids_in.false-raw))
 
-returns-2 : tie.Need-returns-2 invariant-loop decreases-loop
+returns-2 : tie.Need-returns invariant-loop decreases-loop
 returns-2 c =
     let s = c.before.before.before.before.before.before in
-    let l = c.before.loop in
+    let l = c.before.loop-k in
     all_ends (fits s.args.words.now s.args.counts.now s.args.used s.args.s.now) s.args.t.now l.k _ l.invariant.1 (omega arith)
 
-pub all-kids-in-spec : {M : Type 1} → statement M
-all-kids-in-spec =
+pub all_kids_in_spec : {M : Type 1} → statement M
+all_kids_in_spec =
     tie.close
     (tie.spec
     invariant-loop

@@ -16,12 +16,12 @@ use Rattle.sound_roles.proofs.Laws.Children.{kid_strange, kid_among, kids_each}
 use Rattle.sound_roles.proofs.transitions.kids_in.Statement.{statement}
 use Rattle.sound_roles.proofs.transitions.kids_in.Tie as tie
 
-abbrev invariant-loop : tie.invariant-loop
+abbrev invariant-loop : tie.invariant-loop-k
 invariant-loop words counts used row s symbol count k₀ k =
     (count ≡ length (kids_at (store_of words counts used) row.0)) × (k ≤ count) ×
     (all (λ (j : ℕ). among j s) (drop k (kids_at (store_of words counts used) row.0)) ≡ all (λ (j : ℕ). among j s) (kids_at (store_of words counts used) row.0))
 
-abbrev decreases-loop : tie.decreases-loop
+abbrev decreases-loop : tie.decreases-loop-k
 decreases-loop words counts used row s symbol count k₀ k = count - k
 
 abbrev Start : Type 0
@@ -32,83 +32,83 @@ kids s = kids_at (store_of s.args.words.now s.args.counts.now s.args.used) s.arg
 
 -- a turn: its start, and the child that it reaches
 abbrev Turn : Type 0
-Turn = tie.In-loop invariant-loop decreases-loop
+Turn = tie.In-loop-k invariant-loop decreases-loop
 
 abbrev start : Turn → Start
 start t = t.before.before.before.before.before.before.before
 
-turning : (t : Turn) → t.before.loop.k < length (kids (start t))
-turning t = omega (arith, t.loop-test.taken, t.before.loop.inv.0)
+turning : (t : Turn) → t.before.loop-k.k < length (kids (start t))
+turning t = omega (arith, t.loop-k-test.true, t.before.loop-k.invariant.0)
 
-few : (t : Turn) → t.before.loop.k < 4
-few t = let s : Start = start t in omega (arith, turning t, row_few s.pre.0 s.args.row.0 s.pre.2 s.pre.1)
+few : (t : Turn) → t.before.loop-k.k < 4
+few t = let s : Start = start t in omega (arith, turning t, row_few s.requires.0 s.args.row.0 s.requires.2 s.requires.1)
 
-symbol-of-requires : tie.Need-symbol-of-requires invariant-loop decreases-loop
+symbol-of-requires : tie.Need-symbol_of-symbol-requires invariant-loop decreases-loop
 symbol-of-requires c κs = let s : Start = c.before.before.before in row_within s.requires.0 s.args.row.0 s.requires.2
 
-cast-count : tie.Need-overflow-cast-count invariant-loop decreases-loop
+cast-count : tie.Need-overflow_cast-count invariant-loop decreases-loop
 cast-count c = search rules
 
-shared-slice-read-count : tie.Need-shared-slice-read-count invariant-loop decreases-loop
+shared-slice-read-count : tie.Need-bounds-counts-symbol invariant-loop decreases-loop
 shared-slice-read-count c =
     let s : Start = c.before.before.before.before.before in
-    omega (arith, row_known s.requires.0 s.args.row.0 s.requires.2 s.requires.1, c.before.symbol-of.ensures)
+    omega (arith, row_known s.requires.0 s.args.row.0 s.requires.2 s.requires.1, c.before.symbol_of-symbol.ensures)
 
-cast-count-2 : tie.Need-overflow-cast-count-2 invariant-loop decreases-loop
-cast-count-2 c = omega (arith, c.before.before.before.before.before.requires.0.good.wide c.before.symbol-of.result)
+cast-count-2 : tie.Need-overflow_cast-count-2 invariant-loop decreases-loop
+cast-count-2 c = omega (arith, c.before.before.before.before.before.requires.0.good.wide c.before.symbol_of-symbol.result)
 
-loop-holds : tie.Need-loop-init invariant-loop decreases-loop
+loop-holds : tie.Need-loop-k-init invariant-loop decreases-loop
 loop-holds c =
     let s : Start = c.before.before.before.before.before in
-    let e = ap (λ (a : ℕ). get_or s.args.counts.now a 0) c.before.symbol-of.ensures in
+    let e = ap (λ (a : ℕ). get_or s.args.counts.now a 0) c.before.symbol_of-symbol.ensures in
     (e ∙ count_kids s.requires.0 s.args.row.0 s.requires.2, omega arith, refl)
 
-kid-of-requires : tie.Need-kid-of-requires invariant-loop decreases-loop
-kid-of-requires c κs = let s : Start = start c in (row_within s.pre.0 s.args.row.0 s.pre.2, few c)
+kid-of-requires : tie.Need-kid_of-kid-requires invariant-loop decreases-loop
+kid-of-requires c κs = let s : Start = start c in (row_within s.requires.0 s.args.row.0 s.requires.2, few c)
 
-cast-t14 : tie.Need-overflow-cast-t14 invariant-loop decreases-loop
+cast-t14 : tie.Need-overflow_cast-kid invariant-loop decreases-loop
 cast-t14 c =
     let s : Start = start c.before in
-    let d = word_early s.pre.0 s.args.row.0 s.pre.2 s.pre.1 c.before.before.loop.k (turning c.before) in
-    omega (arith, c.IsKid-of.ensures, s.pre.2)
+    let d = word_early s.requires.0 s.args.row.0 s.requires.2 s.requires.1 c.before.before.loop-k.k (turning c.before) in
+    omega (arith, c.kid_of-kid.ensures, s.requires.2)
 
-is-among-requires : tie.Need-is-among-requires invariant-loop decreases-loop
+is-among-requires : tie.Need-is_among-requires invariant-loop decreases-loop
 is-among-requires c κs = search rules
 
-returns : tie.Need-returns invariant-loop decreases-loop
+returns : tie.Need-returns-then-not-is_among invariant-loop decreases-loop
 returns c =
     let t : Turn = c.before.before.before in
     let s : Start = start t in
     let a = c.before.is_among in
-    kid_strange s.pre.0 s.pre.1 s.pre.2 s.args.s.now t.before.loop.k _ (t.before.loop.invariant.2 ∙ kids_each (kids s) s.args.s.now) (turning t)
-    (ap (λ (j : ℕ). among j s.args.s.now) (sym c.before.before.IsKid-of.ensures) ∙ sym a.ensures ∙ not-true a.result c.if1.true)
+    kid_strange s.requires.0 s.requires.1 s.requires.2 s.args.s.now t.before.loop-k.k _ (t.before.loop-k.invariant.2 ∙ kids_each (kids s) s.args.s.now) (turning t)
+    (ap (λ (j : ℕ). among j s.args.s.now) (sym c.before.before.kid_of-kid.ensures) ∙ sym a.ensures ∙ not-true a.result c.if-not-is_among.true-raw)
 
-add-k : tie.Need-overflow-add-k invariant-loop decreases-loop
+add-k : tie.Need-overflow_add-k invariant-loop decreases-loop
 add-k c = omega (arith, few c.before.before.before)
 
-loop-less : tie.Need-loop-smaller invariant-loop decreases-loop
+loop-less : tie.Need-loop-k-smaller invariant-loop decreases-loop
 loop-less c = search rules
 
-loop-again : tie.Need-loop-preserved invariant-loop decreases-loop
+loop-again : tie.Need-loop-k-preserved invariant-loop decreases-loop
 loop-again c =
     let t : Turn = c.before.before.before in
     let s : Start = start t in
-    let l = t.before.loop in
+    let l = t.before.loop-k in
     let a = c.before.is_among in (
       l.invariant.0,
       omega arith,
-      kid_among s.pre.0 s.pre.1 s.pre.2 s.args.s.now l.k _ l.invariant.2 (turning t)
-          (ap (λ (j : ℕ). among j s.args.s.now) (sym c.before.before.IsKid-of.ensures) ∙ sym a.ensures ∙ not-false a.result c.if1.false),
+      kid_among s.requires.0 s.requires.1 s.requires.2 s.args.s.now l.k _ l.invariant.2 (turning t)
+          (ap (λ (j : ℕ). among j s.args.s.now) (sym c.before.before.kid_of-kid.ensures) ∙ sym a.ensures ∙ not-false a.result c.if-not-is_among.false-raw),
     )
 
-returns-2 : tie.Need-returns-2 invariant-loop decreases-loop
+returns-2 : tie.Need-returns invariant-loop decreases-loop
 returns-2 c =
     let s : Start = c.before.before.before.before.before.before.before in
-    let l = c.before.loop in
+    let l = c.before.loop-k in
     all_ends (λ (j : ℕ). among j s.args.s.now) (kids s) l.k _ (l.invariant.2 ∙ kids_each (kids s) s.args.s.now) (omega (arith, l.invariant.0))
 
-pub kids-in-spec : {M : Type 1} → statement M
-kids-in-spec =
+pub kids_in_spec : {M : Type 1} → statement M
+kids_in_spec =
     tie.close
     (tie.spec
     invariant-loop
