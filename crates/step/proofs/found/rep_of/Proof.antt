@@ -9,13 +9,13 @@ use Rattle.bank.proofs.Laws.Notes.{column_at}
 use Rattle.step.proofs.found.rep_of.Statement.{statement}
 use Rattle.step.proofs.found.rep_of.Tie as tie
 
-cast-t3 : tie.Need-overflow-cast-t3
+cast-t3 : tie.Need-overflow_cast-result
 cast-t3 c = search rules
 
-mul-t4 : tie.Need-overflow-mul-t4
+mul-t4 : tie.Need-offset_bounds-notes-row
 mul-t4 c = search rules
 
-shared-slice-read-t6 : tie.Need-shared-slice-read-t6
+shared-slice-read-t6 : tie.Need-bounds-notes-row
 shared-slice-read-t6 c = search rules
 
 returns : tie.Need-returns
@@ -24,5 +24,5 @@ returns c =
     let e : s.args.row.0 ≡ 0 * room_in s.args.notes.now + s.args.row.0 = omega arith in
     ap (λ (i : ℕ). get_or s.args.notes.now i 0) e ∙ sym (column_at s.args.notes.now 0 s.args.row.0 s.requires)
 
-pub rep-of-spec : {M : Type 1} → statement M
-rep-of-spec = tie.close (tie.spec cast-t3 mul-t4 shared-slice-read-t6 returns)
+pub rep_of_spec : {M : Type 1} → statement M
+rep_of_spec = tie.close (tie.spec cast-t3 mul-t4 shared-slice-read-t6 returns)

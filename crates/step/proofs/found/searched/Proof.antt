@@ -13,34 +13,34 @@ use Rattle.step.proofs.found.searched.Statement.{statement}
 use Rattle.step.proofs.found.searched.Tie as tie
 
 -- back to the function's start, from the record in hand by the three ends of the search
-abbrev new : tie.After-found → tie.Start
-new c = c.before.before.before.before.before.before
+abbrev new : tie.In-NewTransition → tie.Start
+new c = c.before.before.before.before.before
 
-abbrev unknown : tie.After-found2 → tie.Start
-unknown c = c.before.before.before.before.before.before
+abbrev unknown : tie.In-Unknown → tie.Start
+unknown c = c.before.before.before.before.before
 
-abbrev different : tie.After-found3 → tie.Start
-different c = c.before.before.before.before.before.before
+abbrev different : tie.In-Difference → tie.Start
+different c = c.before.before.before.before.before
 
 -- from the row at the spot read, and from the way down lent
-abbrev found : tie.After-spot-of → tie.After-found
-found c = c.before.before.before
+abbrev found : tie.After-spot_of-spot → tie.In-NewTransition
+found c = c.before
 
-abbrev sought : tie.After-column → tie.After-found2
-sought c = c.before.before.before.before.before.before
+abbrev sought : tie.After-column-down → tie.In-Unknown
+sought c = c.before.before.before
 
 -- at an unknown answer: the row at the spot, and its representative
-abbrev spot : tie.After-column → ℕ
-spot c = c.before.before.before.spot-of2.result.0
+abbrev spot : tie.After-column-down → ℕ
+spot c = c.before.before.spot_of.result.0
 
-abbrev rep : tie.After-column → ℕ
-rep c = c.before.before.rep_of_law.result.0
+abbrev rep : tie.After-column-down → ℕ
+rep c = c.before.rep_of-rep.result.0
 
-spot_is : (c : tie.After-column) → spot c ≡ get_or (spots_in (unknown (sought c)).args.notes.now) (sought c).found2.given.0.0.0 0
-spot_is c = c.before.before.before.spot-of2.ensures
+spot_is : (c : tie.After-column-down) → spot c ≡ get_or (spots_in (unknown (sought c)).args.notes.now) (sought c).in-Unknown.h.0 0
+spot_is c = c.before.before.spot_of.ensures
 
-rep_is : (c : tie.After-column) → rep c ≡ get_or (reps_in (unknown (sought c)).args.notes.now) (spot c) 0
-rep_is c = c.before.before.rep_of_law.ensures
+rep_is : (c : tie.After-column-down) → rep c ≡ get_or (reps_in (unknown (sought c)).args.notes.now) (spot c) 0
+rep_is c = c.before.rep_of-rep.ensures
 
 -- the end of the search, with a column of places that is the way down of the notes
 abbrev EndingBy : tie.Start → (places : List ℕ) → Type 0
@@ -50,124 +50,124 @@ EndingBy s ds =
 ending : (s : tie.Start) → EndingBy s (down_in s.args.notes.now)
 ending s = record { run = s.requires.1; hand = s.requires.4; descended = s.requires.5; end = s.requires.6 }
 
-led : (c : tie.After-column) → EndingBy (unknown (sought c)) c.column.result.now
-led c = let s : tie.Start = unknown (sought c) in subst (EndingBy s) (sym c.column.ensures) (ending s)
+led : (c : tie.After-column-down) → EndingBy (unknown (sought c)) c.column-down.result.now
+led c = let s : tie.Start = unknown (sought c) in subst (EndingBy s) (sym c.column-down.ensures) (ending s)
 
 noting : (s : tie.Start) → s.args.lists.used ≤ room_in s.args.notes.now
 noting s = noted s.requires.0 s.args.notes.now s.requires.2
 
-enum-known-found : tie.Need-enum-known-found
+enum-known-found : tie.Need-enum_known-found
 enum-known-found c = search rules
 
-spot-of-requires : tie.Need-spot-of-requires
+spot-of-requires : tie.Need-spot_of-spot-requires
 spot-of-requires c κs =
-    let n : tie.After-found = c.before.before in
+    let n : tie.In-NewTransition = c in
     let s : tie.Start = new n in
-    let h = held_new (ending s) n.found.given.1 _ refl in
+    let h = held_new (ending s) n.in-NewTransition.is _ refl in
     omega (arith, h.low, noting s)
 
-new-transition-requires : tie.Need-new-transition-requires
+new-transition-requires : tie.Need-new_transition-requires
 new-transition-requires c κs =
-    let r : tie.After-spot-of = c.before.before.before.before in
+    let r : tie.After-spot_of-spot = c.before.before.before.before in
     let s : tie.Start = new (found r) in
-    let h = held_new (ending s) (found r).found.given.1 r.spot_of_lem.result.0 r.spot_of_lem.ensures in
-    (s.pre.0, s.pre.1, s.pre.2, s.pre.3, s.pre.4.room, h.record_row, h.spot_row, h.fits)
+    let h = held_new (ending s) (found r).in-NewTransition.is r.spot_of-spot.result.0 r.spot_of-spot.ensures in
+    (s.requires.0, s.requires.1, s.requires.2, s.requires.3, s.requires.4.room, h.record_row, h.spot_row, h.fits)
 
-enum-known-found-2 : tie.Need-enum-known-found-2
+enum-known-found-2 : tie.Need-enum_known-found-in-Unknown-1
 enum-known-found-2 c = search rules
 
-spot-of-requires-2 : tie.Need-spot-of-requires-2
+spot-of-requires-2 : tie.Need-spot_of-requires
 spot-of-requires-2 c κs =
-    let n : tie.After-found2 = c.before.before in
+    let n : tie.In-Unknown = c in
     let s : tie.Start = unknown n in
-    let h = held_unknown (ending s) n.found2.given.1 _ refl in
+    let h = held_unknown (ending s) n.in-Unknown.is _ refl in
     omega (arith, h.low, noting s)
 
-rep-of-requires : tie.Need-rep-of-requires
+rep-of-requires : tie.Need-rep_of-rep-requires
 rep-of-requires c κs =
-    let n : tie.After-found2 = c.before.before.before in
+    let n : tie.In-Unknown = c.before in
     let s : tie.Start = unknown n in
-    let h = held_unknown (ending s) n.found2.given.1 c.spot-of2.result.0 c.spot-of2.ensures in
+    let h = held_unknown (ending s) n.in-Unknown.is c.spot_of.result.0 c.spot_of.ensures in
     omega (arith, h.spot_low, noting s)
 
-column-requires : tie.Need-column-requires
+column-requires : tie.Need-column-down-requires
 column-requires c κs = search rules
 
 unknown-requires : tie.Need-unknown-requires
 unknown-requires c κs =
-    let w : tie.After-column = c.before.before in
+    let w : tie.After-column-down = c.before.before in
     let s : tie.Start = unknown (sought w) in
-    let e = (sought w).found2.given.1 in
+    let e = (sought w).in-Unknown.is in
     let h = held_unknown (led w) e (spot w) (spot_is w) in
     let low = rep_low (led w) e (spot w) (spot_is w) (rep w) (rep_is w) in
-    (s.pre.0, s.pre.1, down_used (led w), h.record_row, low, h.fits)
+    (s.requires.0, s.requires.1, down_used (led w), h.record_row, low, h.fits)
 
-enum-known-found-3 : tie.Need-enum-known-found-3
+enum-known-found-3 : tie.Need-enum_known-found-in-Difference-1
 enum-known-found-3 c = search rules
 
-put-down-requires : tie.Need-put-down-requires
+put-down-requires : tie.Need-put_down-requires
 put-down-requires c κs =
-    let n : tie.After-found3 = c.before.before.before.before.before in
+    let n : tie.In-Difference = c.before.before.before.before in
     let s : tie.Start = different n in
-    let h = held_different (ending s) n.found3.given.1 in
-    (s.pre.0, s.pre.1, s.pre.2, omega (arith, s.pre.3), s.pre.4.room, h.record_row, h.fits)
+    let h = held_different (ending s) n.in-Difference.is in
+    (s.requires.0, s.requires.1, s.requires.2, omega (arith, s.requires.3), s.requires.4.room, h.record_row, h.fits)
 
-same_length : tie.Need-same-length
+same_length : tie.Need-shape_of-words-in-NewTransition
 same_length c = search rules
 
-same-length-2 : tie.Need-same-length-2
+same-length-2 : tie.Need-shape_of-index-in-NewTransition
 same-length-2 c = search rules
 
-same-length-3 : tie.Need-same-length-3
+same-length-3 : tie.Need-shape_of-table-in-NewTransition
 same-length-3 c = search rules
 
-same-length-4 : tie.Need-same-length-4
+same-length-4 : tie.Need-shape_of-notes-in-NewTransition
 same-length-4 c = search rules
 
-returns : tie.Need-returns
+returns : tie.Need-returns-in-NewTransition
 returns c =
-    let p : tie.After-new-transition = c.before.before.before.before.before.before.before.before in
-    let r : tie.After-spot-of = p.before.before.before.before.before in
+    let p : tie.After-new_transition = c.before.before.before.before.before.before.before.before in
+    let r : tie.After-spot_of-spot = p.before.before.before.before.before in
     let d = p.new_transition in
-    (ended_new (ending (new (found r))) (found r).found.given.1 r.spot_of_lem.result.0 r.spot_of_lem.ensures d.result d.new.0 (record { ended = d.ensures })).ended
+    (ended_new (ending (new (found r))) (found r).in-NewTransition.is r.spot_of-spot.result.0 r.spot_of-spot.ensures d.result d.new.words (record { ended = d.ensures })).ended
 
-same-length-5 : tie.Need-same-length-5
+same-length-5 : tie.Need-shape_of-words-in-Unknown
 same-length-5 c = search rules
 
-same-length-6 : tie.Need-same-length-6
+same-length-6 : tie.Need-shape_of-index-in-Unknown
 same-length-6 c = search rules
 
-same-length-7 : tie.Need-same-length-7
+same-length-7 : tie.Need-shape_of-notes-in-Unknown
 same-length-7 c = search rules
 
-returns-2 : tie.Need-returns-2
+returns-2 : tie.Need-returns-in-Unknown
 returns-2 c =
-    let w : tie.After-column = c.before.before.before.before.before.before.before in
+    let w : tie.After-column-down = c.before.before.before.before.before.before.before in
     let d = c.before.before.before.before.unknown in
-    let e = (sought w).found2.given.1 in
-    (ended_unknown (led w) e (spot w) (spot_is w) (rep w) (rep_is w) d.result d.new.0 (record { ended = d.ensures })).ended
+    let e = (sought w).in-Unknown.is in
+    (ended_unknown (led w) e (spot w) (spot_is w) (rep w) (rep_is w) d.result d.new.words (record { ended = d.ensures })).ended
 
-same-length-8 : tie.Need-same-length-8
+same-length-8 : tie.Need-shape_of-words-in-Difference
 same-length-8 c = search rules
 
-same-length-9 : tie.Need-same-length-9
+same-length-9 : tie.Need-shape_of-index-in-Difference
 same-length-9 c = search rules
 
-same-length-10 : tie.Need-same-length-10
+same-length-10 : tie.Need-shape_of-table-in-Difference
 same-length-10 c = search rules
 
-same-length-11 : tie.Need-same-length-11
+same-length-11 : tie.Need-shape_of-notes-in-Difference
 same-length-11 c = search rules
 
-returns-3 : tie.Need-returns-3
+returns-3 : tie.Need-returns-in-Difference
 returns-3 c =
-    let p : tie.After-put-down = c.before.before.before.before.before.before.before.before in
-    let n : tie.After-found3 = p.before.before.before.before.before.before in
-    let d = p.put-down in
-    (ended_different (ending (different n)) n.found3.given.1 d.result d.new.0 (record { ended = d.ensures })).ended
+    let p : tie.After-put_down = c.before.before.before.before.before.before.before.before in
+    let n : tie.In-Difference = p.before.before.before.before.before in
+    let d = p.put_down in
+    (ended_different (ending (different n)) n.in-Difference.is d.result d.new.words (record { ended = d.ensures })).ended
 
-pub searched-spec : {M : Type 1} → statement M
-searched-spec =
+pub searched_spec : {M : Type 1} → statement M
+searched_spec =
     tie.close
     (tie.spec
     enum-known-found

@@ -5,19 +5,19 @@ use Rattle.bank.proofs.Laws.Notes.{column_at}
 use Rattle.step.proofs.found.spot_of.Statement.{statement}
 use Rattle.step.proofs.found.spot_of.Tie as tie
 
-mul-t4 : tie.Need-overflow-mul-t4
+mul-t4 : tie.Need-overflow_mul-result
 mul-t4 c = search rules
 
-cast-t5 : tie.Need-overflow-cast-t5
+cast-t5 : tie.Need-overflow_cast-result
 cast-t5 c = search rules
 
-add-t6 : tie.Need-overflow-add-t6
+add-t6 : tie.Need-overflow_add-result
 add-t6 c = search rules
 
-mul-t7 : tie.Need-overflow-mul-t7
+mul-t7 : tie.Need-offset_bounds-notes-size
 mul-t7 c = search rules
 
-shared-slice-read-t9 : tie.Need-shared-slice-read-t9
+shared-slice-read-t9 : tie.Need-bounds-notes-size
 shared-slice-read-t9 c = search rules
 
 returns : tie.Need-returns
@@ -25,5 +25,5 @@ returns c =
     let s : tie.Start = c.before.before in
     sym (column_at s.args.notes.now 2 s.args.row.0 s.requires)
 
-pub spot-of-spec : {M : Type 1} → statement M
-spot-of-spec = tie.close (tie.spec mul-t4 cast-t5 add-t6 mul-t7 shared-slice-read-t9 returns)
+pub spot_of_spec : {M : Type 1} → statement M
+spot_of_spec = tie.close (tie.spec mul-t4 cast-t5 add-t6 mul-t7 shared-slice-read-t9 returns)
