@@ -2,7 +2,7 @@
 ghost use Rattle.std.specs.Prelude.{◌≡◌, ◌+◌, ◌*◌, ◌≤◌, ◌<◌, length, get_or};
 ghost use Rattle.model.specs.Limits.{most_contexts};
 ghost use Rattle.model.specs.Facts.{IsRecord, Fits};
-ghost use Rattle.model.specs.Steps.{search, searched as searchedOf, at_new_transition, at_unknown};
+ghost use Rattle.model.specs.Steps.{search, searched as searched_of, at_new_transition, at_unknown};
 ghost use Rattle.model.specs.Entry.{tables_of};
 ghost use Rattle.bank.specs.Bank.{Bank, path_of};
 ghost use Rattle.bank.specs.Notes.{NotesFor, room_in, reps_in, down_in, spots_in, exchanged_in};
@@ -43,7 +43,7 @@ fn new_transition(
     ensures { let x = tables_of words.old lists in
         let around = path_of (down_in notes.old) x.store hand.0 in
         let found = at_new_transition hand.0 (record { row = spot.0; around = around }) in
-        EndedAs words.old lists (searchedOf x found) result words.new }
+        EndedAs words.old lists (searched_of x found) result words.new }
 {
     if lists.rules as usize == MOST_RULES {
         return short(36, lists);
@@ -71,7 +71,7 @@ fn unknown(
     ensures { let x = tables_of words.old lists in
         let around = path_of down.now x.store hand.0 in
         let found = at_unknown hand.0 (record { row = 0; around = around }) rep.0 in
-        EndedAs words.old lists (searchedOf x found) result words.new }
+        EndedAs words.old lists (searched_of x found) result words.new }
 {
     let letters = lists.letters as usize;
     let counts = lists.counts;
@@ -124,7 +124,7 @@ pub fn searched(
         × (search_by x.s reps x.store found ≡ search x.store x.answers x.s x.t x.c lists.hand) }
     ensures { let x = tables_of words.old lists in
         let reps = reps_in notes.old in
-        EndedAs words.old lists (searchedOf x (search_by x.s reps x.store found)) result words.new }
+        EndedAs words.old lists (searched_of x (search_by x.s reps x.store found)) result words.new }
 {
     match found {
         Found::NewTransition(h) => {

@@ -4,7 +4,7 @@
 
 ghost use Rattle.std.specs.Prelude.{◌≡◌, ◌+◌, ◌*◌, ◌≤◌, length};
 ghost use Rattle.model.specs.Limits.{most_contexts};
-ghost use Rattle.model.specs.Steps.{advance as advanceOf, search as search_of};
+ghost use Rattle.model.specs.Steps.{advance as advance_of, search as search_of};
 ghost use Rattle.model.specs.Entry.{tables_of};
 ghost use Rattle.bank.specs.Bank.{Bank};
 ghost use Rattle.bank.specs.Notes.{NotesFor, reps_in, down_in, spots_in, exchanged_in};
@@ -63,7 +63,7 @@ pub fn advance(
         × (lists.hand ≡ 0 → KnownTable words.old lists table.old)
         × (lists.asked ≡ 0)
         × (lists.accepted ≡ 0) }
-    ensures { EndedAs words.old lists (advanceOf (tables_of words.old lists)) result words.new }
+    ensures { EndedAs words.old lists (advance_of (tables_of words.old lists)) result words.new }
 {
     if lists.hand == 0 {
         return settle::settled(words, lists, index, table, notes);
