@@ -1,7 +1,5 @@
 -- `step::search` meets its contract: the representatives are of the tables' S, T and C, so the descent and the end of the search are theirs.
-use Prim.Native.Nat.{ℕ}
 use borrow.Author.Rules.{rules}
-use Rattle.model.specs.Limits.{most_contexts}
 use Rattle.model.specs.Entry.{Arrays, tables_of}
 use Rattle.run_lists.specs.Members.{counts_in}
 use Rattle.run_lists.proofs.Laws.Arrays.{few_letters, letters_told}

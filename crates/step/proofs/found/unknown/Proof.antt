@@ -1,8 +1,6 @@
 -- `found::unknown` meets its contract: the frames along the way down are filled with the representative, and the row that comes of it is asked for.
 use native.Mathlib.Omega.{arith}
 use borrow.Author.Rules.{rules}
-use Prim.Native.Nat.{ℕ}
-use Rattle.model.specs.Limits.{most_contexts}
 use Rattle.model.specs.Store.{fill}
 use Rattle.model.specs.Entry.{Arrays, tables_of}
 use Rattle.bank.specs.Bank.{path_of}

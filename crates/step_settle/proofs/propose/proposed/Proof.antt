@@ -1,11 +1,9 @@
 -- `propose::proposed` meets its contract: S by its places in T is grown by places, which is its growth by rows, and written back.
 use mathlib.Core.Path.{refl}
-use Prim.Native.Nat.{ℕ}
 use native.Mathlib.Omega.{arith}
 use borrow.Author.Tests.{not-true, not-false}
 use borrow.Author.Rules.{rules}
 use lib.ListN.{take}
-use Rattle.model.specs.Limits.{most_contexts, most_states}
 use Rattle.model.proofs.Laws.Lent.{lists_fit_facts}
 use Rattle.table.specs.Answers.{grow_at}
 use Rattle.step_settle.specs.declared.Stepped.{Stepped}

@@ -6,7 +6,6 @@ use Prim.Native.Nat.{ℕ, ◌≤◌, ◌<◌}
 use native.Mathlib.Omega.{arith}
 use borrow.Author.Rules.{rules}
 use lib.ListN.{length}
-use Rattle.model.specs.Limits.{most_contexts}
 use Rattle.model.specs.Store.{Frame, fill}
 use Rattle.model.specs.Facts.{Fits}
 use Rattle.model.specs.Entry.{Arrays, tables_of}

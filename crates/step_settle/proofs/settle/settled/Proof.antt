@@ -6,7 +6,6 @@ use Prim.Native.Nat.{ℕ}
 use native.Mathlib.Omega.{arith}
 use borrow.Author.Rules.{rules}
 use lib.ListN.{get_or}
-use Rattle.model.specs.Limits.{most_contexts}
 use Rattle.model.specs.Store.{frames_of, fill}
 use Rattle.model.specs.Entry.{Arrays, tables_of}
 use Rattle.bank_fill.proofs.Laws.Coming.{Comes}
