@@ -20,10 +20,10 @@ abbrev Start : Type 0
 Start = tie.Start
 
 abbrev Copied : Type 0
-Copied = tie.After-all-t
+Copied = tie.After-all_t-1
 
 abbrev Written : Type 0
-Written = tie.After-write-rules
+Written = tie.After-write_rules
 
 abbrev start : Copied → Start
 start c = c.before.before.before.before.before.before.before.before.before
@@ -62,89 +62,89 @@ rules_within s =
 rules_long : (s : Start) → length (rules_in s.args.lists) ≡ s.args.lists.rules
 rules_long s = length-take-le s.args.lists.rules s.args.lists.t (rules_within s)
 
-cast-letters : tie.Need-overflow-cast-letters
+cast-letters : tie.Need-overflow_cast-letters
 cast-letters c = search rules
 
-cast-states : tie.Need-overflow-cast-states
+cast-states : tie.Need-overflow_cast-states
 cast-states c = search rules
 
-cast-rules : tie.Need-overflow-cast-rules
+cast-rules : tie.Need-overflow_cast-rules
 cast-rules c = search rules
 
-array-share-prefix-all-counts : tie.Need-array-share-prefix-all-counts
+array-share-prefix-all-counts : tie.Need-slice_bounds-all_counts-end
 array-share-prefix-all-counts c = letters_within (start c)
 
-slice-aggregate-counts : tie.Need-slice-aggregate-counts
+slice-aggregate-counts : tie.Need-slice_bounds-counts-end
 slice-aggregate-counts c = sym (counts_long (start c.before))
 
-array-share-prefix-all-s : tie.Need-array-share-prefix-all-s
+array-share-prefix-all-s : tie.Need-slice_bounds-all_s-end
 array-share-prefix-all-s c = states_within (start c.before)
 
-slice-aggregate-s : tie.Need-slice-aggregate-s
+slice-aggregate-s : tie.Need-slice_bounds-s-end
 slice-aggregate-s c = sym (states_long (start c.before.before))
 
-array-share-prefix-all-t : tie.Need-array-share-prefix-all-t
+array-share-prefix-all-t : tie.Need-slice_bounds-all_t-end
 array-share-prefix-all-t c = rules_within (start c.before.before)
 
-slice-aggregate-t : tie.Need-slice-aggregate-t
+slice-aggregate-t : tie.Need-slice_bounds-t-end
 slice-aggregate-t c = sym (rules_long (start c.before.before.before))
 
-write-finals-requires : tie.Need-write-finals-requires
+write-finals-requires : tie.Need-write_finals-requires
 write-finals-requires c κs =
     let s : Start = start c.before.before.before.before in
-    (s.pre.4.rows.room, s.pre.4.ruled.few, reps_used s.args.lists s.pre.4, refl)
+    (s.requires.4.rows.room, s.requires.4.ruled.few, reps_used s.args.lists s.requires.4, refl)
 
-write-rules-requires : tie.Need-write-rules-requires
+write-rules-requires : tie.Need-write_rules-requires
 write-rules-requires c κs =
     let s : Start = start c.before.before.before.before.before.before in
-    (s.pre.4.rows, s.pre.4.ruled, omega (arith, rules_long s, (fits s).rules), refl)
+    (s.requires.4.rows, s.requires.4.ruled, omega (arith, rules_long s, (fits s).rules), refl)
 
-array-share-prefix-finals : tie.Need-array-share-prefix-finals
+array-share-prefix-finals : tie.Need-slice_bounds-finals-end
 array-share-prefix-finals c =
     let s : Start = first c in
-    omega (arith, c.before.before.write-finals.ensures.1, (fits s).states)
+    omega (arith, c.before.before.write_finals.ensures.1, (fits s).states)
 
-slice-aggregate-write-listed : tie.Need-slice-aggregate-write-listed
+slice-aggregate-write-listed : tie.Need-slice_bounds-write_listed-end
 slice-aggregate-write-listed c =
     let s : Start = first c.before in
-    sym (length-take-le s.args.lists.states _ (omega (arith, c.before.before.before.write-finals.ensures.1, (fits s).states)))
+    sym (length-take-le s.args.lists.states _ (omega (arith, c.before.before.before.write_finals.ensures.1, (fits s).states)))
 
-mul-flat : tie.Need-overflow-mul-flat
+mul-flat : tie.Need-overflow_mul-flat
 mul-flat c = search rules
 
-array-share-prefix-flat : tie.Need-array-share-prefix-flat
+array-share-prefix-flat : tie.Need-slice_bounds-flat-end
 array-share-prefix-flat c =
     let s : Start = first c.before in
-    omega (arith, c.before.write-rules.ensures.long, (fits s).rules)
+    omega (arith, c.before.write_rules.ensures.long, (fits s).rules)
 
-slice-aggregate-write-listed-2 : tie.Need-slice-aggregate-write-listed-2
+slice-aggregate-write-listed-2 : tie.Need-slice_bounds-write_listed-end-2
 slice-aggregate-write-listed-2 c =
     let s : Start = first c.before.before in
-    sym (length-take-le (rule_width * s.args.lists.rules) _ (omega (arith, c.before.before.write-rules.ensures.long, (fits s).rules)))
+    sym (length-take-le (rule_width * s.args.lists.rules) _ (omega (arith, c.before.before.write_rules.ensures.long, (fits s).rules)))
 
-write-listed-requires : tie.Need-write-listed-requires
+write-listed-requires : tie.Need-write_listed-requires
 write-listed-requires c κs =
     let s : Start = first c.before.before.before in
-    let f = c.before.before.before.before.before.write-finals in
-    let w = c.before.before.before.write-rules in
-    parts_short (counts_in s.args.lists) f.new.1.1.1.0 w.new.1.1.1.1.1.1.0 s.args.lists.states s.args.lists.rules
+    let f = c.before.before.before.before.before.write_finals in
+    let w = c.before.before.before.write_rules in
+    parts_short (counts_in s.args.lists) f.new.finals w.new.flat s.args.lists.states s.args.lists.rules
     (omega (arith, counts_long s, (fits s).letters)) f.ensures.1 (fits s).states w.ensures.long (fits s).rules
 
-same_length : tie.Need-same-length
+same_length : tie.Need-shape_of-out
 same_length c = search rules
 
 returns : tie.Need-returns
 returns c =
     let s : Start = first c.before.before.before.before.before.before in
-    let f = c.before.before.before.before.before.before.before.before.write-finals in
-    let w = c.before.before.before.before.before.before.write-rules in
-    let r = c.before.before.write-listed in
-    let is = proposal_is s.args.lists s.pre.4 (states_within s) (rules_within s) (fits s).rules _ _ f.ensures.0 w.ensures in
-    let e = listed s.args.words.now s.args.lists s.args.out.now s.pre.0 s.pre.1 s.pre.2 s.pre.3 _ is in
+    let f = c.before.before.before.before.before.before.before.before.write_finals in
+    let w = c.before.before.before.before.before.before.write_rules in
+    let r = c.before.before.write_listed in
+    let is = proposal_is s.args.lists s.requires.4 (states_within s) (rules_within s) (fits s).rules _ _ f.ensures.0 w.ensures in
+    let e = listed s.args.words.now s.args.lists s.args.out.now s.requires.0 s.requires.1 s.requires.2 s.requires.3 _ is in
     (r.ensures.0 ∙ e.0, r.ensures.1 ∙ e.1)
 
-pub emit-proposed-spec : {M : Type 1} → statement M
-emit-proposed-spec =
+pub emit_proposed_spec : {M : Type 1} → statement M
+emit_proposed_spec =
     tie.close
     (tie.spec
     cast-letters

@@ -5,18 +5,18 @@ use Rattle.call_emit.proofs.Laws.Finals.{byte_yes, byte_other}
 use Rattle.call_emit.proofs.final_byte.Statement.{statement}
 use Rattle.call_emit.proofs.final_byte.Tie as tie
 
-answer-of-requires : tie.Need-answer-of-requires
+answer-of-requires : tie.Need-answer_of-requires
 answer-of-requires c κs = search rules
 
-returns : tie.Need-returns
+returns : tie.Need-returns-then-answer_of-eq2
 returns c =
     let s = c.before.before.before in
-    byte_yes s.args.words.now s.args.rep.0 c.before.answer_of.result c.before.answer_of.ensures c.if1.true
+    byte_yes s.args.words.now s.args.rep.0 c.before.answer_of.result c.before.answer_of.ensures c.if-answer_of-eq2.true
 
-returns-2 : tie.Need-returns-2
+returns-2 : tie.Need-returns
 returns-2 c =
     let s = c.before.before.before in
-    byte_other s.args.words.now s.args.rep.0 c.before.answer_of.result c.before.answer_of.ensures c.if1.false
+    byte_other s.args.words.now s.args.rep.0 c.before.answer_of.result c.before.answer_of.ensures c.if-answer_of-eq2.false
 
-pub final-byte-spec : {M : Type 1} → statement M
-final-byte-spec = tie.close (tie.spec answer-of-requires returns returns-2)
+pub final_byte_spec : {M : Type 1} → statement M
+final_byte_spec = tie.close (tie.spec answer-of-requires returns returns-2)

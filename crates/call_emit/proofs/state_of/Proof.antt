@@ -5,10 +5,10 @@ use Rattle.call_emit.proofs.Laws.Transition.{place_most}
 use Rattle.call_emit.proofs.state_of.Statement.{statement}
 use Rattle.call_emit.proofs.state_of.Tie as tie
 
-place-of-requires : tie.Need-place-of-requires
+place-of-requires : tie.Need-place_of-requires
 place-of-requires c κs = search rules
 
-cast-t4 : tie.Need-overflow-cast-t4
+cast-t4 : tie.Need-overflow_cast-result
 cast-t4 c =
     let s : tie.Start = c.before.before in
     omega (arith, s.requires, c.place_of.ensures, place_most s.args.rep.0 0 s.args.s.now)
@@ -16,5 +16,5 @@ cast-t4 c =
 returns : tie.Need-returns
 returns c = search rules
 
-pub state-of-spec : {M : Type 1} → statement M
-state-of-spec = tie.close (tie.spec place-of-requires cast-t4 returns)
+pub state_of_spec : {M : Type 1} → statement M
+state_of_spec = tie.close (tie.spec place-of-requires cast-t4 returns)
