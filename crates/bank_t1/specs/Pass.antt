@@ -1,6 +1,6 @@
 -- T1 in one pass over the used rows (§2.3): what the helpers of the pass say of a row, what holds before it begins, how it ends.
 --
-use Rattle.std.specs.Prelude.{◌≡◌, Bool, true, false, ◌&&◌, ◌||◌, not, cond, List, [], ◌∷◌, ℕ, suc, ◌*◌, ◌-◌, ◌≤◌, ◌<◌, ltb, eqb, length, get_or, take, drop}
+use Rattle.std.specs.Prelude.{◌≡◌, Bool, true, ◌&&◌, ◌||◌, not, cond, List, [], ◌∷◌, ℕ, suc, ◌*◌, ◌-◌, ◌≤◌, ◌<◌, ltb, eqb, length, get_or, take, drop}
 use Rattle.model.specs.Limits.{row_width, most_rows, most_children}
 use Rattle.model.specs.Base.{Below, all}
 use Rattle.model.specs.Store.{kids_at, has_hole}

@@ -1,7 +1,6 @@
 -- The index: a row more at the end of its own walk, rows written beyond the indexed ones, and a search that walks one tree.
 -- A walk looks at links alone, so it is kept where no link that it follows changes; and a row that a walk has passed is not what is asked for.
 use mathlib.Core.Path.{◌≡◌, refl, sym, ap, subst, ◌∙◌}
-use mathlib.Core.Bool.{Bool}
 use mathlib.Core.List.{List}
 use Prim.Native.Nat.{ℕ, ◌+◌, ◌*◌, ◌/◌, ◌%◌, ◌≤◌, ◌<◌}
 use native.Mathlib.Nat.{mul-lt-mul_of_pos_right}
@@ -11,7 +10,7 @@ use lib.Seq.{get_or-set_same, get_or-set_other}
 use Rattle.model.specs.Limits.{row_width, most_rows}
 use Rattle.model.proofs.Laws.Tests.{by_equal}
 use Rattle.bank.specs.Rows.{symbol_in, places_in, Within}
-use Rattle.bank.specs.Index.{size_in, link_of, hole_of, head_of, head_for, bucket_for, key_for, Leads, here, on, Met, Slot, head, link, Treed, Indexed, NoTwins, Roomy, Finding, find_in, Seat, Walk, entered}
+use Rattle.bank.specs.Index.{size_in, link_of, hole_of, head_of, head_for, bucket_for, key_for, Leads, here, on, Met, Slot, head, link, Treed, Indexed, NoTwins, Finding, find_in, Seat, Walk, entered}
 use Rattle.bank.proofs.Laws.Words.{SameRows, symbol_kept, places_kept}
 use Rattle.bank.proofs.Laws.Finding.{absent_in, find_none, find_is}
 

@@ -14,7 +14,7 @@ use Rattle.model.specs.Limits.{most_listed}
 use Rattle.model.specs.Base.{Each, each_nil, each_cons, backwards, top}
 use Rattle.model.specs.Store.{Store, Built, full, built, Extends, padded, count_of, has_hole, find_row, row_for, then_build}
 use Rattle.model.specs.Terms.{store_from, known_from}
-use Rattle.model.specs.Facts.{Good, IsRecord, Parses, parsed, parses, RowAsked}
+use Rattle.model.specs.Facts.{Good, IsRecord, Parses, parsed, RowAsked}
 use Rattle.model.proofs.Laws.Stack.{each_backwards, each_take}
 use Rattle.model.proofs.Laws.Rows.{unpad}
 use Rattle.model.proofs.Laws.Listed.{kids_ask, symbol_row, stack_next, parts}

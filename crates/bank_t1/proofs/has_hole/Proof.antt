@@ -1,5 +1,4 @@
 -- `bank_t1::has_hole` meets its contract: row 0 by the test, any other by its mark.
-use mathlib.Core.Path.{sym}
 use borrow.Author.Rules.{rules}
 use borrow.Author.Tests.{eq-eqb, ne_eqb}
 use Rattle.bank_t1.proofs.has_hole.Statement.{statement}

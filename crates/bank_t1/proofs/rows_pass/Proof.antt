@@ -5,7 +5,7 @@ use mathlib.Core.List.{List}
 use Prim.Native.Nat.{ℕ, ◌+◌, ◌-◌}
 use native.Mathlib.Omega.{arith}
 use borrow.Author.Rules.{rules}
-use lib.ListN.{length, get_or}
+use lib.ListN.{length}
 use Rattle.bank.specs.Rows.{symbol_in, places_in, Within}
 use Rattle.bank.specs.Index.{find_in, Seat}
 use Rattle.bank.proofs.Laws.Trees.{length_entered}

@@ -9,7 +9,6 @@ use borrow.Author.Tests.{lt-ltb, le-ltb, eq-eqb, ne_eqb}
 use Rattle.model.specs.Store.{Built, full, built, used, has_hole, fill, frames_of}
 use Rattle.model.specs.Terms.{record_fault, store_from}
 use Rattle.model.specs.Entry.{store_of}
-use Rattle.bank.specs.Bank.{Bank}
 use Rattle.bank.proofs.Laws.Words.{used_of}
 use Rattle.bank_fill.specs.declared.add.Grown.{Grown}
 use Rattle.bank_fill.proofs.Laws.Coming.{Comes}

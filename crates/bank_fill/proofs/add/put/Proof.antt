@@ -55,9 +55,8 @@ same-length-6 c = search rules
 
 returns-3 : tie.Need-returns
 returns-3 c =
-    let k = c.before.before.before.before.before.before.before.before.before in
-    let e = k.seek-slot.ensures in
-    let free = sym k.row_at-found.ensures ∙ k.if-found-ne0.false in
+    let e = c.seek-slot.ensures in
+    let free = sym c.row_at-found.ensures ∙ c.if-found-ne0.false in
     written (sym e.1 ∙ free) c.if-words-used.false e.0 free c.write_row.ensures c.enter.ensures
 
 pub put_spec : {M : Type 1} → statement M
