@@ -1,6 +1,6 @@
 // Rows added where there are none: for a context filled, and for a listed record (§4.4). Rows running out is an answer.
 ghost use Rattle.std.specs.Prelude.{◌≡◌, List, ℕ, ◌<◌, ◌≤◌, length, set};
-ghost use Rattle.model.specs.Store.{row_for, fill as fillOf};
+ghost use Rattle.model.specs.Store.{row_for, fill as fill_of};
 ghost use Rattle.model.specs.Facts.{Fits};
 ghost use Rattle.model.specs.Entry.{store_of};
 ghost use Rattle.bank.specs.Rows.{symbol_in, places_in};
@@ -79,7 +79,7 @@ pub fn fill(
         × (with.0 < used)
         × Fits x (path_of down.now x row.0) }
     ensures { let x = store_of words.old counts.now used in
-        let made = fillOf x (path_of down.now x row.0) with.0 in
+        let made = fill_of x (path_of down.now x row.0) with.0 in
         Came words.old counts.now used made result words.new index.new }
 {
     let i = row.0 as usize;
@@ -103,7 +103,7 @@ fn fill_frames(
     ensures { (counts : List ℕ) →
         FramesAsked words.old counts used index.old down.now row.0 with.0 →
         let x = store_of words.old counts used in
-        let made = fillOf x (path_of down.now x row.0) with.0 in
+        let made = fill_of x (path_of down.now x row.0) with.0 in
         Came words.old counts used made result words.new index.new }
 {
     let i = row.0 as usize;

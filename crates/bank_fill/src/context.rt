@@ -1,6 +1,6 @@
 // A stored context filled (§4.4): the marks of holes are the way down from its root. They are copied first, for rows added are marked too.
 ghost use Rattle.std.specs.Prelude.{◌≡◌, true, ℕ, ◌<◌, ◌≤◌, length, get_or};
-ghost use Rattle.model.specs.Store.{has_hole, frames_of, fill as fillOf};
+ghost use Rattle.model.specs.Store.{has_hole, frames_of, fill as fill_of};
 ghost use Rattle.model.specs.Entry.{store_of};
 ghost use Rattle.bank.specs.Index.{size_in, hole_of};
 ghost use Rattle.bank.specs.Bank.{Bank};
@@ -40,7 +40,7 @@ pub fn fill_context(
         × (with.0 < used)
         × (used ≤ length down.old) }
     ensures { let x = store_of words.old counts.now used in
-        let made = fillOf x (frames_of x context.0) with.0 in
+        let made = fill_of x (frames_of x context.0) with.0 in
         Came words.old counts.now used made result words.new index.new }
 {
     copy_marks(index, used, down);

@@ -10,36 +10,36 @@ use Rattle.call_verdict.proofs.Laws.Judging.{line_asking, line_record}
 use Rattle.call_verdict.proofs.judge_fault.Statement.{statement}
 use Rattle.call_verdict.proofs.judge_fault.Tie as tie
 
-returns : tie.Need-returns
+returns : tie.Need-returns-then-lists-ne0
 returns c =
     let s : tie.Start = c.before.before.before in
-    λ ws. line_asking ws s.args.lists s.args.symbols.now c.if1.true
+    λ ws. line_asking ws s.args.lists s.args.symbols.now c.if-lists-ne0.true
 
-cast-letters : tie.Need-overflow-cast-letters
+cast-letters : tie.Need-overflow_cast-letters
 cast-letters c = search rules
 
-array-share-prefix-counts : tie.Need-array-share-prefix-counts
+array-share-prefix-counts : tie.Need-slice_bounds-counts-end
 array-share-prefix-counts c =
     let s : tie.Start = c.before.before.before.before.before in
     let e : length s.args.lists.counts ≡ most_symbols = search rules in
     omega (arith, (lists_fit_facts s.args.lists s.requires).letters)
 
-slice-aggregate-record-fault : tie.Need-slice-aggregate-record-fault
+slice-aggregate-record-fault : tie.Need-slice_bounds-record_fault-end
 slice-aggregate-record-fault c =
     let s : tie.Start = c.before.before.before.before.before.before in
     let e : length s.args.lists.counts ≡ most_symbols = search rules in
     sym (length-take-le s.args.lists.letters s.args.lists.counts (omega (arith, (lists_fit_facts s.args.lists s.requires).letters)))
 
-record-fault-requires : tie.Need-record-fault-requires
+record-fault-requires : tie.Need-record_fault-requires
 record-fault-requires c κs = search rules
 
-returns-2 : tie.Need-returns-2
+returns-2 : tie.Need-returns
 returns-2 c =
     let s : tie.Start = c.before.before.before.before.before.before.before in
-    λ ws. c.record-fault.ensures ∙ line_record ws s.args.lists s.args.symbols.now c.before.before.before.before.if1.false
+    λ ws. c.record_fault.ensures ∙ line_record ws s.args.lists s.args.symbols.now c.before.before.before.before.if-lists-ne0.false
 
-pub judge-fault-spec : {M : Type 1} → statement M
-judge-fault-spec =
+pub judge_fault_spec : {M : Type 1} → statement M
+judge_fault_spec =
     tie.close
     (tie.spec
     returns

@@ -12,22 +12,22 @@ use Rattle.call_verdict.proofs.Laws.Judging.{reps_read, verdict_proposed}
 use Rattle.call_verdict.proofs.verdict_of.Statement.{statement}
 use Rattle.call_verdict.proofs.verdict_of.Tie as tie
 
-cast-letters : tie.Need-overflow-cast-letters
+cast-letters : tie.Need-overflow_cast-letters
 cast-letters c = search rules
 
-array-share-prefix-counts : tie.Need-array-share-prefix-counts
+array-share-prefix-counts : tie.Need-slice_bounds-counts-end
 array-share-prefix-counts c =
     let s : tie.Start = c.before.before.before.before.before.before in
     let e : length s.args.lists.counts ≡ most_symbols = search rules in
     omega (arith, (lists_fit_facts s.args.lists s.requires.0).letters)
 
-slice-aggregate-verdict-on : tie.Need-slice-aggregate-verdict-on
+slice-aggregate-verdict-on : tie.Need-slice_bounds-verdict_on-end
 slice-aggregate-verdict-on c =
     let s : tie.Start = c.before.before.before.before.before.before.before in
     let e : length s.args.lists.counts ≡ most_symbols = search rules in
     sym (length-take-le s.args.lists.letters s.args.lists.counts (omega (arith, (lists_fit_facts s.args.lists s.requires.0).letters)))
 
-verdict-on-requires : tie.Need-verdict-on-requires
+verdict-on-requires : tie.Need-verdict_on-requires
 verdict-on-requires c κs =
     let s : tie.Start = c.before.before.before.before.before.before.before in
     let p = record_fault_parses (counts_in s.args.lists) s.args.symbols.now s.requires.3 in
@@ -37,10 +37,10 @@ returns : tie.Need-returns
 returns c =
     let s : tie.Start = c.before.before.before.before.before.before.before.before in
     let p = record_fault_parses (counts_in s.args.lists) s.args.symbols.now s.requires.3 in
-    verdict_proposed s.args.words.now s.args.lists s.requires.1 s.requires.2 s.args.symbols.now p.0 c.verdict-on.ensures
+    verdict_proposed s.args.words.now s.args.lists s.requires.1 s.requires.2 s.args.symbols.now p.0 c.verdict_on.ensures
 
-pub verdict-of-spec : {M : Type 1} → statement M
-verdict-of-spec =
+pub verdict_of_spec : {M : Type 1} → statement M
+verdict_of_spec =
     tie.close
     (tie.spec
     cast-letters
