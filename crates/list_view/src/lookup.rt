@@ -164,6 +164,7 @@ pub fn target_in(bytes: &[u8], rules: u16, symbol: u8, states: [u8; 4]) -> Targe
 }
 
 // The bytes that a view shows: those that load, and none of any others.
+#[tactic(auto, using(crate::proofs::Looks::all_shown, crate::proofs::Looks::none_shown))]
 pub fn shown_bytes(bytes: &[u8]) -> &[u8]
     ensures { result.now ≡ shown_bytes bytes.now }
 {
