@@ -19,38 +19,38 @@ other_mark (suc zero) m a b = rw (ne_eqb m 0 a, ne_eqb m 1 b)
 other_mark (suc (suc zero)) m a b = rw (ne_eqb m 0 a, ne_eqb m 1 b)
 other_mark (suc (suc (suc v))) m a b = other_answer (suc (suc (suc v))) m (λ e. omega arith) (λ e. omega arith) (λ e. omega arith)
 
-returns : tie.Need-returns
-returns c = λ i. contradicts (sym c.before.match.keys1 i) (sym c.match2.keys1 i)
+returns : tie.Need-returns-in-0-mark
+returns c = λ i. contradicts (sym c.before.in-0.is i) (sym c.in-0-mark.is i)
 
-returns-2 : tie.Need-returns-2
-returns-2 c = λ i. contradicts (sym c.before.match.keys1 i) (sym c.match2.keys2 i)
+returns-2 : tie.Need-returns-in-1-mark
+returns-2 c = λ i. contradicts (sym c.before.in-0.is i) (sym c.in-1-mark.is i)
 
-returns-3 : tie.Need-returns-3
-returns-3 c = other_mark c.before.before.args.stored c.before.before.args.mark c.match2.rest.0.1 c.match2.rest.1
+returns-3 : tie.Need-returns-in_default-mark
+returns-3 c = other_mark c.before.before.args.stored c.before.before.args.mark c.in_default-mark.in_default-mark-own.rest.0.1 c.in_default-mark.in_default-mark-own.rest.1
 
-returns-4 : tie.Need-returns-4
-returns-4 c = λ i. contradicts (sym c.before.match.keys2 i) (sym c.match3.keys1 i)
+returns-4 : tie.Need-returns-in-0-mark-2
+returns-4 c = λ i. contradicts (sym c.before.in-1.is i) (sym c.in-0-mark-2.is i)
 
-returns-5 : tie.Need-returns-5
-returns-5 c = λ i. contradicts (sym c.before.match.keys2 i) (sym c.match3.keys2 i)
+returns-5 : tie.Need-returns-in-1-mark-2
+returns-5 c = λ i. contradicts (sym c.before.in-1.is i) (sym c.in-1-mark-2.is i)
 
-returns-6 : tie.Need-returns-6
-returns-6 c = other_mark c.before.before.args.stored c.before.before.args.mark c.match3.rest.0.1 c.match3.rest.1
+returns-6 : tie.Need-returns-in_default-mark-2
+returns-6 c = other_mark c.before.before.args.stored c.before.before.args.mark c.in_default-mark-2.in_default-mark-2-own.rest.0.1 c.in_default-mark-2.in_default-mark-2-own.rest.1
 
-returns-7 : tie.Need-returns-7
-returns-7 c = λ i. contradicts (sym c.before.match.keys3 i) (sym c.match4.keys1 i)
+returns-7 : tie.Need-returns-in-0-mark-3
+returns-7 c = λ i. contradicts (sym c.before.in-2.is i) (sym c.in-0-mark-3.is i)
 
-returns-8 : tie.Need-returns-8
-returns-8 c = λ i. contradicts (sym c.before.match.keys3 i) (sym c.match4.keys2 i)
+returns-8 : tie.Need-returns-in-1-mark-3
+returns-8 c = λ i. contradicts (sym c.before.in-2.is i) (sym c.in-1-mark-3.is i)
 
-returns-9 : tie.Need-returns-9
-returns-9 c = other_mark c.before.before.args.stored c.before.before.args.mark c.match4.rest.0.1 c.match4.rest.1
+returns-9 : tie.Need-returns-in_default-mark-3
+returns-9 c = other_mark c.before.before.args.stored c.before.before.args.mark c.in_default-mark-3.in_default-mark-3-own.rest.0.1 c.in_default-mark-3.in_default-mark-3-own.rest.1
 
-returns-10 : tie.Need-returns-10
-returns-10 c = other_answer c.before.args.stored c.before.args.mark c.match.rest.0.0.1 c.match.rest.0.1 c.match.rest.1
+returns-10 : tie.Need-returns-in_default
+returns-10 c = other_answer c.before.args.stored c.before.args.mark c.in_default.in_default-own.rest.0.0.1 c.in_default.in_default-own.rest.0.1 c.in_default.in_default-own.rest.1
 
-pub contradicts-spec : {M : Type 1} → statement M
-contradicts-spec =
+pub contradicts_spec : {M : Type 1} → statement M
+contradicts_spec =
     tie.close
     (tie.spec
     returns
