@@ -4,7 +4,7 @@
 
 ghost use Rattle.std.specs.Prelude.{◌≡◌};
 ghost use Rattle.model.specs.Limits.{version};
-ghost use Rattle.model.specs.Calls.{offers, answers, accept as acceptCall, looks};
+ghost use Rattle.model.specs.Calls.{offers, answers, accept as accept_call, looks};
 ghost use Rattle.model.specs.Entry.{start_seen, start_words, start_lists, call_seen, call_words, call_lists, emit_seen, emit_out, judge_seen, load_seen};
 ghost use Rattle.model.specs.View.{sizes_seen, children_seen, final_seen, rule_seen, target_seen};
 
@@ -63,9 +63,9 @@ pub extern "C" fn kuldveth_answer(words: &mut [u32], lists: &mut Lists, mark: u8
 // Acceptance of the proposal (§3.6).
 #[unsafe(no_mangle)]
 pub extern "C" fn kuldveth_accept(words: &mut [u32], lists: &mut Lists) -> Seen
-    ensures value { result ≡ call_seen words.old lists.old acceptCall }
-    ensures words { words.new ≡ call_words words.old lists.old acceptCall }
-    ensures lists { lists.new ≡ call_lists words.old lists.old acceptCall }
+    ensures value { result ≡ call_seen words.old lists.old accept_call }
+    ensures words { words.new ≡ call_words words.old lists.old accept_call }
+    ensures lists { lists.new ≡ call_lists words.old lists.old accept_call }
 {
     let accepted = call_room::accept(words, *lists);
     *lists = accepted.lists;

@@ -6,5 +6,5 @@ use Rattle.kuldveth.proofs.kuldveth_version.Tie as tie
 returns : tie.Need-returns
 returns c = refl
 
-pub kuldveth-version-spec : {M : Type 1} → statement M
-kuldveth-version-spec = tie.close (tie.spec returns)
+pub kuldveth_version_spec : {M : Type 1} → statement M
+kuldveth_version_spec = tie.close (tie.spec returns)
