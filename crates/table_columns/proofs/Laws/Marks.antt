@@ -1,13 +1,12 @@
 -- Marks of rows in the last column of the notes: cleared, set at the members of C, and set at the hole children of marked rows.
 -- A mark set leaves the other marks, so marked rows stay marked.
-use mathlib.Core.Path.{◌≡◌, refl, sym, ap, subst, ◌∙◌}
-use mathlib.Core.Bool.{true}
+use mathlib.Core.Path.{◌≡◌, refl, sym, ap, ◌∙◌}
 use mathlib.Core.List.{List}
 use Prim.Native.Nat.{ℕ, ◌+◌, ◌*◌, ◌≤◌, ◌<◌}
 use native.Mathlib.Omega.{arith}
 use lib.ListN.{length, get_or, set, length-set}
 use lib.Seq.{get_or-set_same, get_or-set_other}
-use Rattle.model.specs.Store.{Store, has_hole}
+use Rattle.model.specs.Store.{Store}
 use Rattle.model.specs.Entry.{store_of}
 use Rattle.model.proofs.Laws.Tests.{by_equal}
 use Rattle.bank.specs.Index.{hole_of}

@@ -11,7 +11,7 @@ use borrow.Author.Tests.{eq-eqb, ne_eqb}
 use Rattle.model.specs.Limits.{most_listed}
 use Rattle.model.specs.Base.{top}
 use Rattle.model.specs.Store.{Store, count_of, padded, find_places, find_row}
-use Rattle.model.specs.Facts.{Parses, parsed, parses}
+use Rattle.model.specs.Facts.{Parses, parsed}
 use Rattle.model.proofs.Laws.Scans.{drop_next}
 use Rattle.model.proofs.Laws.Listed.{parts}
 use Rattle.bank_listed.specs.Listed.{stack_of}

@@ -8,7 +8,7 @@ use native.Mathlib.Omega.{arith}
 use lib.ListN.{length, get_or, take}
 use lib.Seq.{get_or-take, length-take-le}
 use Rattle.model.specs.Limits.{most_rows, most_states}
-use Rattle.model.specs.Base.{In, here, later, Each, Distinct, among, place_of}
+use Rattle.model.specs.Base.{In, here, later, Each, Distinct, place_of}
 use Rattle.model.specs.Store.{Store, used, symbol_at, kids_at}
 use Rattle.model.specs.Table.{tables, answers_of, state_from, finals_of, rule_of, rules_of, automaton_of}
 use Rattle.model.specs.Facts.{Good}

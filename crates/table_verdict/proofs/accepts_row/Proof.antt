@@ -12,10 +12,6 @@ use Rattle.table_verdict.proofs.Laws.Rows.{led_at}
 use Rattle.table_verdict.proofs.Laws.Accepts as verdict
 use Rattle.table_verdict.proofs.accepts_row.Statement.{statement}
 use Rattle.table_verdict.proofs.accepts_row.Tie as tie
-use Rattle.table_verdict.proofs.accepts_row.Reads as reads
-use Rattle.table_verdict.proofs.accepts_row.Lts as lts
-use Rattle.table_verdict.proofs.is_final.Reads as is-final-reads
-use Rattle.table_verdict.proofs.row_reps.Reads as row-reps-reads
 
 -- where `row_reps` has returned
 abbrev Called : Type 0

@@ -11,10 +11,6 @@ use Rattle.table_verdict.proofs.Laws.Reps as R
 use Rattle.table_verdict.proofs.Laws.Reps.{RepsTo}
 use Rattle.table_verdict.proofs.find_reps.Statement.{statement}
 use Rattle.table_verdict.proofs.find_reps.Tie as tie
-use Rattle.table_verdict.proofs.find_reps.Reads as reads
-use Rattle.table_verdict.proofs.find_reps.Lts as lts
-use Rattle.table_verdict.proofs.clear.Reads as clear_reads
-use Rattle.table.proofs.state_of.Reads as state-of-reads
 
 abbrev invariant-loop : tie.invariant-loop-k
 invariant-loop table contexts places s t reps₀ k₀ reps k =

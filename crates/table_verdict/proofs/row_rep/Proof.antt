@@ -14,11 +14,6 @@ use Rattle.table_verdict.proofs.Laws.Rows as R
 use Rattle.table_verdict.proofs.Laws.Rows.{KidsLed}
 use Rattle.table_verdict.proofs.row_rep.Statement.{statement}
 use Rattle.table_verdict.proofs.row_rep.Tie as tie
-use Rattle.table_verdict.proofs.row_rep.Reads as reads
-use Rattle.table_verdict.proofs.row_rep.Lts as lts
-use Rattle.bank.proofs.rows.kid_of.Reads as kid-of-reads
-use Rattle.bank.proofs.rows.symbol_of.Reads as symbol-of-reads
-use Rattle.table_verdict.proofs.target_of.Reads as target-of-reads
 
 abbrev invariant-loop : tie.invariant-loop-k
 invariant-loop words counts used index reps led row symbol count places₀ k₀ places k =

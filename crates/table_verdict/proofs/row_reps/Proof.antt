@@ -15,10 +15,6 @@ use Rattle.table_verdict.proofs.Laws.Rows as R
 use Rattle.table_verdict.proofs.Laws.Rows.{Noted}
 use Rattle.table_verdict.proofs.row_reps.Statement.{statement}
 use Rattle.table_verdict.proofs.row_reps.Tie as tie
-use Rattle.table_verdict.proofs.row_reps.Reads as reads
-use Rattle.table_verdict.proofs.row_reps.Lts as lts
-use Rattle.bank.proofs.notes.column.Reads as column-reads
-use Rattle.table_verdict.proofs.row_rep.Reads as row-rep-reads
 
 abbrev invariant-loop : tie.invariant-loop-i
 invariant-loop words counts used index upto notes₀ size i₀ notes i =

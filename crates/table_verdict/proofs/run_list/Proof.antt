@@ -13,10 +13,6 @@ use Rattle.table_verdict.proofs.Laws.Run as R
 use Rattle.table_verdict.proofs.Laws.Run.{Running, left}
 use Rattle.table_verdict.proofs.run_list.Statement.{statement}
 use Rattle.table_verdict.proofs.run_list.Tie as tie
-use Rattle.table_verdict.proofs.run_list.Reads as reads
-use Rattle.table_verdict.proofs.run_list.Lts as lts
-use Rattle.bank_listed.proofs.top_places.Reads as top-places-reads
-use Rattle.table_verdict.proofs.target_of.Reads as target-of-reads
 
 abbrev invariant-loop : tie.invariant-loop-at
 invariant-loop words counts used index reps symbols stack₀ height₀ at₀ stack height at =

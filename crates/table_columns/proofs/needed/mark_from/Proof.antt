@@ -1,7 +1,7 @@
 -- `needed::mark_from` meets its contract. The invariant: the hole child of each marked row is marked, or it is the row that the way down has reached.
 -- By the laws of Marks: a row that is marked hands this on to its hole child; a row that was marked, and row 0, end it.
 use mathlib.Core.Path.{◌≡◌, refl, sym, ap, subst, ◌∙◌}
-use Prim.Native.Nat.{ℕ, ◌+◌, ◌*◌, ◌≤◌, ◌<◌}
+use Prim.Native.Nat.{ℕ, ◌+◌, ◌*◌, ◌<◌}
 use native.Mathlib.Omega.{arith}
 use borrow.Author.Rules.{rules}
 use lib.ListN.{length, get_or, length-set, set}
