@@ -13,7 +13,7 @@ fn main() {
         let library = folder.join(format!("lib{name}.a"));
         assert!(
             library.exists(),
-            "{} is missing: `rt lib {name}` writes it",
+            "{} is missing: `rt lib` in crates/{name} writes it",
             library.display()
         );
         println!("cargo:rustc-link-search=native={}", folder.display());

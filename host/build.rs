@@ -1,4 +1,4 @@
-//! Links libkuldveth.a, which `rt lib kuldveth` writes into crates/kuldveth/out, or the one in the folder that STATIC_LIBS names.
+//! Links libkuldveth.a, which `rt lib` in crates/kuldveth writes into its folder out/, or the one in the folder that STATIC_LIBS names.
 
 use std::env;
 use std::path::PathBuf;
@@ -11,7 +11,7 @@ fn main() {
     println!("cargo:rerun-if-changed={}", library.display());
     assert!(
         library.exists(),
-        "{} is missing: `rt lib kuldveth` writes it",
+        "{} is missing: `rt lib` in crates/kuldveth writes it",
         library.display()
     );
     if let Some(folder) = library.parent() {

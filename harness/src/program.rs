@@ -1,4 +1,4 @@
-//! The script program, which `rt run script` writes to crates/script/out/script, as a process on a stack of 4 MB.
+//! The script program, which `rt run` in crates/script writes to its folder out/, as a process on a stack of 4 MB.
 
 use std::env;
 use std::io::Write;
@@ -21,7 +21,7 @@ fn path() -> PathBuf {
     let shown = path.display();
     assert!(
         path.exists(),
-        "{shown} is missing: `rt run script` writes it"
+        "{shown} is missing: `rt run` in crates/script writes it"
     );
     path
 }
