@@ -10,53 +10,53 @@ use Rattle.call_read.proofs.look.Statement.{statement}
 use Rattle.call_read.proofs.look.Tie as tie
 
 -- past the first line
-size_true : (c : tie.Else1) → size_fits c.before.before.before.args.words.now ≡ true
+size_true : (c : tie.Else-fault-ne0) → size_fits c.args.words.now ≡ true
 size_true c =
     let s = c.before.before.before in
-    size_lent s.args.words.now s.args.lists (sym c.before.lent-fault.ensures ∙ c.if1.false)
+    size_lent s.args.words.now s.args.lists (sym c.lent_fault-fault.ensures ∙ c.if-fault-ne0.false)
 
-lists_true : (c : tie.Else1) → lent_fits c.before.before.before.args.words.now c.before.before.before.args.lists ≡ true
+lists_true : (c : tie.Else-fault-ne0) → lent_fits c.args.words.now c.args.lists ≡ true
 lists_true c =
     let s = c.before.before.before in
-    lists_lent s.args.words.now s.args.lists (sym c.before.lent-fault.ensures ∙ c.if1.false)
+    lists_lent s.args.words.now s.args.lists (sym c.lent_fault-fault.ensures ∙ c.if-fault-ne0.false)
 
-lent-fault-requires : tie.Need-lent-fault-requires
+lent-fault-requires : tie.Need-lent_fault-fault-requires
 lent-fault-requires c κs = search rules
 
 refusal-requires : tie.Need-refusal-requires
 refusal-requires c κs = search rules
 
-returns : tie.Need-returns
+returns : tie.Need-returns-then-fault-ne0
 returns c =
     let s = c.before.before.before.before in
-    let n = c.before.before.lent-fault in
-    c.refusal.ensures ∙ sym (ap seen_by (lent_refused s.args.words.now s.args.lists looks n.result n.ensures c.before.if1.true))
+    let n = c.lent_fault-fault in
+    c.refusal.ensures ∙ sym (ap seen_by (lent_refused s.args.words.now s.args.lists looks n.result n.ensures c.if-fault-ne0.true))
 
-slice-aggregate-read-used : tie.Need-slice-aggregate-read-used
+slice-aggregate-read-used : tie.Need-slice_bounds-read_used-end
 slice-aggregate-read-used c = search rules
 
-read-used-requires : tie.Need-read-used-requires
+read-used-requires : tie.Need-read_used-got-requires
 read-used-requires c κs = (size_true c.before, lists_true c.before)
 
-refusal-requires-2 : tie.Need-refusal-requires-2
+refusal-requires-2 : tie.Need-refusal-requires-then-emitted-ne0
 refusal-requires-2 c κs = search rules
 
-returns-2 : tie.Need-returns-2
+returns-2 : tie.Need-returns-then-emitted-ne0
 returns-2 c =
-    let n : tie.After-read-used = c.before.before.before.before in
-    let e : tie.Else1 = n.before.before in
+    let n : tie.After-read_used-got = c.before.before.before.before in
+    let e : tie.Else-fault-ne0 = n.before.before in
     let s = e.before.before.before in
-    c.refusal2.ensures ∙ number_other s.args.words.now s.args.lists (size_true e) (lists_true e) (λ z. c.before.if2.true (n.read-used.ensures ∙ z))
+    c.refusal-then-emitted-ne0.ensures ∙ number_other s.args.words.now s.args.lists (size_true e) (lists_true e) (λ z. c.if-emitted-ne0.true (n.read_used-got.ensures ∙ z))
 
 told-requires : tie.Need-told-requires
 told-requires c κs = lists_true c.before.before.before.before.before
 
-returns-3 : tie.Need-returns-3
+returns-3 : tie.Need-returns
 returns-3 c =
-    let n : tie.After-read-used = c.before.before.before.before in
-    let e : tie.Else1 = n.before.before in
+    let n : tie.After-read_used-got = c.before.before.before.before in
+    let e : tie.Else-fault-ne0 = n.before.before in
     let s = e.before.before.before in
-    c.told.ensures s.args.words.now ∙ number_none s.args.words.now s.args.lists (size_true e) (lists_true e) (sym n.read-used.ensures ∙ c.before.if2.false)
+    c.told.ensures s.args.words.now ∙ number_none s.args.words.now s.args.lists (size_true e) (lists_true e) (sym n.read_used-got.ensures ∙ c.if-emitted-ne0.false)
 
 pub look_spec : {M : Type 1} → statement M
 look_spec =

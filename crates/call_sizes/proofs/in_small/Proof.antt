@@ -7,31 +7,31 @@ use borrow.Author.Rules.{rules}
 use Rattle.call_sizes.proofs.in_small.Statement.{statement}
 use Rattle.call_sizes.proofs.in_small.Tie as tie
 
-slice-aggregate-call-in : tie.Need-slice-aggregate-call-in
+slice-aggregate-call-in : tie.Need-slice_bounds-call_in-end
 slice-aggregate-call-in c = search rules
 
-slice-aggregate-call-in-2 : tie.Need-slice-aggregate-call-in-2
+slice-aggregate-call-in-2 : tie.Need-slice_bounds-call_in-end-2
 slice-aggregate-call-in-2 c = search rules
 
-slice-aggregate-call-in-3 : tie.Need-slice-aggregate-call-in-3
+slice-aggregate-call-in-3 : tie.Need-slice_bounds-call_in-end-3
 slice-aggregate-call-in-3 c = search rules
 
-call-in-requires : tie.Need-call-in-requires
+call-in-requires : tie.Need-call_in-requires
 call-in-requires c κs =
     let s = c.before.before.before.before.before.before.before.before in
     (s.requires.0, s.requires.1, s.requires.2, room_for small_rows s.requires.3 (omega arith) (omega arith) refl (omega (arith, s.requires.4)) refl, omega (arith, s.requires.4))
 
-same_length : tie.Need-same-length
+same_length : tie.Need-shape_of-words
 same_length c = search rules
 
-same-length-2 : tie.Need-same-length-2
+same-length-2 : tie.Need-shape_of-saved
 same-length-2 c = search rules
 
 returns : tie.Need-returns
 returns c = search rules
 
-pub in-small-spec : {M : Type 1} → statement M
-in-small-spec =
+pub in_small_spec : {M : Type 1} → statement M
+in_small_spec =
     tie.close
     (tie.spec
     slice-aggregate-call-in

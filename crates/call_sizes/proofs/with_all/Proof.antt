@@ -5,44 +5,44 @@ use borrow.Author.Rules.{rules}
 use Rattle.call_sizes.proofs.with_all.Statement.{statement}
 use Rattle.call_sizes.proofs.with_all.Tie as tie
 
-mul-if1 : tie.Need-overflow-mul-if1
+mul-if1 : tie.Need-overflow_mul-t-7
 mul-if1 c = search rules
 
-cast-if2 : tie.Need-overflow-cast-if2
+cast-if2 : tie.Need-overflow_cast-lists
 cast-if2 c = search rules
 
-slice-aggregate-in-mid : tie.Need-slice-aggregate-in-mid
+slice-aggregate-in-mid : tie.Need-slice_bounds-in_mid-end
 slice-aggregate-in-mid c = search rules
 
-in-mid-requires : tie.Need-in-mid-requires
+in-mid-requires : tie.Need-in_mid-requires
 in-mid-requires c κs =
     let s = c.before.before.before.before.before.before.before in
     let z = size_fits_facts s.args.words.now s.requires.0 in
     (s.requires.0, s.requires.1, omega (arith, z.whole, z.most), omega arith, omega arith)
 
-same_length : tie.Need-same-length
+same_length : tie.Need-shape_of-words-then-lists-lt-MID_RULES
 same_length c = search rules
 
-returns : tie.Need-returns
+returns : tie.Need-returns-then-lists-lt-MID_RULES
 returns c = search rules
 
-slice-aggregate-in-wide : tie.Need-slice-aggregate-in-wide
+slice-aggregate-in-wide : tie.Need-slice_bounds-in_wide-end
 slice-aggregate-in-wide c = search rules
 
-in-wide-requires : tie.Need-in-wide-requires
+in-wide-requires : tie.Need-in_wide-requires
 in-wide-requires c κs =
     let s = c.before.before.before.before.before in
     let z = size_fits_facts s.args.words.now s.requires.0 in
     (s.requires.0, s.requires.1, omega (arith, z.whole, z.most))
 
-same-length-2 : tie.Need-same-length-2
+same-length-2 : tie.Need-shape_of-words
 same-length-2 c = search rules
 
-returns-2 : tie.Need-returns-2
+returns-2 : tie.Need-returns
 returns-2 c = search rules
 
-pub with-all-spec : {M : Type 1} → statement M
-with-all-spec =
+pub with_all_spec : {M : Type 1} → statement M
+with_all_spec =
     tie.close
     (tie.spec
     mul-if1
