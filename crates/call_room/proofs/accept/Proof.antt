@@ -19,55 +19,55 @@ arrays s =
     let e : length s.args.lists.c ≡ most_contexts = search rules in
     record { counts = a; s = b; t = d; c = e }
 
-look-requires : tie.Need-look-requires
+look-requires : tie.Need-look-seen-requires
 look-requires c κs = search rules
 
-same_length : tie.Need-same-length
+same_length : tie.Need-shape_of-words-then-seen-ne0
 same_length c = search rules
 
-returns : tie.Need-returns
+returns : tie.Need-returns-then-seen-ne0
 returns c =
-    let s = c.before.before.before.before.before in
-    let k = c.before.before.look in
-    look_refused s.args.words.now s.args.lists k.result k.ensures c.if1.true
+    let s : tie.Start = c.before.before.before.before in
+    let k = c.look-seen in
+    look_refused s.args.words.now s.args.lists k.result k.ensures c.if-seen-ne0.true
 
 refuse-requires : tie.Need-refuse-requires
 refuse-requires c κs = search rules
 
-same-length-2 : tie.Need-same-length-2
+same-length-2 : tie.Need-shape_of-words-then-seen-ne0-2
 same-length-2 c = search rules
 
-returns-2 : tie.Need-returns-2
+returns-2 : tie.Need-returns-then-seen-ne0-2
 returns-2 c =
-    let s = c.before.before.before.before.before.before.before.before in
-    let k = c.before.before.before.before.before.look in
-    accept_refused s.args.words.now s.args.lists k.result k.ensures c.before.before.before.if1.false
-    c.refuse.result c.before.if2.true c.refuse.ensures.0 c.refuse.ensures.1
+    let s : tie.Start = c.before.before.before.before.before.before.before in
+    let k = c.look-seen in
+    accept_refused s.args.words.now s.args.lists k.result k.ensures c.if-seen-ne0.false
+    c.refuse.result c.if-seen-ne0-2.true c.refuse.ensures.0 c.refuse.ensures.1
 
-accepting-requires : tie.Need-accepting-requires
+accepting-requires : tie.Need-accepting-left-requires
 accepting-requires c κs = search rules
 
 told-requires : tie.Need-told-requires
 told-requires c κs =
-    let s = c.before.before.before.before.before.before.before.before in
-    let k = c.before.before.before.before.before.look in
-    let t = look_taken s.args.words.now s.args.lists k.result k.ensures c.before.before.before.if1.false in
-    subst (λ (l : Lists). lists_fit l ≡ true) (sym c.accepting.ensures) (accepting_fit s.args.lists t.1)
+    let s : tie.Start = c.before.before.before.before.before.before.before in
+    let k = c.look-seen in
+    let t = look_taken s.args.words.now s.args.lists k.result k.ensures c.if-seen-ne0.false in
+    subst (λ (l : Lists). lists_fit l ≡ true) (sym c.accepting-left.ensures) (accepting_fit s.args.lists t.1)
 
-same-length-3 : tie.Need-same-length-3
+same-length-3 : tie.Need-shape_of-words
 same-length-3 c = search rules
 
-returns-3 : tie.Need-returns-3
+returns-3 : tie.Need-returns
 returns-3 c =
-    let s = c.before.before.before.before.before.before.before.before.before in
-    let k = c.before.before.before.before.before.before.look in
-    let n = c.before.before.before.before.if1.false in
+    let s : tie.Start = c.before.before.before.before.before.before.before.before in
+    let k = c.look-seen in
+    let n = c.if-seen-ne0.false in
     let l = s.args.lists in
-    accept_taken s.args.words.now l k.result k.ensures n _ (arrays s) c.before.before.if2.false
-    (c.told.ensures s.args.words.now ∙ ap (λ (m : Lists). seen_of (look (tables_of s.args.words.now m))) c.before.accepting.ensures) c.before.accepting.ensures
+    accept_taken s.args.words.now l k.result k.ensures n _ (arrays s) c.if-seen-ne0-2.false
+    (c.told.ensures s.args.words.now ∙ ap (λ (m : Lists). seen_of (look (tables_of s.args.words.now m))) c.accepting-left.ensures) c.accepting-left.ensures
 
-pub accept-spec : {M : Type 1} → statement M
-accept-spec =
+pub accept_spec : {M : Type 1} → statement M
+accept_spec =
     tie.close
     (tie.spec
     look-requires

@@ -9,79 +9,79 @@ use borrow.Author.Rules.{rules}
 use Rattle.call_room.proofs.tried.first_more.Statement.{statement}
 use Rattle.call_room.proofs.tried.first_more.Tie as tie
 
-abbrev start : tie.After-least → tie.Start
+abbrev start : tie.After-least-n → tie.Start
 start c = c.before.before.before.before
 
 -- the length that is lent
-tries : (c : tie.After-least) → Tries (start c).args.words.now (row_width * ((start c).args.lists.used + more_spare_rows)) (start c).args.lists c.least.result
+tries : (c : tie.After-least-n) → Tries (start c).args.words.now (row_width * ((start c).args.lists.used + more_spare_rows)) (start c).args.lists c.least-n.result
 tries c =
     let s = start c in
-    least_tries s.args.words.now s.args.lists s.pre.0 s.pre.1 (s.args.lists.used + more_spare_rows) (omega arith) (omega arith) c.least.result c.least.ensures
+    least_tries s.args.words.now s.args.lists s.requires.0 s.requires.1 (s.args.lists.used + more_spare_rows) (omega arith) (omega arith) c.least-n.result c.least-n.ensures
 
-cast-least : tie.Need-overflow-cast-least
+cast-least : tie.Need-overflow_cast-lists
 cast-least c = search rules
 
-add-least : tie.Need-overflow-add-least
+add-least : tie.Need-overflow_add-lists
 add-least c = search rules
 
-mul-least : tie.Need-overflow-mul-least
+mul-least : tie.Need-overflow_mul-lists
 mul-least c = search rules
 
-least-requires : tie.Need-least-requires
+least-requires : tie.Need-least-n-requires
 least-requires c κs = search rules
 
-mul-if1 : tie.Need-overflow-mul-if1
+mul-if1 : tie.Need-overflow_mul-t-7
 mul-if1 c = search rules
 
-cast-if2 : tie.Need-overflow-cast-if2
+cast-if2 : tie.Need-overflow_cast-lists-then-n
 cast-if2 c = search rules
 
-slice-relend-prefix-in-mid : tie.Need-slice-relend-prefix-in-mid
+slice-relend-prefix-in-mid : tie.Need-slice_bounds-in_mid-end
 slice-relend-prefix-in-mid c = (tries c.before.before.before).within
 
-slice-aggregate-in-mid : tie.Need-slice-aggregate-in-mid
+slice-aggregate-in-mid : tie.Need-slice_bounds-in_mid-end-then-lists-lt-MID_RULES
 slice-aggregate-in-mid c = sym (tries_long (tries c.before.before.before.before))
 
-slice-aggregate-in-mid-2 : tie.Need-slice-aggregate-in-mid-2
+slice-aggregate-in-mid-2 : tie.Need-slice_bounds-in_mid-end-then-lists-lt-MID_RULES-2
 slice-aggregate-in-mid-2 c = search rules
 
-in-mid-requires : tie.Need-in-mid-requires
+in-mid-requires : tie.Need-in_mid-requires
 in-mid-requires c κs =
-    let d : tie.After-least = c.before.before.before.before.before in
+    let d : tie.After-least-n = c.before.before.before.before.before in
     let t = tries d in
     let e = tries_long t in
     (t.size, t.lent, omega (arith, e, t.few), omega (arith, e), omega arith)
 
-same_length : tie.Need-same-length
+same_length : tie.Need-shape_of-words-then-lists-lt-MID_RULES
 same_length c = search rules
 
-returns : tie.Need-returns
-returns c = (tries c.before.before.before.before.before.before.before.before.before).tried c.before.before.before.in-mid.ensures
+returns : tie.Need-returns-then-lists-lt-MID_RULES
+returns c = (tries c.before.before.before.before.before.before.before.before.before).tried c.in_mid.ensures
 
-slice-relend-prefix-in-wide : tie.Need-slice-relend-prefix-in-wide
+slice-relend-prefix-in-wide : tie.Need-slice_bounds-in_wide-end
 slice-relend-prefix-in-wide c = (tries c.before).within
 
-slice-aggregate-in-wide : tie.Need-slice-aggregate-in-wide
+slice-aggregate-in-wide : tie.Need-slice_bounds-in_wide-end-2
 slice-aggregate-in-wide c = sym (tries_long (tries c.before.before))
 
-slice-aggregate-in-wide-2 : tie.Need-slice-aggregate-in-wide-2
+slice-aggregate-in-wide-2 : tie.Need-slice_bounds-in_wide-end-3
 slice-aggregate-in-wide-2 c = search rules
 
-in-wide-requires : tie.Need-in-wide-requires
+in-wide-requires : tie.Need-in_wide-requires
 in-wide-requires c κs =
-    let d : tie.After-least = c.before.before.before in
+    let d : tie.After-least-n = c.before.before.before in
     let t = tries d in
     let e = tries_long t in
     (t.size, t.lent, omega (arith, e, t.few))
 
-same-length-2 : tie.Need-same-length-2
+same-length-2 : tie.Need-shape_of-words
 same-length-2 c = search rules
 
-returns-2 : tie.Need-returns-2
-returns-2 c = (tries c.before.before.before.before.before.before.before).tried c.before.before.before.in-wide.ensures
+returns-2 : tie.Need-returns
+returns-2 c = (tries c.before.before.before.before.before.before.before).tried c.in_wide.ensures
 
-pub first-more-spec : {M : Type 1} → statement M
-first-more-spec =
+pub first_more_spec : {M : Type 1} → statement M
+first_more_spec =
     tie.close
     (tie.spec
     cast-least

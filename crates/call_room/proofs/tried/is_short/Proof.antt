@@ -5,17 +5,17 @@ use borrow.Author.Rules.{rules}
 use Rattle.call_room.proofs.tried.is_short.Statement.{statement}
 use Rattle.call_room.proofs.tried.is_short.Tie as tie
 
-returns : tie.Need-returns
+returns : tie.Need-returns-then-length-gt-SHORT
 returns c = λ e. absurd (true≢false (sym e))
 
-add-is-small : tie.Need-overflow-add-is-small
+add-is-small : tie.Need-overflow_add-used
 add-is-small c = search rules
 
-is-small-requires : tie.Need-is-small-requires
+is-small-requires : tie.Need-is_small-requires
 is-small-requires c κs = search rules
 
-returns-2 : tie.Need-returns-2
+returns-2 : tie.Need-returns
 returns-2 c = search rules
 
-pub is-short-spec : {M : Type 1} → statement M
-is-short-spec = tie.close (tie.spec returns add-is-small is-small-requires returns-2)
+pub is_short_spec : {M : Type 1} → statement M
+is_short_spec = tie.close (tie.spec returns add-is-small is-small-requires returns-2)
