@@ -3,7 +3,7 @@
 #![tactic(auto)]
 
 ghost use Rattle.std.specs.Prelude.{◌≡◌};
-ghost use Rattle.model.specs.Calls.{answers, offers, accept as acceptCall};
+ghost use Rattle.model.specs.Calls.{answers, offers, accept as accept_call};
 ghost use Rattle.call.specs.Calls.{CallAs};
 
 use call::{Done, Said};
@@ -29,7 +29,7 @@ pub fn answer(words: &mut [u32], lists: Lists, mark: u8) -> Done
 
 // Acceptance: 18, 30, 31.
 pub fn accept(words: &mut [u32], lists: Lists) -> Done
-    ensures { CallAs words.old lists acceptCall result words.new }
+    ensures { CallAs words.old lists accept_call result words.new }
 {
     let seen = call_read::look(words, lists);
     if seen.number != 0 {
