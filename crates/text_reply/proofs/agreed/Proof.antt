@@ -8,27 +8,27 @@ use Rattle.text.specs.Lines.{agreed_text}
 use Rattle.text_reply.proofs.agreed.Statement.{statement}
 use Rattle.text_reply.proofs.agreed.Tie as tie
 
-verdict-requires : tie.Need-verdict-requires
+verdict-requires : tie.Need-verdict-judged-requires
 verdict-requires c κs = search rules
 
-tell-agreed-requires : tie.Need-tell-agreed-requires
+tell-agreed-requires : tie.Need-tell_agreed-size-requires
 tell-agreed-requires c κs = search rules
 
-same_length : tie.Need-same-length
+same_length : tie.Need-shape_of-out
 same_length c = search rules
 
 returns : tie.Need-returns
 returns c =
-    let t : tie.After-tell-agreed = c.before.before in
-    let v : tie.After-verdict = t.before.before in
+    let t : tie.After-tell_agreed-size = c.before.before in
+    let v : tie.After-verdict-judged = t.before.before in
     let s : tie.Start = c.before.before.before.before.before.before.before.before in
-    let e = v.verdict.ensures in
+    let e = v.verdict-judged.ensures in
     record {
-      size = t.tell-agreed.ensures.0 ∙ ap (λ (j : Judged). length (agreed_text j)) e;
+      size = t.tell_agreed-size.ensures.0 ∙ ap (λ (j : Judged). length (agreed_text j)) e;
       script = refl;
       words = refl;
-      bytes = t.tell-agreed.ensures.1 ∙ ap (λ (j : Judged). over (agreed_text j) s.args.out.now) e;
+      bytes = t.tell_agreed-size.ensures.1 ∙ ap (λ (j : Judged). over (agreed_text j) s.args.out.now) e;
     }
 
-pub agreed-spec : {M : Type 1} → statement M
-agreed-spec = tie.close (tie.spec verdict-requires tell-agreed-requires same_length returns)
+pub agreed_spec : {M : Type 1} → statement M
+agreed_spec = tie.close (tie.spec verdict-requires tell-agreed-requires same_length returns)

@@ -11,92 +11,92 @@ use Rattle.text_reply.proofs.Laws.Replying.{opened_unread, opened_within, opened
 use Rattle.text_reply.proofs.first.Statement.{statement}
 use Rattle.text_reply.proofs.first.Tie as tie
 
-alphabet-of-requires : tie.Need-alphabet-of-requires
+alphabet-of-requires : tie.Need-alphabet_of-opened-requires
 alphabet-of-requires c κs = search rules
 
-at-stage-requires : tie.Need-at-stage-requires
+at-stage-requires : tie.Need-at_stage-requires
 at-stage-requires c κs = search rules
 
 unread-requires : tie.Need-unread-requires
 unread-requires c κs = search rules
 
-same_length : tie.Need-same-length
+same_length : tie.Need-shape_of-words-then-not-ok
 same_length c = search rules
 
-same-length-2 : tie.Need-same-length-2
+same-length-2 : tie.Need-shape_of-out-then-not-ok
 same-length-2 c = search rules
 
-returns : tie.Need-returns
+returns : tie.Need-returns-then-not-ok
 returns c =
-    let f = c.before.before.before.before.before.before.before in
-    let s = f.before.before.before.before.before.before.before in
-    opened_unread (alphabet_of s.args.line.now) f.alphabet-of.result s.args.words.now s.args.script f.alphabet-of.new.1.0 f.alphabet-of.new.1.1.0 f.alphabet-of.ensures
-    (not-true f.alphabet-of.result.ok c.before.before.before.before.before.before.if1.true) c.before.before.before.before.at_stage.ensures c.before.before.unread.ensures
+    let f = c in
+    let s = f in
+    opened_unread (alphabet_of s.args.line.now) f.alphabet_of-opened.result s.args.words.now s.args.script f.alphabet_of-opened.new.letters f.alphabet_of-opened.new.counts f.alphabet_of-opened.ensures
+    (not-true f.alphabet_of-opened.result.ok c.if-not-ok.true-raw) c.at_stage.ensures c.unread.ensures
 
-array-share-prefix-counts : tie.Need-array-share-prefix-counts
+array-share-prefix-counts : tie.Need-slice_bounds-counts-end
 array-share-prefix-counts c =
     let f = c.before.before in
     let s = f.before.before.before.before.before.before.before in
-    opened_within (alphabet_of s.args.line.now) f.alphabet-of.result s.args.script.letters f.alphabet-of.new.1.0 f.alphabet-of.new.1.1.0 f.alphabet-of.ensures (not-false f.alphabet-of.result.ok c.before.if1.false)
+    opened_within (alphabet_of s.args.line.now) f.alphabet_of-opened.result s.args.script.letters f.alphabet_of-opened.new.letters f.alphabet_of-opened.new.counts f.alphabet_of-opened.ensures (not-false f.alphabet_of-opened.result.ok c.if-not-ok.false-raw)
 
-slice-aggregate-start : tie.Need-slice-aggregate-start
+slice-aggregate-start : tie.Need-slice_bounds-start-end
 slice-aggregate-start c =
     let f = c.before.before.before in
     let s = f.before.before.before.before.before.before.before in
-    sym (length-take-le f.alphabet-of.result.size f.alphabet-of.new.1.1.0
-    (opened_within (alphabet_of s.args.line.now) f.alphabet-of.result s.args.script.letters f.alphabet-of.new.1.0 f.alphabet-of.new.1.1.0 f.alphabet-of.ensures (not-false f.alphabet-of.result.ok c.before.before.if1.false)))
+    sym (length-take-le f.alphabet_of-opened.result.size f.alphabet_of-opened.new.counts
+    (opened_within (alphabet_of s.args.line.now) f.alphabet_of-opened.result s.args.script.letters f.alphabet_of-opened.new.letters f.alphabet_of-opened.new.counts f.alphabet_of-opened.ensures (not-false f.alphabet_of-opened.result.ok c.if-not-ok.false-raw)))
 
-start-requires : tie.Need-start-requires
+start-requires : tie.Need-start-started-requires
 start-requires c κs = search rules
 
-at-stage-requires-2 : tie.Need-at-stage-requires-2
+at-stage-requires-2 : tie.Need-at_stage-requires-then-number-ne0
 at-stage-requires-2 c κs = search rules
 
 told-requires : tie.Need-told-requires
 told-requires c κs =
     let f = c.before.before.before.before.before.before.before.before.before.before.before in
-    let d = c.before.before.before.before.before.before.before.start in
-    (start_tellable f.before.before.before.before.before.before.before.args.words.now (take f.alphabet-of.result.size f.alphabet-of.new.1.1.0) d.ensures.seen, f.before.before.before.before.before.before.before.requires)
+    let d = c.start-started in
+    (start_tellable f.args.words.now (take f.alphabet_of-opened.result.size f.alphabet_of-opened.new.counts) d.ensures.seen, f.requires)
 
-same-length-3 : tie.Need-same-length-3
+same-length-3 : tie.Need-shape_of-words-then-number-ne0
 same-length-3 c = search rules
 
-same-length-4 : tie.Need-same-length-4
+same-length-4 : tie.Need-shape_of-out-then-number-ne0
 same-length-4 c = search rules
 
-returns-2 : tie.Need-returns-2
+returns-2 : tie.Need-returns-then-number-ne0
 returns-2 c =
-    let m : tie.After-start = c.before.before.before.before.before.before.before.before.before.before in
-    let e : tie.Else1 = m.before.before.before in
-    let f : tie.After-alphabet-of = e.before in
+    let m : tie.After-start-started = c.before.before.before.before.before.before.before.before.before in
+    let e : tie.Else-not-ok = m.before.before.before.before in
+    let f : tie.After-alphabet_of-opened = e.before in
     let s = f.before.before.before.before.before.before.before in
-    let d = m.start in
-    opened_refused s.args.words.now (take f.alphabet-of.result.size f.alphabet-of.new.1.1.0) s.args.script d.result d.new.0 d.ensures
-    (opened_read (alphabet_of s.args.line.now) f.alphabet-of.result s.args.script.letters f.alphabet-of.new.1.0 f.alphabet-of.new.1.1.0 f.alphabet-of.ensures (not-false f.alphabet-of.result.ok e.if1.false))
-    c.before.before.before.before.before.before.if2.true c.before.before.before.before.at-stage2.result c.before.before.before.before.at-stage2.ensures c.before.before.told.ensures
+    let d = m.start-started in
+    opened_refused s.args.words.now (take f.alphabet_of-opened.result.size f.alphabet_of-opened.new.counts) s.args.script d.result d.new.words d.ensures
+    (opened_read (alphabet_of s.args.line.now) f.alphabet_of-opened.result s.args.script.letters f.alphabet_of-opened.new.letters f.alphabet_of-opened.new.counts f.alphabet_of-opened.ensures (not-false f.alphabet_of-opened.result.ok e.if-not-ok.false-raw))
+    c.if-number-ne0.true c.at_stage-then-number-ne0.result c.at_stage-then-number-ne0.ensures c.told.ensures
 
 told-requires-2 : tie.Need-told-requires-2
 told-requires-2 c κs =
     let f = c.before.before.before.before.before.before.before.before.before.before.before in
-    let d = c.before.before.before.before.before.before.before.start in
-    (start_tellable f.before.before.before.before.before.before.before.args.words.now (take f.alphabet-of.result.size f.alphabet-of.new.1.1.0) d.ensures.seen, f.before.before.before.before.before.before.before.requires)
+    let d = c.start-started in
+    (start_tellable f.args.words.now (take f.alphabet_of-opened.result.size f.alphabet_of-opened.new.counts) d.ensures.seen, f.requires)
 
-same-length-5 : tie.Need-same-length-5
+same-length-5 : tie.Need-shape_of-words
 same-length-5 c = search rules
 
-same-length-6 : tie.Need-same-length-6
+same-length-6 : tie.Need-shape_of-out
 same-length-6 c = search rules
 
-returns-3 : tie.Need-returns-3
+returns-3 : tie.Need-returns
 returns-3 c =
-    let m : tie.After-start = c.before.before.before.before.before.before.before.before.before.before in
-    let e : tie.Else1 = m.before.before.before in
-    let f : tie.After-alphabet-of = e.before in
+    let m : tie.After-start-started = c.before.before.before.before.before.before.before.before.before in
+    let e : tie.Else-not-ok = m.before.before.before.before in
+    let f : tie.After-alphabet_of-opened = e.before in
     let s = f.before.before.before.before.before.before.before in
-    let d = m.start in
-    opened_taken s.args.words.now (take f.alphabet-of.result.size f.alphabet-of.new.1.1.0) s.args.script d.result d.new.0 d.ensures
-    (opened_read (alphabet_of s.args.line.now) f.alphabet-of.result s.args.script.letters f.alphabet-of.new.1.0 f.alphabet-of.new.1.1.0 f.alphabet-of.ensures (not-false f.alphabet-of.result.ok e.if1.false))
-    c.before.before.before.before.before.before.if2.false c.before.before.told2.ensures
+    let d = m.start-started in
+    opened_taken s.args.words.now (take f.alphabet_of-opened.result.size f.alphabet_of-opened.new.counts) s.args.script d.result d.new.words d.ensures
+    (opened_read (alphabet_of s.args.line.now) f.alphabet_of-opened.result s.args.script.letters f.alphabet_of-opened.new.letters f.alphabet_of-opened.new.counts f.alphabet_of-opened.ensures (not-false f.alphabet_of-opened.result.ok e.if-not-ok.false-raw))
+    c.if-number-ne0.false c.told-2.ensures
 
 pub first_spec : {M : Type 1} → statement M
 first_spec =

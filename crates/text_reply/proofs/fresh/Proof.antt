@@ -14,5 +14,5 @@ zeros-requires c κs = search rules
 returns : tie.Need-returns
 returns c = ap (λ (l : Lists). script 0 (replicate most_symbols 0) l) c.zeros.ensures
 
-pub fresh-spec : {M : Type 1} → statement M
-fresh-spec = tie.close (tie.spec zeros-requires returns)
+pub fresh_spec : {M : Type 1} → statement M
+fresh_spec = tie.close (tie.spec zeros-requires returns)

@@ -5,51 +5,51 @@ use Rattle.text_reply.proofs.Laws.Replying.{no_room, at_first, at_later, at_end}
 use Rattle.text_reply.proofs.reply.Statement.{statement}
 use Rattle.text_reply.proofs.reply.Tie as tie
 
-returns : tie.Need-returns
+returns : tie.Need-returns-then-out-lt-REPLY_ROOM
 returns c =
     let s = c.before.before.before.before in
-    no_room s.args.words.now s.args.script s.args.line.now s.args.out.now c.if1.true
+    no_room s.args.words.now s.args.script s.args.line.now s.args.out.now c.if-out-lt-REPLY_ROOM.true
 
 first-requires : tie.Need-first-requires
 first-requires c κs = search rules
 
-same_length : tie.Need-same-length
+same_length : tie.Need-shape_of-words-then-script-eq0
 same_length c = search rules
 
-same-length-2 : tie.Need-same-length-2
+same-length-2 : tie.Need-shape_of-out-then-script-eq0
 same-length-2 c = search rules
 
-returns-2 : tie.Need-returns-2
+returns-2 : tie.Need-returns-then-script-eq0
 returns-2 c =
     let e = c.before.before.before.before.before.before.before.before.before in
     let s = e.before.before.before.before in
-    at_first s.args.words.now s.args.script s.args.line.now s.args.out.now e.if1.false c.before.before.before.before.before.before.before.if2.true c.before.before.before.before.first.ensures
+    at_first s.args.words.now s.args.script s.args.line.now s.args.out.now e.if-out-lt-REPLY_ROOM.false c.if-script-eq0.true c.first.ensures
 
 later-requires : tie.Need-later-requires
 later-requires c κs = search rules
 
-same-length-3 : tie.Need-same-length-3
+same-length-3 : tie.Need-shape_of-words-then-script-eq1
 same-length-3 c = search rules
 
-same-length-4 : tie.Need-same-length-4
+same-length-4 : tie.Need-shape_of-out-then-script-eq1
 same-length-4 c = search rules
 
-returns-3 : tie.Need-returns-3
+returns-3 : tie.Need-returns-then-script-eq1
 returns-3 c =
     let f = c.before.before.before.before.before.before.before.before.before in
     let e = f.before.before in
     let s = e.before.before.before.before in
-    at_later s.args.words.now s.args.script s.args.line.now s.args.out.now e.if1.false f.if2.false c.before.before.before.before.before.before.before.if3.true c.before.before.before.before.later.ensures
+    at_later s.args.words.now s.args.script s.args.line.now s.args.out.now e.if-out-lt-REPLY_ROOM.false f.if-script-eq0.false c.if-script-eq1.true c.later.ensures
 
-returns-4 : tie.Need-returns-4
+returns-4 : tie.Need-returns
 returns-4 c =
     let f = c.before.before in
     let e = f.before.before in
     let s = e.before.before.before.before in
-    at_end s.args.words.now s.args.script s.args.line.now s.args.out.now e.if1.false f.if2.false c.if3.false
+    at_end s.args.words.now s.args.script s.args.line.now s.args.out.now e.if-out-lt-REPLY_ROOM.false f.if-script-eq0.false c.if-script-eq1.false
 
-pub reply-spec : {M : Type 1} → statement M
-reply-spec =
+pub reply_spec : {M : Type 1} → statement M
+reply_spec =
     tie.close
     (tie.spec
     returns

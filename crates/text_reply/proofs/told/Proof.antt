@@ -8,42 +8,42 @@ use Rattle.text_reply.proofs.Laws.Replying.{in_within, in_counted, tellable_in, 
 use Rattle.text_reply.proofs.told.Statement.{statement}
 use Rattle.text_reply.proofs.told.Tie as tie
 
-letters-in-requires : tie.Need-letters-in-requires
+letters-in-requires : tie.Need-letters_in-n-requires
 letters-in-requires c κs = search rules
 
-array-share-prefix-counts : tie.Need-array-share-prefix-counts
+array-share-prefix-counts : tie.Need-slice_bounds-counts-end
 array-share-prefix-counts c =
-    let z = c.before.before.before.before.before.before.args.script in
+    let z = c.args.script in
     let e : length z.lists.counts ≡ most_symbols = search rules in
-    in_within z.lists.counts e z.lists.letters c.letters_in.ensures.1
+    in_within z.lists.counts e z.lists.letters c.letters_in-n.ensures.1
 
-slice-aggregate-tell : tie.Need-slice-aggregate-tell
+slice-aggregate-tell : tie.Need-slice_bounds-tell-end
 slice-aggregate-tell c =
-    let z = c.before.before.before.before.before.before.before.args.script in
+    let z = c.args.script in
     let e : length z.lists.counts ≡ most_symbols = search rules in
-    in_counted z.lists.counts e z.lists.letters c.before.letters_in.ensures.1
+    in_counted z.lists.counts e z.lists.letters c.letters_in-n.ensures.1
 
-array-share-prefix-letters : tie.Need-array-share-prefix-letters
+array-share-prefix-letters : tie.Need-slice_bounds-letters-end
 array-share-prefix-letters c =
-    let z = c.before.before.before.before.before.before.before.args.script in
+    let z = c.args.script in
     let e : length z.letters ≡ most_symbols = search rules in
-    in_within z.letters e z.lists.letters c.before.letters_in.ensures.1
+    in_within z.letters e z.lists.letters c.letters_in-n.ensures.1
 
-slice-aggregate-tell-2 : tie.Need-slice-aggregate-tell-2
+slice-aggregate-tell-2 : tie.Need-slice_bounds-tell-end-2
 slice-aggregate-tell-2 c =
-    let z = c.before.before.before.before.before.before.before.before.args.script in
+    let z = c.args.script in
     let e : length z.letters ≡ most_symbols = search rules in
-    in_counted z.letters e z.lists.letters c.before.before.letters_in.ensures.1
+    in_counted z.letters e z.lists.letters c.letters_in-n.ensures.1
 
-tell-requires : tie.Need-tell-requires
+tell-requires : tie.Need-tell-size-requires
 tell-requires c κs =
     let s = c.before.before.before.before.before.before.before.before.before in
     let z = s.args.script in
     let a : length z.letters ≡ most_symbols = search rules in
     let b : length z.lists.counts ≡ most_symbols = search rules in
-    (tellable_in z a b c.before.before.before.letters_in.ensures.1 s.requires.0, s.requires.1)
+    (tellable_in z a b c.letters_in-n.ensures.1 s.requires.0, s.requires.1)
 
-same_length : tie.Need-same-length
+same_length : tie.Need-shape_of-out
 same_length c = search rules
 
 returns : tie.Need-returns
@@ -52,10 +52,10 @@ returns c =
     let z = s.args.script in
     let a : length z.letters ≡ most_symbols = search rules in
     let b : length z.lists.counts ≡ most_symbols = search rules in
-    told_in z a b c.before.before.before.before.before.before.letters_in.ensures.1 s.args.words.now s.args.seen c.before.before.tell.ensures.0 c.before.before.tell.ensures.1
+    told_in z a b c.letters_in-n.ensures.1 s.args.words.now s.args.seen c.tell-size.ensures.0 c.tell-size.ensures.1
 
-pub told-spec : {M : Type 1} → statement M
-told-spec =
+pub told_spec : {M : Type 1} → statement M
+told_spec =
     tie.close
     (tie.spec
     letters-in-requires
