@@ -9,7 +9,7 @@ ghost use Rattle.text.specs.Bytes.{most_input, reply_room};
 ghost use Rattle.text.specs.Reading.{read_text};
 ghost use Rattle.text.specs.Alphabet.{alphabet_of};
 ghost use Rattle.text.specs.Lines.{line_of, offering, unread_text, agreed_text};
-ghost use Rattle.text.specs.Script.{reply as replyWith, script as scriptOf, told as toldOf, offer_told, fresh_script, letters_of, counts_of, opened as opened_of, heard, reply_to};
+ghost use Rattle.text.specs.Script.{reply as reply_with, script as script_of, told as told_of, offer_told, fresh_script, letters_of, counts_of, opened as opened_of, heard, reply_to};
 ghost use Rattle.text_read.specs.Reads.{TextAs};
 ghost use Rattle.text_print.specs.Tells.{Tellable};
 ghost use Rattle.text_reply.specs.Replies.{ReplyAs};
@@ -43,7 +43,7 @@ pub fn fresh() -> Script
 
 // A script at another stage.
 fn at_stage(z: Script, stage: u8) -> Script
-    ensures { result ≡ scriptOf stage z.letters z.lists }
+    ensures { result ≡ script_of stage z.letters z.lists }
 {
     let mut after = z;
     after.stage = stage;
@@ -63,7 +63,7 @@ fn letters_in(letters: u8) -> usize
 // A line that is unread: it is no call.
 fn unread(words: &[u32], script: Script, out: &mut [u8]) -> Replied
     requires { reply_room ≤ length out.old }
-    ensures { ReplyAs (replyWith unread_text words.now script) result words.now out.old out.new }
+    ensures { ReplyAs (reply_with unread_text words.now script) result words.now out.old out.new }
 {
     let size = tell::tell_unread(out);
     Replied {
@@ -76,7 +76,7 @@ fn unread(words: &[u32], script: Script, out: &mut [u8]) -> Replied
 fn told(words: &[u32], script: Script, seen: Seen, out: &mut [u8]) -> Replied
     requires { Tellable words.now (counts_of script) script.lists.used seen
         × (reply_room ≤ length out.old) }
-    ensures { ReplyAs (toldOf words.now script seen) result words.now out.old out.new }
+    ensures { ReplyAs (told_of words.now script seen) result words.now out.old out.new }
 {
     let letters = script.letters;
     let lists = script.lists;
@@ -91,11 +91,11 @@ fn told(words: &[u32], script: Script, seen: Seen, out: &mut [u8]) -> Replied
 
 // A call that was made: the reply tells what was seen of it, and the script goes on with the lists that it left.
 fn made(words: &[u32], script: Script, done: Done, out: &mut [u8]) -> Replied
-    requires { let after = scriptOf script.stage script.letters done.lists in
+    requires { let after = script_of script.stage script.letters done.lists in
         Tellable words.now (counts_of after) done.lists.used done.seen
         × (reply_room ≤ length out.old) }
-    ensures { let after = scriptOf script.stage script.letters done.lists in
-        ReplyAs (toldOf words.now after done.seen) result words.now out.old out.new }
+    ensures { let after = script_of script.stage script.letters done.lists in
+        ReplyAs (told_of words.now after done.seen) result words.now out.old out.new }
 {
     let left = done.lists;
     let mut after = script;
@@ -106,9 +106,9 @@ fn made(words: &[u32], script: Script, done: Done, out: &mut [u8]) -> Replied
 // An offer that got 32: the verdict on its record is asked, and its place told. It leaves these lists and the words.
 fn agreed(words: &[u32], script: Script, lists: Lists, symbols: &[u8], out: &mut [u8]) -> Replied
     requires { reply_room ≤ length out.old }
-    ensures { let after = scriptOf script.stage script.letters lists in
+    ensures { let after = script_of script.stage script.letters lists in
         let text = agreed_text (judge_seen words.now lists symbols.now) in
-        ReplyAs (replyWith text words.now after) result words.now out.old out.new }
+        ReplyAs (reply_with text words.now after) result words.now out.old out.new }
 {
     let judged = call_read::verdict(words, lists, symbols);
     let size = tell::tell_agreed(judged, out);
@@ -122,10 +122,10 @@ fn agreed(words: &[u32], script: Script, lists: Lists, symbols: &[u8], out: &mut
 
 // An offer that was made: told as any call, but where it got 32 with the verdict on its record.
 fn offered(words: &[u32], script: Script, done: Done, symbols: &[u8], out: &mut [u8]) -> Replied
-    requires { let after = scriptOf script.stage script.letters done.lists in
+    requires { let after = script_of script.stage script.letters done.lists in
         Tellable words.now (counts_of after) done.lists.used done.seen
         × (reply_room ≤ length out.old) }
-    ensures { let after = scriptOf script.stage script.letters done.lists in
+    ensures { let after = script_of script.stage script.letters done.lists in
         let reply = offer_told words.now after symbols.now done.seen in
         ReplyAs reply result words.now out.old out.new }
 {
