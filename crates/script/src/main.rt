@@ -66,7 +66,14 @@ fn turn(words: &mut [u32], script: Script, input: &[u8], at: usize, out: &mut [u
 }
 
 // Answers the lines from a place on: a turn and a write for each.
-fn answer(rt: HostRuntime, words: &mut [u32], script: Script, input: &[u8], at: usize, out: &mut [u8]) -> Left
+fn answer(
+    rt: HostRuntime,
+    words: &mut [u32],
+    script: Script,
+    input: &[u8],
+    at: usize,
+    out: &mut [u8],
+) -> Left
     requires { Reached input.now words.old script at × (reply_room ≤ length out.old) }
     ensures { Answered input.now words.new result }
 {

@@ -81,7 +81,7 @@ fn fields_are_those_of_the_model() {
     for name in RUNS.into_iter().chain(["ListSizes", "Found", "ListRule"]) {
         let oracle: Vec<String> = fields(lent, name).into_iter().map(in_the_model).collect();
         assert_eq!(fields(MODEL, name), oracle);
-        assert!(MODEL.contains(&format!("#[repr(C)]\npub struct {name}")));
+        assert!(MODEL.contains(&format!("#[repr(C)]\n#[derive(Clone, Copy)]\npub struct {name}")));
     }
 }
 

@@ -13,64 +13,58 @@ use Rattle.script.proofs.Turns.{turn_reached}
 use Rattle.script.proofs.answer.Statement.{statement}
 use Rattle.script.proofs.answer.Tie as tie
 
-abbrev invariant-loop : tie.invariant-loop
-invariant-loop words₀ input at out₀ script₀ at₀ words out script at' = Reached input words script at' × (length words ≡ length words₀) × (length out ≡ length out₀)
+abbrev invariant-loop : tie.invariant-loop-at
+invariant-loop words₀ input at out₀ rt script₀ at₀ words out script at' = Reached input words script at' × (length words ≡ length words₀) × (length out ≡ length out₀)
 
-abbrev decreases-loop : tie.decreases-loop
-decreases-loop words₀ input at out₀ script₀ at₀ words out script at' = length input - at'
+abbrev decreases-loop : tie.decreases-loop-at
+decreases-loop words₀ input at out₀ rt script₀ at₀ words out script at' = length input - at'
 
-loop-holds : tie.Need-loop-init invariant-loop decreases-loop
-loop-holds c = (c.before.before.before.requires.0, refl, refl)
+loop-holds : tie.Need-loop-at-init invariant-loop decreases-loop
+loop-holds c = (c.requires.0, refl, refl)
 
-turn-requires : tie.Need-turn-requires invariant-loop decreases-loop
+turn-requires : tie.Need-turn-turned-requires invariant-loop decreases-loop
 turn-requires c κs = search rules
 
-slice-reshare-prefix-write-all : tie.Need-slice-reshare-prefix-write-all invariant-loop decreases-loop
-slice-reshare-prefix-write-all c = turn_within c.before.before.before.before.before.turn.ensures
+slice-reshare-prefix-write-all : tie.Need-slice_bounds-write_all-end invariant-loop decreases-loop
+slice-reshare-prefix-write-all c = turn_within c.turn-turned.ensures
 
-slice-aggregate-write-all : tie.Need-slice-aggregate-write-all invariant-loop decreases-loop
+slice-aggregate-write-all : tie.Need-slice_bounds-write_all-end-in-loop-at invariant-loop decreases-loop
 slice-aggregate-write-all c =
-    let r = c.before.before.before.before.before.before.turn in
-    sym (length-take-le r.result.size r.new.1.1.1.1.0 (turn_within r.ensures))
+    let r = c.turn-turned in
+    sym (length-take-le r.result.size r.new.out (turn_within r.ensures))
 
-write-all-requires : tie.Need-write-all-requires invariant-loop decreases-loop
+write-all-requires : tie.Need-write_all-requires invariant-loop decreases-loop
 write-all-requires c κs = search rules
 
-same_length : tie.Need-same-length invariant-loop decreases-loop
+is-err-requires : tie.Need-is_err-requires invariant-loop decreases-loop
+is-err-requires c κs = search rules
+
+same_length : tie.Need-shape_of-words-then-is_err invariant-loop decreases-loop
 same_length c = search rules
 
-same-length-2 : tie.Need-same-length-2 invariant-loop decreases-loop
+same-length-2 : tie.Need-shape_of-out-then-is_err invariant-loop decreases-loop
 same-length-2 c = search rules
 
--- a turn leads on
-abbrev start : tie.After-turn invariant-loop decreases-loop → tie.Start invariant-loop decreases-loop
-start c = c.before.before.before.before.before.before.before.before
+returns : tie.Need-returns-then-is_err invariant-loop decreases-loop
+returns c = record { reached = turn_reached c.loop-at.invariant.0 c.loop-at-test.true c.turn-turned.ensures; passed = λ e. absurd (true≢false (sym e)) }
 
-on : (c : tie.After-turn invariant-loop decreases-loop) → Reached (start c).args.input.now c.turn.new.0 c.turn.result.script c.turn.result.next
-on c = turn_reached c.before.before.before.before.loop.invariant.0 c.before.before.before.loop-test.true c.turn.ensures
+loop-less : tie.Need-loop-at-smaller invariant-loop decreases-loop
+loop-less c = omega (arith, c.turn-turned.ensures.next, c.loop-at-test.true)
 
-returns : tie.Need-returns invariant-loop decreases-loop
-returns c = record { reached = on c.before.before.before.before.before.before.before.before; passed = λ e. absurd (true≢false (sym e)) }
+loop-again : tie.Need-loop-at-preserved invariant-loop decreases-loop
+loop-again c = (turn_reached c.loop-at.invariant.0 c.loop-at-test.true c.turn-turned.ensures, search rules, search rules)
 
-loop-less : tie.Need-loop-smaller invariant-loop decreases-loop
-loop-less c =
-    let t = c.before.before.before.before.before.before.before.before in
-    omega (arith, t.turn.ensures.next, t.before.before.before.loop-test.true)
-
-loop-again : tie.Need-loop-preserved invariant-loop decreases-loop
-loop-again c = (on c.before.before.before.before.before.before.before.before, search rules, search rules)
-
-same-length-3 : tie.Need-same-length-3 invariant-loop decreases-loop
+same-length-3 : tie.Need-shape_of-words invariant-loop decreases-loop
 same-length-3 c = search rules
 
-same-length-4 : tie.Need-same-length-4 invariant-loop decreases-loop
+same-length-4 : tie.Need-shape_of-out invariant-loop decreases-loop
 same-length-4 c = search rules
 
-returns-2 : tie.Need-returns-2 invariant-loop decreases-loop
-returns-2 c = record { reached = c.before.loop.invariant.0; passed = λ e. omega arith }
+returns-2 : tie.Need-returns invariant-loop decreases-loop
+returns-2 c = record { reached = c.loop-at.invariant.0; passed = λ e. omega arith }
 
-pub answer-spec : {M : Type 1} → statement M
-answer-spec =
+pub answer_spec : {M : Type 1} → statement M
+answer_spec =
     tie.close
     (tie.spec
     invariant-loop
@@ -80,6 +74,7 @@ answer-spec =
     slice-reshare-prefix-write-all
     slice-aggregate-write-all
     write-all-requires
+    is-err-requires
     same_length
     same-length-2
     returns
