@@ -7,10 +7,6 @@ use Rattle.call.specs.declared.Said.{Said}
 use Rattle.call.specs.Said.{call_of}
 use Rattle.call_faults.proofs.fault_of.Statement.{statement}
 use Rattle.call_faults.proofs.fault_of.Tie as tie
-use Rattle.call_faults.proofs.fault_of.Reads as reads
-use Rattle.call_faults.proofs.fault_of.Lts as lts
-use Rattle.call_faults.proofs.answer.answer_fault.Reads as answer-fault-reads
-use Rattle.call_faults.proofs.offer_fault.Reads as offer-fault-reads
 
 enum-known-said : tie.Need-enum_known-said
 enum-known-said c = search rules

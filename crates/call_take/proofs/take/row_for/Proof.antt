@@ -3,7 +3,6 @@ use mathlib.Core.Path.{sym, ap, subst, ◌∙◌}
 use mathlib.Core.List.{List}
 use Prim.Native.Nat.{ℕ}
 use borrow.Author.Rules.{rules}
-use Rattle.model.specs.Limits.{most_contexts}
 use Rattle.model.specs.Calls.{fault_of}
 use Rattle.model.specs.Entry.{Arrays, tables_of}
 use Rattle.model.proofs.Laws.Trees.{record_fault_parses}

@@ -5,7 +5,6 @@ use mathlib.Core.List.{List}
 use native.Mathlib.Omega.{arith}
 use borrow.Author.Rules.{rules}
 use Prim.Native.Nat.{ℕ, ◌+◌}
-use Rattle.model.specs.Limits.{most_contexts}
 use Rattle.model.specs.Entry.{tables_of}
 use Rattle.model.specs.Steps as steps
 use Rattle.bank.specs.Rows.{with_answer}
