@@ -18,6 +18,7 @@ use model::{Lists, Verdict};
 mod answer; // answer.rt: the lines that refuse an answer
 
 // The number of the first line that refuses an offer without a look at the tables, 31 or 11 to 16; 0 for none.
+#[tactic(auto, using(crate::proofs::Laws::OfferLines::line_asking, crate::proofs::Laws::OfferLines::line_accepted, crate::proofs::Laws::OfferLines::line_record, crate::proofs::Laws::OfferLines::line_mark))]
 fn input_fault(lists: Lists, symbols: &[u8], mark: u8) -> u8
     requires { lists_fit lists ≡ true }
     ensures { InputFault lists symbols.now mark result }

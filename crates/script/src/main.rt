@@ -37,6 +37,7 @@ pub struct Ran {
 }
 
 // Where the line that begins at a place ends: at its newline, or at the end of the input.
+#[tactic(auto, using(crate::proofs::Laws::end_none, crate::proofs::Laws::end_here, crate::proofs::Laws::end_later))]
 fn line_end(input: &[u8], from: usize) -> usize
     requires { from ≤ length input.now }
     ensures { result ≡ line_end input.now from }

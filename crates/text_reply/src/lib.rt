@@ -220,6 +220,7 @@ fn later(words: &mut [u32], script: Script, line: &[u8], out: &mut [u8]) -> Repl
 }
 
 // The reply to any line: none once the script has ended, or where it might not fit.
+#[tactic(auto, using(crate::proofs::Laws::Replying::no_room, crate::proofs::Laws::Replying::at_first, crate::proofs::Laws::Replying::at_later, crate::proofs::Laws::Replying::at_end))]
 pub fn reply(words: &mut [u32], script: Script, line: &[u8], out: &mut [u8]) -> Replied
     ensures { let reply = reply_to words.old script line.now (length out.old) in
         ReplyAs reply result words.new out.old out.new }
