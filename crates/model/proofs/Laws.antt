@@ -7,6 +7,7 @@ pub mod Stack
 pub mod Backwards
 pub mod Members
 pub mod Scans
+pub mod Methods
 pub mod Pigeonhole
 -- the store: the one fold, rows found and added, frames filled, ways down
 pub mod Fold
