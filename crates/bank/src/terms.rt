@@ -1,11 +1,11 @@
 // The record table of a run with its index, as a call reads it (§2.1): good rows, the place of each row's hole, an index that finds each row.
 // What the four parts are to one another is said once, here: a value of the type has it.
 ghost use Rattle.std.specs.Prelude.{◌≡◌, ◌<◌, length, get_or};
-ghost use Rattle.model.specs.Store.{kids_at};
+ghost use Rattle.model.specs.Store.{kids_at, next_row};
 ghost use Rattle.model.specs.Entry.{store_of};
 ghost use Rattle.bank.specs.Rows.{symbol_in, answer_in, kid_in, places_in};
 ghost use Rattle.bank.specs.Index.{find_in, hole_of};
-ghost use Rattle.bank.specs.Bank.{Bank};
+ghost use Rattle.bank.specs.Bank.{Bank, frame_at};
 ghost use Rattle.bank.specs.Terms.{terms};
 
 use crate::{index, rows};
@@ -98,6 +98,25 @@ impl<'a> Terms<'a> {
     pub fn find(&self, symbol: u32, places: [u32; 4]) -> Row
         ensures { result.0 ≡ find_in self.now.words self.now.used symbol places }
     {
+        index::find(self.words, self.used, self.index, symbol, places)
+    }
+
+    // The row that is `row` but for the child at a place, which is `with`; row 0 where that is not stored.
+    pub fn exchanged(&self, row: Row, place: usize, with: Row) -> Row
+        requires { let x = store_of self.now.words self.now.counts self.now.used in
+            (0 < row.0)
+            × (row.0 < self.now.used)
+            × (place < length (kids_at x row.0)) }
+        ensures { let x = store_of self.now.words self.now.counts self.now.used in
+            (result.0 ≡ next_row x (frame_at x row.0 place) with.0)
+            × (result.0 < self.now.used) }
+    {
+        if with.0 == 0 {
+            return Row(0);
+        }
+        let symbol = rows::symbol_of(self.words, row);
+        let mut places = rows::places_of(self.words, row);
+        places[place] = u32::from(with.0);
         index::find(self.words, self.used, self.index, symbol, places)
     }
 
