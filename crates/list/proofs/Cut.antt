@@ -1,7 +1,7 @@
 -- Parts of bytes that end where the block or the bytes end are the body of the block and what stands behind it (§6.1), also where the block is cut.
 -- By taking no more than there is.
 use mathlib.Core.Path.{◌≡◌, refl, sym, ap, ◌∙◌}
-use mathlib.Core.Bool.{Bool, true, false}
+use mathlib.Core.Bool.{Bool, true, false, ◌&&◌}
 use mathlib.Core.List.{List, []}
 use Prim.Native.Nat.{ℕ, ◌+◌, ◌-◌, ◌≤◌, ◌<◌}
 use native.Mathlib.Omega.{arith}
@@ -50,11 +50,12 @@ module _ (bs : List ℕ) (e : ℕ) (is : e ≡ block_len bs) where
 
 -- THE TEST for a block, answer by answer
 module _ (k : ℕ) (bs : List ℕ) where
-  pub block_short : length bs < 6 → is_block k bs ≡ false
-  block_short l = rw (lt-leb 6 (length bs) l)
+  pub block_cut : length bs < 6 + size_at bs → is_block k bs ≡ false
+  block_cut l = go (leb 6 (length bs))
+    where
+      go : (t : Bool) → t && leb (6 + size_at bs) (length bs) && eqb (kind_at bs) k ≡ false
+      go true = rw (lt-leb (6 + size_at bs) (length bs) l)
+      go false = refl
 
-  pub block_cut : 6 ≤ length bs → length bs - 6 < size_at bs → is_block k bs ≡ false
-  block_cut l h = rw (le-leb 6 (length bs) l, lt-leb (6 + size_at bs) (length bs) (omega arith))
-
-  pub block_kind : 6 ≤ length bs → size_at bs ≤ length bs - 6 → is_block k bs ≡ eqb (kind_at bs) k
-  block_kind l h = rw (le-leb 6 (length bs) l, le-leb (6 + size_at bs) (length bs) (omega arith))
+  pub block_kind : 6 + size_at bs ≤ length bs → is_block k bs ≡ eqb (kind_at bs) k
+  block_kind l = rw (le-leb 6 (length bs) (omega arith), le-leb (6 + size_at bs) (length bs) l)
