@@ -64,9 +64,6 @@ module _ (ns us : List ℕ) (whole : rule_width ≤ length us) where
     pub part_long : length (take (n + 1) us) ≡ n + 1
     part_long = length-take-le (n + 1) us (omega arith)
 
-    pub last_long : length (take 1 (drop 5 us)) ≡ 1
-    last_long = ap length last
-
     pub rule_put : (p q r : ℕ) (o : List ℕ) {o₁ o₂ o₃ : List ℕ} → p + (8 + n) ≤ length o → q ≡ p + 6 → r ≡ q + length (take (n + 1) us) →
         o₁ ≡ put_at p (little 4 (n + 2) ++ little 2 3) o → o₂ ≡ put_at q (take (n + 1) us) o₁ → o₃ ≡ put_at r (take 1 (drop 5 us)) o₂ →
         o₃ ≡ put_at p (block_of 3 (rule_body (flat_rule ns us))) o

@@ -10,8 +10,7 @@ use lib.ListN.{length, length-append, length-drop}
 use borrow.Author.Tests.{ne_eqb}
 use Rattle.model.specs.Limits.{most_rules}
 use Rattle.model.specs.Automata.{Rule}
-use Rattle.model.specs.Sound.{alphabet_fits}
-use Rattle.model.specs.Listing.{size_at, body_at, behind, is_block, rule_in, broken, behind_rules, rules_from, finals_fit, read_finals, read_list}
+use Rattle.model.specs.Listing.{size_at, body_at, behind, is_block, rule_in, broken, behind_rules, rules_from, finals_fit, read_finals}
 use Rattle.model.proofs.Laws.RulesRead.{behind_less, rules_end, rules_next, rules_stop, rules_fuel, rules_many}
 use Rattle.list.specs.Blocks.{rules_in, after, is_rule, read_rules}
 use Rattle.list.proofs.Walk.{length_rules_in, after_next, rules_in_next}
@@ -73,25 +72,7 @@ reading_full {ns} {fs} {bs} {at} {n} r l = go (is_block 3 at) refl
     go true e = let b = behind_less 3 at e in reading_many r e l ∙ sym (behind_some ns fs (rules_in n bs) at (omega arith))
 
 -- THE STATES, then the rules
-module _ (ns us : List ℕ) where
-  pub finals_none : is_block 2 us ≡ false → read_finals ns us ≡ broken
-  finals_none e = rw e
-
-  pub finals_unfit : is_block 2 us ≡ true → finals_fit (body_at us) ≡ false → read_finals ns us ≡ broken
-  finals_unfit e f = rw (e, f)
-
-  pub finals_read : is_block 2 us ≡ true → finals_fit (body_at us) ≡ true → read_finals ns us ≡ read_rules ns (body_at us) (behind us)
-  finals_read e f =
-      let l = length-drop (6 + size_at us) us in
-      rw (e, f) (rules_fuel (length us + 1) (length (behind us) + 1) ns (body_at us) [] (behind us) (omega arith) (omega arith))
-
--- THE ALPHABET, then the states
-module _ (bs : List ℕ) where
-  pub alphabet_missing : is_block 1 bs ≡ false → read_list bs ≡ broken
-  alphabet_missing e = rw e
-
-  pub alphabet_unfit : is_block 1 bs ≡ true → alphabet_fits (body_at bs) ≡ false → read_list bs ≡ broken
-  alphabet_unfit e f = rw (e, f)
-
-  pub alphabet_read : is_block 1 bs ≡ true → alphabet_fits (body_at bs) ≡ true → read_list bs ≡ read_finals (body_at bs) (behind bs)
-  alphabet_read e f = rw (e, f)
+pub finals_read : (ns us : List ℕ) → is_block 2 us ≡ true → finals_fit (body_at us) ≡ true → read_finals ns us ≡ read_rules ns (body_at us) (behind us)
+finals_read ns us e f =
+    let l = length-drop (6 + size_at us) us in
+    rw (e, f) (rules_fuel (length us + 1) (length (behind us) + 1) ns (body_at us) [] (behind us) (omega arith) (omega arith))

@@ -1,6 +1,6 @@
 -- The loop that writes rules (§6.1): what is still to be put behind the place is what was to be put at the start.
 -- A rule more is one run put in front of the others.
-use mathlib.Core.Path.{◌≡◌, refl, sym, ap, ◌∙◌}
+use mathlib.Core.Path.{◌≡◌, sym, ap, ◌∙◌}
 use mathlib.Core.List.{List, [], ◌++◌}
 use Prim.Native.Nat.{ℕ, ◌+◌, ◌≤◌, ◌<◌}
 use native.Mathlib.Omega.{arith}
@@ -22,9 +22,6 @@ pub record Writing (counts flat out : List ℕ) (start : ℕ) (now left : List �
   pub long : length now ≡ length out
   pub ends : at + length (blocks counts left) ≡ start + length (blocks counts flat)
   pub bytes : put_at at (blocks counts left) now ≡ put_at start (blocks counts flat) out
-
-pub writing_first : (ns us o : List ℕ) (start : ℕ) → Writing ns us o start o us start
-writing_first ns us o start = record { long = refl; ends = refl; bytes = refl }
 
 module _ {ns us o : List ℕ} {start : ℕ} {now left : List ℕ} {at : ℕ} (w : Writing ns us o start now left at) (fits : start + length (blocks ns us) ≤ length o) where
   -- x is the first rule of what is left, later the others

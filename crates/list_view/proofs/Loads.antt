@@ -59,18 +59,6 @@ module _ (bs : List ℕ) (n : ℕ) (l : counted (Some n) ≡ load_seen bs) where
   read = list_read bs (sheet_in bs) list
 
   -- SIZES
-  pub small_counts : (us : List ℕ) → us ≡ body_at bs → length us ≤ most_symbols
-  small_counts us e =
-      let f = few_symbols bs (sheet_in bs) list in
-      let s : length us ≡ length (automaton_in bs).counts = ap length (e ∙ read.counts) in
-      omega arith
-
-  pub small_finals : (us : List ℕ) → us ≡ body_at (behind bs) → length us ≤ most_states
-  small_finals us e =
-      let f = few_states bs (sheet_in bs) list in
-      let s : length us ≡ length (automaton_in bs).finals = ap length (e ∙ read.finals) in
-      omega arith
-
   pub sizes_read : ◌≡◌ {A = ListSizes} (record { number = 0; symbols = length (body_at bs); states = length (body_at (behind bs)); rules = n }) (sizes_seen bs)
   sizes_read =
       let a = automaton_in bs in
@@ -126,9 +114,3 @@ module _ (bs : List ℕ) (n : ℕ) (l : counted (Some n) ≡ load_seen bs) where
       ap (λ (c : ℕ). record { number = 0; found = 1; symbol = r.symbol; children = c; states = four_places r.states; target = r.target }) c ∙
       ap rule_found (shown_is k) ∙ sym (ap (λ (b : Bool). cond b (rule_found (rule_of d k)) (rule_absent 0)) (lt-ltb k (length d.rules) (has k h))) ∙
       ap (rule_by k) (sym list)
-
-  pub rule_past : (k : ℕ) → n ≤ k → rule_absent 0 ≡ rule_seen bs k
-  rule_past k m =
-      let d = automaton_in bs in
-      let s = size_is in
-      sym (ap (λ (b : Bool). cond b (rule_found (rule_of d k)) (rule_absent 0)) (le-ltb k (length d.rules) (omega arith))) ∙ ap (rule_by k) (sym list)
