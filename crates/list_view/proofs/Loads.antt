@@ -7,12 +7,12 @@ use Rattle.std.specs.Prelude.{Option, Some, None, option_copied}
 use Rattle.std.specs.Slice.{IsItemAt}
 use Rattle.std.proofs.Common.{Bor}
 use Rattle.std.proofs.lemmas.Grind.{common_steps}
-use Prim.Native.Nat.{ℕ, ◌≤◌, ◌<◌}
+use Prim.Native.Nat.{ℕ, ◌<◌}
 use native.Mathlib.Omega.{arith}
 use lib.Dec.{ltb}
 use lib.ListN.{length, get_or}
-use borrow.Author.Tests.{lt-ltb, le-ltb}
-use Rattle.model.specs.Limits.{most_symbols, most_states}
+use borrow.Author.Tests.{lt-ltb}
+use Rattle.model.specs.Limits.{most_states}
 use Rattle.model.specs.Automata.{Rule, target_in}
 use Rattle.model.specs.Listing.{body_at, behind, Read, broken, loaded, read_list}
 use Rattle.model.specs.Entry.{loaded_by, load_seen}
@@ -26,7 +26,7 @@ use Rattle.list_view.specs.declared.ShownRule.{ShownRule}
 use Rattle.list_view.specs.Shown.{found_as, sheet_by, sheet_in, automaton_in, rule_at, rule_shown}
 use Rattle.list_view.specs.Whole.{rule_of}
 use Rattle.list_view.proofs.Views.{List-read, list_read, rule_at_law}
-use Rattle.list_view.proofs.Fits.{few_symbols, few_states, states_counted, target_small}
+use Rattle.list_view.proofs.Fits.{states_counted, target_small}
 
 -- WHAT THE BYTES ARE, by what load says
 pub no_list : (bs : List ℕ) → counted None ≡ load_seen bs → read_list bs ≡ broken

@@ -2,20 +2,18 @@
 -- By the first of the blocks, and by cases on what the bytes read as.
 use mathlib.Core.Path.{◌≡◌, refl, ap, ◌∙◌}
 use mathlib.Core.Bool.{true, false, cond}
-use mathlib.Core.List.{List, [], ◌∷◌}
+use mathlib.Core.List.{List, []}
 use mathlib.Core.Option.{none, some}
 use Prim.Native.Nat.{ℕ, zero, suc, ◌-◌, ◌<◌}
 use native.Mathlib.Omega.{arith}
-use lib.ListN.{get_or}
 use Rattle.model.specs.Automata.{has_left_side, target_in}
 use Rattle.model.specs.Listing.{body_at, behind, rule_in, Read, broken, loaded, read_list}
 use Rattle.model.specs.Entry.{loaded_by, load_seen}
 use Rattle.model.specs.declared.Emitted.{Emitted}
 use Rattle.list.specs.Loaded.{counted}
 use Rattle.std.specs.Prelude.{Some, None}
-use Rattle.list_view.specs.declared.ShownRule.{ShownRule}
 use Rattle.list.specs.Blocks.{rules_in, after}
-use Rattle.list_view.specs.Shown.{state, rule_shown, shown_by, shown_bytes}
+use Rattle.list_view.specs.Shown.{shown_by, shown_bytes}
 use Rattle.list.proofs.Walk.{rules_in_head}
 
 -- BLOCK BY BLOCK
