@@ -2,16 +2,24 @@
 // A transition has MOST_CONTEXTS bytes, one for each context; transitions and representatives are places in T. Proved equal to model's Table and Steps.
 #![tactic(auto)]
 
-ghost use Rattle.std.specs.Prelude.{◌≡◌, true, ℕ, ◌+◌, ◌*◌, ◌<◌, ◌≤◌, length, get_or, take};
+ghost use Rattle.std.specs.Prelude.{◌≡◌, true, ℕ, ◌+◌, ◌*◌, ◌<◌, ◌≤◌, length, get_or, take, IfSome};
 ghost use Rattle.model.specs.Limits.{most_contexts, most_rules, most_states};
 ghost use Rattle.model.specs.Base.{same, among, all_among};
 ghost use Rattle.model.specs.Sound.{differ_known};
-ghost use Rattle.table.specs.Answers.{answers_at, Sized, Forgotten, unknown_in, place_by, gap_from, is_open, state_at, grow_at, grown_by, Placing, Placed};
+ghost use Rattle.table.specs.Answers.{answers_at, Sized, Forgotten, unknown_in, context_by, gap_from, is_open, state_at, grow_at, grown_by, Placing, Placed};
 
 use model::limits::{MOST_CONTEXTS, MOST_STATES};
 use model::{Context, Row, State};
 
 pub mod judge; // judge.rt: T5 and T6
+
+// The answers of a transition at the first `contexts` contexts.
+fn answers(table: &[u8], contexts: usize, a: usize) -> &[u8]
+    requires { Sized table.now (a + 1) contexts }
+    ensures { result.now ≡ answers_at table.now contexts a }
+{
+    &table[MOST_CONTEXTS * a..][..contexts]
+}
 
 // Whether two transitions have the same answers at the first `contexts` contexts.
 pub fn same_answers(table: &[u8], contexts: usize, a: usize, b: usize) -> bool
@@ -76,42 +84,37 @@ pub fn forget(table: &mut [u8], rules: usize)
     }
 }
 
-// The first unknown answer, if any: the transition's place in T, and the context.
+// A gap: an unknown answer, by the transition's place in T and the context.
 #[derive(Clone, Copy)]
-pub enum Gap {
-    Closed,
-    At(u16, Context),
+pub struct Gap {
+    pub rule: u16,
+    pub context: Context,
 }
 
-// The first context at which the answer of a transition is unknown; past the last for none.
-fn first_in(table: &[u8], contexts: usize, a: usize) -> Context
+// The first context at which the answer of a transition is unknown.
+fn first_in(table: &[u8], contexts: usize, a: usize) -> Option<Context>
     requires { Sized table.now (a + 1) contexts }
-    ensures { result.0 ≡ place_by contexts (unknown_in (answers_at table.now contexts a) 0) }
+    ensures { result ≡ context_by (unknown_in (answers_at table.now contexts a) 0) }
 {
-    let mut j = 0;
-    while j < contexts {
-        if table[MOST_CONTEXTS * a + j] == 0 {
-            return Context(j as u16);
-        }
-        j += 1;
-    }
-    Context(contexts as u16)
+    let row = answers(table, contexts, a);
+    let at = row.iter().position(|v| *v == 0)?;
+    Some(Context(at as u16))
 }
 
-// Transitions in order, and for each the contexts in order (§4.2).
-pub fn first_unknown(table: &[u8], rules: usize, contexts: usize) -> Gap
+// The first gap, if any: transitions in order, and for each the contexts in order (§4.2).
+pub fn first_unknown(table: &[u8], rules: usize, contexts: usize) -> Option<Gap>
     requires { Sized table.now rules contexts }
     ensures { result ≡ gap_from table.now contexts 0 rules }
 {
-    let mut k = 0;
-    while k < rules {
-        let context = first_in(table, contexts, k);
-        if (context.0 as usize) < contexts {
-            return Gap::At(k as u16, context);
+    for k in 0..rules {
+        if let Some(context) = first_in(table, contexts, k) {
+            return Some(Gap {
+                rule: k as u16,
+                context: context,
+            });
         }
-        k += 1;
     }
-    Gap::Closed
+    None
 }
 
 // The state of a transition: the first representative with its row; past the last for none.
@@ -140,51 +143,40 @@ pub fn state_of(
     State(states as u16)
 }
 
-// What S has become: more than 32 states were wanted, or its places in T.
+// S as places in T: the first `states` of them.
 #[derive(Clone, Copy)]
-pub struct Growth {
-    pub ok: bool,
+pub struct Places {
     pub states: u16,
     pub s: [u16; MOST_STATES],
 }
 
-// T in order: each transition whose row no representative has becomes one (§4.3).
+// T in order: each transition whose row no representative has becomes one (§4.3). None where a 33rd state was wanted.
 pub fn grow(
     table: &[u8],
     rules: usize,
     contexts: usize,
     s_in_t: [u16; MOST_STATES],
     states: u16,
-) -> Growth
+) -> Option<Places>
     requires { Sized table.now rules contexts
         × (states ≤ most_states)
         × ((i : ℕ) → i < states → get_or s_in_t i 0 < rules) }
     ensures grown_by { grown_by (grow_at table.now contexts rules (take states s_in_t)) result }
-    ensures below { (i : ℕ) → i < result.states → get_or result.s i 0 < rules }
+    ensures below { IfSome result (λ p. (i : ℕ) → i < p.states → get_or p.s i 0 < rules) }
 {
-    let mut ps = s_in_t;
+    let mut s = s_in_t;
     let mut n = states;
-    let mut k = 0;
-    while k < rules {
-        let q = state_of(table, rules, contexts, &ps, n as usize, k);
+    for k in 0..rules {
+        let q = state_of(table, rules, contexts, &s, n as usize, k);
         if q.0 == n {
             if n as usize == MOST_STATES {
-                return Growth {
-                    ok: false,
-                    states: n,
-                    s: ps,
-                };
+                return None;
             }
-            ps[n as usize] = k as u16;
+            s[n as usize] = k as u16;
             n += 1;
         }
-        k += 1;
     }
-    Growth {
-        ok: true,
-        states: n,
-        s: ps,
-    }
+    Some(Places { states: n, s: s })
 }
 
 // S by its places in T.
@@ -211,8 +203,5 @@ pub fn is_missing(table: &[u8], rules: usize, contexts: usize) -> bool
     requires { Sized table.now rules contexts }
     ensures { result ≡ is_open (gap_from table.now contexts 0 rules) }
 {
-    match first_unknown(table, rules, contexts) {
-        Gap::Closed => false,
-        Gap::At(_, _) => true,
-    }
+    first_unknown(table, rules, contexts).is_some()
 }

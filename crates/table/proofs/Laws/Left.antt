@@ -3,20 +3,18 @@
 use mathlib.Core.Path.{◌≡◌, sym}
 use mathlib.Core.Bool.{true, false}
 use mathlib.Core.List.{List, [], ◌∷◌}
-use mathlib.Core.Option.{none, some}
 use Prim.Native.Nat.{ℕ, ◌+◌, ◌*◌, ◌≤◌, ◌<◌}
-use native.Mathlib.Numerals.{add-one}
 use native.Mathlib.Omega.{arith}
 use borrow.Author.Tests.{eq-eqb, ne_eqb, lt-ltb}
 use lib.ListN.{get_or, drop}
 use Rattle.model.specs.Base.{same, among}
 use Rattle.model.specs.Sound.{differ_known}
 use Rattle.model.specs.Limits.{most_contexts}
-use Rattle.table.specs.Answers.{answers_at, Sized, unknown_in}
+use Rattle.table.specs.Answers.{answers_at, Sized}
 use Rattle.table.proofs.Laws.Rows.{row_fits, row_more, row_end}
 
 module _ {tb : List ℕ} {m : ℕ} where
-  -- ONE ROW: an answer that it has, and the first unknown one
+  -- ONE ROW: an answer that it has
   module _ (a : ℕ) (p : Sized tb (a + 1) m) where
     more : (j : ℕ) → j < m → drop j (answers_at tb m a) ≡ get_or tb (most_contexts * a + j) 0 ∷ drop (j + 1) (answers_at tb m a)
     more j l = row_more tb m a j (row_fits tb (a + 1) m a p (omega arith)) l
@@ -35,18 +33,6 @@ module _ {tb : List ℕ} {m : ℕ} where
     pub among_end : (v j : ℕ) → m ≤ j → among v (drop j (answers_at tb m a)) ≡ false
     unfolding among
     among_end v j l = rw (done j l)
-
-    pub unknown_hit : (j : ℕ) → j < m → get_or tb (most_contexts * a + j) 0 ≡ 0 → unknown_in (drop j (answers_at tb m a)) j ≡ some j
-    unfolding unknown_in
-    unknown_hit j l e = rw (more j l, eq-eqb _ _ e)
-
-    pub unknown_pass : (j : ℕ) → j < m → (get_or tb (most_contexts * a + j) 0 ≡ 0 → ⊥) → unknown_in (drop j (answers_at tb m a)) j ≡ unknown_in (drop (j + 1) (answers_at tb m a)) (j + 1)
-    unfolding unknown_in
-    unknown_pass j l e = rw (more j l, ne_eqb _ 0 e, ← add-one j)
-
-    pub unknown_end : (j : ℕ) → m ≤ j → unknown_in (drop j (answers_at tb m a)) j ≡ none
-    unfolding unknown_in
-    unknown_end j l = rw (done j l)
 
   -- TWO ROWS: equal, or different where both answers are known
   module _ (a b : ℕ) (p : Sized tb (a + 1) m) (q : Sized tb (b + 1) m) where
