@@ -22,18 +22,12 @@ fn answers(table: &[u8], contexts: usize, a: usize) -> &[u8]
 }
 
 // Whether two transitions have the same answers at the first `contexts` contexts.
+#[tactic(auto, using(model::proofs::Laws::Methods::pointwise_same))]
 pub fn same_answers(table: &[u8], contexts: usize, a: usize, b: usize) -> bool
     requires { Sized table.now (a + 1) contexts × Sized table.now (b + 1) contexts }
     ensures { result ≡ same (answers_at table.now contexts a) (answers_at table.now contexts b) }
 {
-    let mut j = 0;
-    while j < contexts {
-        if table[MOST_CONTEXTS * a + j] != table[MOST_CONTEXTS * b + j] {
-            return false;
-        }
-        j += 1;
-    }
-    true
+    answers(table, contexts, a) == answers(table, contexts, b)
 }
 
 // Whether two transitions differ at a context where both answers are known.
@@ -41,20 +35,11 @@ pub fn differ_known(table: &[u8], contexts: usize, a: usize, b: usize) -> bool
     requires { Sized table.now (a + 1) contexts × Sized table.now (b + 1) contexts }
     ensures { result ≡ differ_known (answers_at table.now contexts a) (answers_at table.now contexts b) }
 {
-    let mut j = 0;
-    while j < contexts {
-        let v = table[MOST_CONTEXTS * a + j];
-        let w = table[MOST_CONTEXTS * b + j];
-        if v != 0 {
-            if w != 0 {
-                if v != w {
-                    return true;
-                }
-            }
-        }
-        j += 1;
-    }
-    false
+    let row = answers(table, contexts, a);
+    let other = answers(table, contexts, b);
+    row.iter()
+        .zip(other)
+        .any(|(v, w)| *v != 0 && *w != 0 && v != w)
 }
 
 // Whether a transition has an answer at some context: 2 for a yes, 0 for an unknown one.
@@ -62,14 +47,7 @@ pub fn has_answer(table: &[u8], contexts: usize, a: usize, answer: u8) -> bool
     requires { Sized table.now (a + 1) contexts }
     ensures { result ≡ among answer (answers_at table.now contexts a) }
 {
-    let mut j = 0;
-    while j < contexts {
-        if table[MOST_CONTEXTS * a + j] == answer {
-            return true;
-        }
-        j += 1;
-    }
-    false
+    answers(table, contexts, a).contains(&answer)
 }
 
 // The first answer of each transition made unknown: of a table that no longer holds, no row is then taken for known.
@@ -77,10 +55,8 @@ pub fn forget(table: &mut [u8], rules: usize)
     requires { (most_contexts * rules ≤ length table.old) × (rules ≤ most_rules) }
     ensures { Forgotten rules table.new }
 {
-    let mut k = 0;
-    while k < rules {
+    for k in 0..rules {
         table[MOST_CONTEXTS * k] = 0;
-        k += 1;
     }
 }
 
@@ -133,12 +109,10 @@ pub fn state_of(
         × ((i : ℕ) → i < states → get_or s_in_t.now i 0 < rules) }
     ensures { result.0 ≡ state_at table.now contexts (take states s_in_t.now) a }
 {
-    let mut q = 0;
-    while q < states {
-        if same_answers(table, contexts, a, s_in_t[q] as usize) {
+    for (q, p) in s_in_t[..states].iter().enumerate() {
+        if same_answers(table, contexts, a, *p as usize) {
             return State(q as u16);
         }
-        q += 1;
     }
     State(states as u16)
 }
@@ -190,11 +164,8 @@ pub fn find_s_in_t(s: &[u16], t: &[u16], s_in_t: &mut [u16; MOST_STATES])
         Placing s_in_t.new states rules
         × Placed t.now rules s.now states s_in_t.new }
 {
-    let mut i = 0;
-    while i < s.len() {
-        let at = run_lists::place_of(t, Row(s[i]));
-        s_in_t[i] = at as u16;
-        i += 1;
+    for (i, row) in s.iter().enumerate() {
+        s_in_t[i] = run_lists::place_of(t, Row(*row)) as u16;
     }
 }
 

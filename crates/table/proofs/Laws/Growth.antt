@@ -38,18 +38,18 @@ left n ps h q l =
 pub left_none : (n : ℕ) (ps : List ℕ) → n ≤ length ps → (q : ℕ) → n ≤ q → drop q (take n ps) ≡ []
 left_none n ps h q l = drop_of_length-le (take n ps) {i = q} (let e = length-take-le n ps h in omega arith)
 
-module _ (r : ℕ → List ℕ) (v : List ℕ) (n : ℕ) (ps : List ℕ) (h : n ≤ length ps) (q : ℕ) where
-  pub state_hit : (b : Bool) → q < n → b ≡ same v (r (get_or ps q 0)) → b ≡ true → state_from r v q (drop q (take n ps)) ≡ q
+module _ (r : ℕ → List ℕ) (v ps : List ℕ) (q : ℕ) where
+  pub state_hit : (b : Bool) → q < length ps → b ≡ same v (r (get_or ps q 0)) → b ≡ true → state_from r v q (drop q ps) ≡ q
   unfolding state_from
-  state_hit b l e t = rw (left n ps h q l, ← e, t)
+  state_hit b l e t = rw (drop-cons ps q 0 l, ← e, t)
 
-  pub state_pass : (b : Bool) → q < n → b ≡ same v (r (get_or ps q 0)) → b ≡ false → state_from r v q (drop q (take n ps)) ≡ state_from r v (q + 1) (drop (q + 1) (take n ps))
+  pub state_pass : (b : Bool) → q < length ps → b ≡ same v (r (get_or ps q 0)) → b ≡ false → state_from r v q (drop q ps) ≡ state_from r v (q + 1) (drop (q + 1) ps)
   unfolding state_from
-  state_pass b l e t = rw (left n ps h q l, ← e, t, ← add-one q)
+  state_pass b l e t = rw (drop-cons ps q 0 l, ← e, t, add-one q)
 
-  pub state_end : n ≤ q → state_from r v q (drop q (take n ps)) ≡ q
+  pub state_end : length ps ≤ q → state_from r v q (drop q ps) ≡ q
   unfolding state_from
-  state_end l = rw (left_none n ps h q l)
+  state_end l = rw (drop_of_length-le ps {i = q} l)
 
 -- T from k on
 pub rest : (n k : ℕ) → k < n → places_from k (n - k) ≡ k ∷ places_from (k + 1) (n - (k + 1))
