@@ -42,13 +42,9 @@ pub fn proposed(lists: Lists, table: &[u8]) -> Result<Lists, Refusal>
     let mut s_in_t = [0u16; MOST_STATES];
     table::find_s_in_t(&s[..states], &t[..rules], &mut s_in_t);
     let contexts = lists.contexts as usize;
-    let grown = table::grow(table, rules, contexts, s_in_t, lists.states);
-    let ok = grown.ok;
-    if !ok {
+    let Some(grown) = table::grow(table, rules, contexts, s_in_t, lists.states) else {
         return Err(Refusal::StatesShort);
-    }
-    let then = grown.s;
-    let n = grown.states;
-    write_states(&t[..rules], &then, n as usize, &mut s);
-    Ok(change::proposing(lists, s, n))
+    };
+    write_states(&t[..rules], &grown.s, grown.states as usize, &mut s);
+    Ok(change::proposing(lists, s, grown.states))
 }
