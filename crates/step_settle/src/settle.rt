@@ -9,10 +9,10 @@ ghost use Rattle.run_lists.specs.Members.{counts_in};
 ghost use Rattle.run_lists.specs.Run.{Run};
 ghost use Rattle.step_settle.specs.Stepped.{KnownTable, EndedAs};
 
-use crate::{Stepped, opened, propose};
+use crate::{opened, propose};
 use bank_fill::context;
+use model::refusal::Refusal;
 use model::{Lists, Row};
-use table::Gap;
 
 // The first unknown is asked, or the automaton is proposed. Rows of the table without an unknown answer are right.
 pub fn settled(
@@ -21,7 +21,7 @@ pub fn settled(
     index: &mut [u16],
     table: &mut [u8],
     notes: &mut [u16],
-) -> Stepped
+) -> Result<Lists, Refusal>
     requires { Bank words.old (counts_in lists) lists.used index.old
         × Run words.old lists
         × NotesFor words.old notes.old
@@ -40,13 +40,11 @@ pub fn settled(
     let c = lists.c;
     let c = &c[..contexts];
     let n = table_answers::observe_to_gap(words, counts, used, index, t, c, table, notes);
-    match table::first_unknown(table, n, contexts) {
-        Gap::Closed => propose::proposed(lists, table),
-        Gap::At(k, context) => {
-            let around = Row(c[context.0 as usize]);
-            let with = Row(t[k as usize]);
-            let grown = context::fill_context(words, counts, used, index, around, with, notes);
-            opened(lists, Row(0), grown)
-        }
-    }
+    let Some(gap) = table::first_unknown(table, n, contexts) else {
+        return propose::proposed(lists, table);
+    };
+    let around = Row(c[gap.context.0 as usize]);
+    let with = Row(t[gap.rule as usize]);
+    let added = context::fill_context(words, counts, used, index, around, with, notes);
+    opened(lists, Row(0), added)
 }

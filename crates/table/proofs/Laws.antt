@@ -1,6 +1,6 @@
 -- The laws, in reading order: a file uses those above it.
 pub mod Rows
-pub mod Left
+pub mod Differ
 pub mod Gap
 pub mod Growth
 pub mod Judge

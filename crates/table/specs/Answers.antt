@@ -1,13 +1,15 @@
 -- The table of answers (§1.5) that a call works out: `most_contexts` numbers for each transition, one for each context; S as places in T.
-use Rattle.std.specs.Prelude.{◌≡◌, Bool, true, false, cond, List, [], ◌∷◌, map, ℕ, zero, suc, ◌*◌, ◌≤◌, ◌<◌, eqb, length, get_or, take, drop}
-use Rattle.std.proofs.Math.Option.{Option, none, some}
+use Rattle.std.specs.Prelude.{◌≡◌, Bool, true, false, cond, List, [], ◌∷◌, map, ℕ, zero, suc, ◌*◌, ◌≤◌, ◌<◌, eqb, length, get_or, take, drop, Option, None, Some}
+use Rattle.std.proofs.Math.Option as maybe
+use Rattle.std.proofs.Math.Option.{none, some}
 use Rattle.model.specs.Limits.{most_rules, most_contexts, most_states}
 use Rattle.model.specs.Base.{among}
 use Rattle.model.specs.Store.{Store}
 use Rattle.model.specs.Table.{answers_of, state_from}
 use Rattle.model.specs.Steps.{Sought, none_unknown, unknown, grow}
+use Rattle.model.specs.declared.Context.{Context}
 use Rattle.table.specs.declared.Gap.{Gap}
-use Rattle.table.specs.declared.Growth.{Growth}
+use Rattle.table.specs.declared.Places.{Places}
 
 -- the first m answers of the k-th transition
 abbrev pub answers_at : (table : List ℕ) → (m k : ℕ) → List ℕ
@@ -20,21 +22,21 @@ pub record Sized (table : List ℕ) (n m : ℕ) : Type 0 where
   pub few_c : m ≤ most_contexts
 
 -- THE FIRST UNKNOWN (§4.2) by places: transitions in order, and for each the contexts in order
-unfoldable pub unknown_in : (row : List ℕ) → (from : ℕ) → Option ℕ
+unfoldable pub unknown_in : (row : List ℕ) → (from : ℕ) → maybe.Option ℕ
 unknown_in [] j = none
 unknown_in (v ∷ vs) j = cond (eqb v 0) (some j) (unknown_in vs (suc j))
 
--- the place of the first unknown one, m for none
-abbrev pub place_by : (m : ℕ) → Option ℕ → ℕ
-place_by m none = m
-place_by m (some j) = j
+-- the context at the place of the first unknown one
+abbrev pub context_by : maybe.Option ℕ → Option Context
+context_by none = None
+context_by (some j) = Some (record { 0 = j })
 
-abbrev pub gap_by : (k : ℕ) → Option ℕ → Gap → Gap
+abbrev pub gap_by : (k : ℕ) → maybe.Option ℕ → Option Gap → Option Gap
 gap_by k none next = next
-gap_by k (some j) next = Gap.At k (record { 0 = j })
+gap_by k (some j) next = Some (record { rule = k; context = record { 0 = j } })
 
-unfoldable pub gap_from : (table : List ℕ) → (m k count : ℕ) → Gap
-gap_from tb m k zero = Gap.Closed
+unfoldable pub gap_from : (table : List ℕ) → (m k count : ℕ) → Option Gap
+gap_from tb m k zero = None
 gap_from tb m k (suc n) = gap_by k (unknown_in (answers_at tb m k) 0) (gap_from tb m (suc k) n)
 
 -- THE STATE of the k-th transition: S holds places in T
@@ -46,11 +48,12 @@ unfoldable pub places_from : (from count : ℕ) → List ℕ
 places_from k zero = []
 places_from k (suc n) = k ∷ places_from (suc k) n
 
-abbrev pub grown_by : (s : Option (List ℕ)) → Growth → Type 0
-grown_by none r = r.ok ≡ false
-grown_by (some s) r = (r.ok ≡ true) × (take r.states r.s ≡ s) × (r.states ≡ length s)
+abbrev pub grown_by : (s : maybe.Option (List ℕ)) → Option Places → Type 0
+grown_by none r = r ≡ None
+grown_by (some s) None = ⊥
+grown_by (some s) (Some p) = (take p.states p.s ≡ s) × (p.states ≡ length s)
 
-abbrev pub grow_at : (table : List ℕ) → (m n : ℕ) → (s : List ℕ) → Option (List ℕ)
+abbrev pub grow_at : (table : List ℕ) → (m n : ℕ) → (s : List ℕ) → maybe.Option (List ℕ)
 grow_at tb m n s = grow (answers_at tb m) s (places_from 0 n)
 
 -- TIED to a store: the first n rows hold the answers of the first n of T at the first m of C
@@ -62,7 +65,7 @@ pub record Observed (x : Store) (w t : List ℕ) (n : ℕ) (c : List ℕ) (m : �
 pub record ToGap (x : Store) (w t : List ℕ) (n : ℕ) (c : List ℕ) (m : ℕ) (table : List ℕ) (r : ℕ) : Type 0 where
   pub few : r ≤ n
   pub observed : Observed x w t r c m table
-  pub whole : gap_from table m 0 r ≡ Gap.Closed → r ≡ n
+  pub whole : gap_from table m 0 r ≡ None → r ≡ n
 
 -- a table of which only rows without an unknown answer are trusted: each of those is right
 pub record KnownRows (x : Store) (w t : List ℕ) (n : ℕ) (c : List ℕ) (m : ℕ) (table : List ℕ) : Type 0 where
@@ -84,13 +87,13 @@ pub record Placing (s_in_t : List ℕ) (q n : ℕ) : Type 0 where
   pub within : (i : ℕ) → i < q → get_or s_in_t i 0 < n
 
 -- the question at a gap, and whether there is one
-abbrev pub sought_by : (t c : List ℕ) → Gap → Sought
-sought_by t c Gap.Closed = none_unknown
-sought_by t c (Gap.At k j) = unknown (get_or c j.0 0) (get_or t k 0)
+abbrev pub sought_by : (t c : List ℕ) → Option Gap → Sought
+sought_by t c None = none_unknown
+sought_by t c (Some gap) = unknown (get_or c gap.context.0 0) (get_or t gap.rule 0)
 
-abbrev pub is_open : Gap → Bool
-is_open Gap.Closed = false
-is_open (Gap.At k j) = true
+abbrev pub is_open : Option Gap → Bool
+is_open None = false
+is_open (Some gap) = true
 
 -- the members of T at places
 abbrev pub rows_at : (t s_in_t : List ℕ) → List ℕ

@@ -11,14 +11,7 @@ pub fn all_yes(table: &[u8], rules: usize, contexts: usize) -> bool
     requires { Sized table.now rules contexts }
     ensures { result ≡ all (λ (k : ℕ). among 2 (answers_at table.now contexts k)) (places_from 0 rules) }
 {
-    let mut k = 0;
-    while k < rules {
-        if !crate::has_answer(table, contexts, k, 2) {
-            return false;
-        }
-        k += 1;
-    }
-    true
+    (0..rules).all(|k| crate::has_answer(table, contexts, k, 2))
 }
 
 // Whether a transition differs from every representative from a place on.
@@ -38,14 +31,10 @@ fn differs(
     ensures { let row = answers_at table.now contexts in
         result ≡ all (differ_known (row a)) (map row (drop from (take states s_in_t.now))) }
 {
-    let mut q = from;
-    while q < states {
-        if !crate::differ_known(table, contexts, a, s_in_t[q] as usize) {
-            return false;
-        }
-        q += 1;
-    }
-    true
+    let others = &s_in_t[from..states];
+    others
+        .iter()
+        .all(|p| crate::differ_known(table, contexts, a, *p as usize))
 }
 
 // Whether each two representatives differ at a context where both answers are known.
@@ -59,22 +48,15 @@ pub fn all_differ(
     requires { Sized table.now rules contexts × Placing s_in_t.now states rules }
     ensures { result ≡ all_differ (map (answers_at table.now contexts) (take states s_in_t.now)) }
 {
-    let mut q = 0;
-    while q < states {
-        if !differs(
-            table,
-            rules,
-            contexts,
-            s_in_t,
-            states,
-            q + 1,
-            s_in_t[q] as usize,
-        ) {
-            return false;
-        }
-        q += 1;
-    }
-    true
+    (0..states).all(|q| differs(
+        table,
+        rules,
+        contexts,
+        s_in_t,
+        states,
+        q + 1,
+        s_in_t[q] as usize,
+    ))
 }
 
 // How many representatives have a transition's row.
@@ -85,18 +67,16 @@ fn count_same(
     s_in_t: &[u16; MOST_STATES],
     states: usize,
     a: usize,
-) -> u8
+) -> usize
     requires { Sized table.now rules contexts × (a < rules) × Placing s_in_t.now states rules }
     ensures { let row = answers_at table.now contexts in
         result ≡ count_same (row a) (map row (take states s_in_t.now)) }
 {
-    let mut n: u8 = 0;
-    let mut q = 0;
-    while q < states {
-        if crate::same_answers(table, contexts, a, s_in_t[q] as usize) {
+    let mut n = 0;
+    for p in &s_in_t[..states] {
+        if crate::same_answers(table, contexts, a, *p as usize) {
             n += 1;
         }
-        q += 1;
     }
     n
 }
@@ -114,12 +94,5 @@ pub fn all_once(
         let own = map row (take states s_in_t.now) in
         result ≡ all (λ (k : ℕ). eqb (count_same (row k) own) 1) (places_from 0 rules) }
 {
-    let mut k = 0;
-    while k < rules {
-        if count_same(table, rules, contexts, s_in_t, states, k) != 1 {
-            return false;
-        }
-        k += 1;
-    }
-    true
+    (0..rules).all(|k| count_same(table, rules, contexts, s_in_t, states, k) == 1)
 }

@@ -26,7 +26,7 @@ returns c =
     let s = start d in
     at_fault s.args.words.now s.args.counts.now s.args.used s.args.symbols.now (λ e. c.before.if-record_fault-ne0.true (d.record_fault.ensures ∙ e)) c.refused.ensures
 
-store-requires : tie.Need-store-grown-requires
+store-requires : tie.Need-store-requires
 store-requires c κs =
     let d = c.before.before in
     let s = start d.before in
@@ -47,7 +47,7 @@ returns-2 c =
     let f = c.before.before.before.before.before in
     let d = f.before.before.before in
     let s = start d.before in
-    stored-law s.args.words.now s.args.counts.now s.args.used s.args.symbols.now (faultless d) c.reply_of.ensures (record { came = f.store-grown.ensures })
+    stored-law s.args.words.now s.args.counts.now s.args.used s.args.symbols.now (faultless d) c.reply_of.ensures (record { came = f.store.ensures })
 
 pub stored_spec : {M : Type 1} → statement M
 stored_spec =

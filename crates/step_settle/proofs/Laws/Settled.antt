@@ -3,12 +3,14 @@
 use mathlib.Core.Path.{◌≡◌, refl, sym, ap, subst, ◌∙◌}
 use mathlib.Core.Bool.{true, false}
 use mathlib.Core.List.{List}
-use mathlib.Core.Option.{Option, none, some}
+use mathlib.Core.Option.{none, some}
+use mathlib.Core.Option as maybe
 use Prim.Native.Nat.{ℕ, ◌≤◌, ◌<◌}
 use native.Mathlib.Omega.{arith}
 use lib.Dec.{eqb}
 use lib.ListN.{length, get_or}
 use lib.Seq.{take-length}
+use Rattle.std.proofs.Common.{Option, None, Some, Result, Ok}
 use Rattle.model.specs.Limits.{most_contexts}
 use Rattle.model.specs.Base.{all_among, over}
 use Rattle.model.specs.Store.{has_hole, frames_of, fill}
@@ -17,12 +19,14 @@ use Rattle.model.specs.Steps.{Sought, seek, grow, proposed, settled_by, settled}
 use Rattle.model.specs.Facts.{IsContext, Fits}
 use Rattle.model.specs.Entry.{Arrays, tables_of, lists_of}
 use Rattle.model.specs.declared.Lists.{Lists}
+use Rattle.model.specs.declared.refusal.Refusal.{Refusal}
+use Rattle.model.specs.Refusals.{refused_by}
 use Rattle.model.proofs.Laws.Lists.{at_place, members_in, each_from}
 use Rattle.model.proofs.Laws.Down.{context_fits}
 use Rattle.model.proofs.Laws.ReflectLists.{context_back}
 use Rattle.model.proofs.Laws.Lent.{over_take, lists_fit_facts}
 use Rattle.bank.proofs.Laws.Words.{used_of, answer_in_law}
-use Rattle.bank_fill.specs.declared.add.Grown.{Grown}
+use Rattle.bank_fill.specs.declared.add.Added.{Added}
 use Rattle.bank_fill.proofs.Laws.Coming.{Comes}
 use Rattle.bank_fill.proofs.Laws.Left.{left_same}
 use Rattle.run_lists.specs.Members.{counts_in, states_in, rules_in, contexts_in}
@@ -34,7 +38,6 @@ use Rattle.table.specs.declared.Gap.{Gap}
 use Rattle.table.proofs.Laws.ToGap.{sought_to_gap}
 use Rattle.table_columns.specs.Columns.{Answered, Contexts, Used}
 use Rattle.table_answers.proofs.Laws.Cut.{known_cut, observed_whole}
-use Rattle.step_settle.specs.declared.Stepped.{Stepped}
 use Rattle.step_settle.specs.Stepped.{KnownTable, GrownAs, ProposedAs, OpenedAs}
 use Rattle.step_settle.proofs.Laws.Gap.{Within, gap_within}
 use Rattle.step_settle.proofs.Laws.Ends.{Ends, ends_by, handed, question_ends}
@@ -74,7 +77,7 @@ module _ {ws : List ℕ} {l : Lists} (run : Run ws l) (a : Arrays l) {tb : List 
   pub worked_sized : Sized tb rows l.contexts
   worked_sized = subst (Sized tb rows) told w.to_gap.observed.sized
 
-  module _ {p : Gap} (gap : gap_from tb l.contexts 0 rows ≡ p) where
+  module _ {p : Option Gap} (gap : gap_from tb l.contexts 0 rows ≡ p) where
     gap_is : gap_from tb (length (contexts_in l)) 0 rows ≡ p
     gap_is = ap (λ (m : ℕ). gap_from tb m 0 rows) told ∙ gap
 
@@ -110,7 +113,7 @@ module _ {ws : List ℕ} {l : Lists} (run : Run ws l) (a : Arrays l) {tb : List 
         asked = 0;
       }
 
-  module _ (closed : gap_from tb l.contexts 0 rows ≡ Gap.Closed) where
+  module _ (closed : gap_from tb l.contexts 0 rows ≡ None) where
     observed : Observed (tables_of ws l).store (tables_of ws l).answers l.t l.rules l.c l.contexts tb
     observed =
         let x = tables_of ws l in
@@ -121,46 +124,46 @@ module _ {ws : List ℕ} {l : Lists} (run : Run ws l) (a : Arrays l) {tb : List 
     pub closed_sized : Sized tb l.rules l.contexts
     closed_sized = observed.sized
 
-    pub closed_ends : l.hand ≡ 0 → l.asked ≡ 0 → l.accepted ≡ 0 → (r : Stepped) → ProposedAs l tb r → Ends ws l (settled (tables_of ws l)) r ws
+    pub closed_ends : l.hand ≡ 0 → l.asked ≡ 0 → l.accepted ≡ 0 → (r : Result Lists Refusal) → ProposedAs l tb r → Ends ws l (settled (tables_of ws l)) r ws
     closed_ends h o z r f =
         let x : Tables = handed ws l 0 in
         ends_by (settled_as h o z (sought closed)) (go (grow (row_of x) x.s x.t) (f x.store x.answers observed))
       where
-        go : (g : Option (List ℕ)) → GrownAs l g r → Ends ws l (proposed (handed ws l 0) g) r ws
-        go none b = record { ended = (b, record { same_size = refl; same_rows = refl }) }
-        go (some s) b = record { ended = (b.0, b.1 ∙ proposing_is s, left_same ws (counts_in l) l.used) }
+        go : (g : maybe.Option (List ℕ)) → GrownAs l g r → Ends ws l (proposed (handed ws l 0) g) r ws
+        go none b = record { ended = (ap refused_by b, record { same_size = refl; same_rows = refl }) }
+        go (some s) b = record { ended = (b ∙ ap Ok (proposing_is s), left_same ws (counts_in l) l.used) }
 
-  -- ONE UNKNOWN: the context at place j filled with the transition at place k
-  module _ {k j : ℕ} (gap : gap_from tb l.contexts 0 rows ≡ Gap.At k (record { 0 = j })) where
-    places : Within (length (rules_in l)) (length (contexts_in l)) k j
+  -- ONE UNKNOWN: the gap's context filled with its transition
+  module _ {gap : Gap} (is : gap_from tb l.contexts 0 rows ≡ Some gap) where
+    places : Within (length (rules_in l)) (length (contexts_in l)) gap.rule gap.context.0
     places =
-        let p = gap_within tb rows (length (contexts_in l)) w.to_gap.observed.sized k j (gap_is gap) in
+        let p = gap_within tb rows (length (contexts_in l)) w.to_gap.observed.sized gap (gap_is is) in
         record { rule = omega (arith, p.rule, w.to_gap.few); context = p.context }
 
-    pub rule_within : k < length (rules_in l)
+    pub rule_within : gap.rule < length (rules_in l)
     rule_within = places.rule
 
-    pub context_within : j < length (contexts_in l)
+    pub context_within : gap.context.0 < length (contexts_in l)
     context_within = places.context
 
-    is_context_law : IsContext (tables_of ws l).store (get_or (contexts_in l) j 0)
-    is_context_law = run.orderly.context (get_or (contexts_in l) j 0) (at_place (contexts_in l) j places.context)
+    is_context_law : IsContext (tables_of ws l).store (get_or (contexts_in l) gap.context.0 0)
+    is_context_law = run.orderly.context (get_or (contexts_in l) gap.context.0 0) (at_place (contexts_in l) gap.context.0 places.context)
 
-    pub context_used : get_or (contexts_in l) j 0 < l.used
+    pub context_used : get_or (contexts_in l) gap.context.0 0 < l.used
     context_used = omega (arith, is_context_law.within, used_of ws (counts_in l) l.used)
 
-    pub context_holed : has_hole (tables_of ws l).store (get_or (contexts_in l) j 0) ≡ true
+    pub context_holed : has_hole (tables_of ws l).store (get_or (contexts_in l) gap.context.0 0) ≡ true
     context_holed = is_context_law.hole
 
-    pub rule_used : get_or (rules_in l) k 0 < l.used
-    rule_used = used_rules run k places.rule
+    pub rule_used : get_or (rules_in l) gap.rule 0 < l.used
+    rule_used = used_rules run gap.rule places.rule
 
-    frames_fit : Fits (tables_of ws l).store (frames_of (tables_of ws l).store (get_or (contexts_in l) j 0))
-    frames_fit = context_fits (tables_of ws l).store run.orderly.good (get_or (contexts_in l) j 0) is_context_law.within is_context_law.hole
+    frames_fit : Fits (tables_of ws l).store (frames_of (tables_of ws l).store (get_or (contexts_in l) gap.context.0 0))
+    frames_fit = context_fits (tables_of ws l).store run.orderly.good (get_or (contexts_in l) gap.context.0 0) is_context_law.within is_context_law.hole
 
-    pub open_ends : l.hand ≡ 0 → l.asked ≡ 0 → l.accepted ≡ 0 → {g : Grown} {us ix : List ℕ} →
-        Comes ws (counts_in l) l.used (fill (tables_of ws l).store (frames_of (tables_of ws l).store (get_or (contexts_in l) j 0)) (get_or (rules_in l) k 0)) g us ix →
-        (r : Stepped) → OpenedAs l 0 g r → Ends ws l (settled (tables_of ws l)) r us
+    pub open_ends : l.hand ≡ 0 → l.asked ≡ 0 → l.accepted ≡ 0 → {g : Option Added} {us ix : List ℕ} →
+        Comes ws (counts_in l) l.used (fill (tables_of ws l).store (frames_of (tables_of ws l).store (get_or (contexts_in l) gap.context.0 0)) (get_or (rules_in l) gap.rule 0)) g us ix →
+        (r : Result Lists Refusal) → OpenedAs l 0 g r → Ends ws l (settled (tables_of ws l)) r us
     open_ends h o z {g} d r e =
-        ends_by (settled_as h o z (sought gap))
-        (question_ends run a (frames_of (tables_of ws l).store (get_or (contexts_in l) j 0)) frames_fit 0 (get_or (rules_in l) k 0) rule_used r g d e)
+        ends_by (settled_as h o z (sought is))
+        (question_ends run a (frames_of (tables_of ws l).store (get_or (contexts_in l) gap.context.0 0)) frames_fit 0 (get_or (rules_in l) gap.rule 0) rule_used r g d e)

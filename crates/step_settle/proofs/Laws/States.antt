@@ -1,27 +1,30 @@
 -- S by its places in T: grown, its members are as many as are told; written back one after the other, they stand over what S held.
 -- A member written behind new contents is one more of them. S grown by places is S grown by rows, so it is what model proposes.
 use mathlib.Core.Path.{◌≡◌, refl, sym, ap, subst, ◌∙◌}
-use mathlib.Core.Bool.{true, false, true≢false}
+use mathlib.Core.Bool.{true}
 use mathlib.Core.List.{List, [], ◌∷◌, ◌++◌}
-use mathlib.Core.Option.{Option, none, some}
+use mathlib.Core.Option as maybe
+use mathlib.Core.Option.{none, some}
 use Prim.Native.Nat.{ℕ, zero, suc, ◌+◌, ◌≤◌, ◌<◌}
 use native.Mathlib.Numerals.{add-one}
 use native.Mathlib.Omega.{arith}
 use lib.ListN.{length, get_or, take, set, length-map}
 use lib.Seq.{length-take-le, get_or-take}
+use Rattle.std.proofs.Common.{None, Some, Result, Ok, Err}
 use Rattle.model.specs.Limits.{most_states}
 use Rattle.model.specs.Base.{over}
 use Rattle.model.specs.Entry.{Arrays, lists_fit}
 use Rattle.model.specs.declared.Lists.{Lists}
+use Rattle.model.specs.declared.refusal.Refusal.{Refusal}
+use Rattle.model.specs.declared.refusal.Refusal.TheVariants.{StatesShort}
 use Rattle.model.proofs.Laws.Lent.{lists_fit_facts}
 use Rattle.run_lists.specs.Members.{states_in, rules_in}
 use Rattle.run_lists.specs.Changes.{proposing}
 use Rattle.run_lists.proofs.Laws.Arrays.{few_states, few_rules}
 use Rattle.table.specs.Answers.{grow_at, grown_by, Placing, Placed, rows_at}
-use Rattle.table.specs.declared.Growth.{Growth}
+use Rattle.table.specs.declared.Places.{Places}
 use Rattle.table.proofs.Laws.Tied.{grown_full, grown_rows}
 use Rattle.table.proofs.Laws.InT.{places_cut}
-use Rattle.step_settle.specs.declared.Stepped.{Stepped}
 use Rattle.step_settle.specs.Stepped.{GrownAs, ProposedAs}
 
 -- GROWN, within its places
@@ -30,13 +33,13 @@ take_few zero vs = omega arith
 take_few (suc k) [] = omega arith
 take_few (suc k) (v ∷ vs) = let l = take_few k vs in omega arith
 
-module _ (o : Option (List ℕ)) (r : Growth) (e : grown_by o r) (f : r.ok ≡ true) where
+module _ (o : maybe.Option (List ℕ)) (r : Places) (e : grown_by o (Some r)) where
   grown_count : length (take r.states r.s) ≡ r.states
   grown_count = go o e
     where
-      go : (p : Option (List ℕ)) → grown_by p r → length (take r.states r.s) ≡ r.states
-      go none d = absurd (true≢false (sym f ∙ d))
-      go (some v) d = ap length d.1 ∙ sym d.2
+      go : (p : maybe.Option (List ℕ)) → grown_by p (Some r) → length (take r.states r.s) ≡ r.states
+      go none d = cc
+      go (some v) d = ap length d.0 ∙ sym d.1
 
   pub grown_few : length r.s ≡ most_states → r.states ≤ most_states
   grown_few l = omega (arith, grown_count, take_few r.states r.s)
@@ -83,16 +86,16 @@ module _ {l : Lists} (fit : lists_fit l ≡ true) (a : Arrays l) {ps : List ℕ}
   enough : l.states ≤ length ps
   enough = omega (arith, placing.long, (lists_fit_facts l fit).states)
 
-  module _ {tb : List ℕ} (g : Growth) (grown : grown_by (grow_at tb l.contexts l.rules (take l.states ps)) g) (r : Stepped) where
-    pub proposes_none : g.ok ≡ false → r.number ≡ 35 → ProposedAs l tb r
-    proposes_none f e x w o =
-        let full = grown_full o l.s l.states ps found.1 (few_states fit a) enough (few_rules fit a) g grown f in
-        subst (λ (k : Option (List ℕ)). GrownAs l k r) (sym full) e
+  module _ {tb : List ℕ} (r : Result Lists Refusal) where
+    pub proposes_none : grown_by (grow_at tb l.contexts l.rules (take l.states ps)) None → r ≡ Err StatesShort → ProposedAs l tb r
+    proposes_none grown e x w o =
+        let full = grown_full o l.s l.states ps found.1 (few_states fit a) enough (few_rules fit a) grown in
+        subst (λ (k : maybe.Option (List ℕ)). GrownAs l k r) (sym full) e
 
-    pub proposes_some : g.ok ≡ true → ((i : ℕ) → i < g.states → get_or g.s i 0 < l.rules) → {s : List ℕ} → s ≡ over (rows_at (rules_in l) (take g.states g.s)) l.s →
-        r.number ≡ 0 → r.lists ≡ proposing l s g.states → ProposedAs l tb r
-    proposes_some f below {s} z e d x w o =
-        let rows = grown_rows o l.s l.states ps found.1 (few_states fit a) enough (few_rules fit a) g grown f in
+    pub proposes_some : (g : Places) → grown_by (grow_at tb l.contexts l.rules (take l.states ps)) (Some g) → ((i : ℕ) → i < g.states → get_or g.s i 0 < l.rules) →
+        {s : List ℕ} → s ≡ over (rows_at (rules_in l) (take g.states g.s)) l.s → r ≡ Ok (proposing l s g.states) → ProposedAs l tb r
+    proposes_some g grown below {s} z d x w o =
+        let rows = grown_rows o l.s l.states ps found.1 (few_states fit a) enough (few_rules fit a) g grown in
         let whole = z ∙ ap (λ (new : List ℕ). over new l.s) (rows_cut l.t l.rules g.states g.s below) in
-        let count = grown_rows_count (grow_at tb l.contexts l.rules (take l.states ps)) g grown f l.t in
-        subst (λ (k : Option (List ℕ)). GrownAs l k r) (sym rows) (e, d ∙ (λ i. proposing l (whole i) (sym count i)))
+        let count = grown_rows_count (grow_at tb l.contexts l.rules (take l.states ps)) g grown l.t in
+        subst (λ (k : maybe.Option (List ℕ)). GrownAs l k r) (sym rows) (d ∙ (λ i. Ok (proposing l (whole i) (sym count i))))

@@ -1,9 +1,10 @@
 -- The state of a row and the growth of S by places: what is left of S, and what is left of T, decides.
 -- By one step of state_from and of grow, at a list taken apart by drop.
-use mathlib.Core.Path.{◌≡◌, sym, ap, ◌∙◌}
+use mathlib.Core.Path.{◌≡◌, refl, sym, ap, ◌∙◌}
 use mathlib.Core.Bool.{Bool, true, false}
 use mathlib.Core.List.{List, [], ◌∷◌, ◌++◌}
-use mathlib.Core.Option.{Option, none, some}
+use mathlib.Core.Option as maybe
+use mathlib.Core.Option.{none, some}
 use Prim.Native.Nat.{ℕ, suc, ◌+◌, ◌-◌, ◌≤◌, ◌<◌}
 use native.Mathlib.Numerals.{add-one}
 use native.Mathlib.Omega.{arith}
@@ -11,12 +12,13 @@ use borrow.Author.Tests.{lt-ltb, le-ltb, le-leb, lt-leb}
 use native.Mathlib.Decide.{ℕ_discrete}
 use lib.ListN.{length, get_or, take, drop, set, drop_of_length-le, length-set}
 use lib.Seq.{drop-cons, get_or-take, length-take-le, take-suc-set, get_or-set_same, get_or-set_other}
+use Rattle.std.proofs.Common.{None, Some}
 use Rattle.model.specs.Limits.{most_states}
 use Rattle.model.specs.Base.{same}
 use Rattle.model.specs.Table.{state_from}
 use Rattle.model.specs.Steps.{grow}
 use Rattle.model.proofs.Laws.Renamed.{state_most}
-use Rattle.table.specs.declared.Growth.{Growth}
+use Rattle.table.specs.declared.Places.{Places}
 use Rattle.table.specs.Answers.{places_from, grown_by}
 
 -- a state is a place in S, or the one past it
@@ -36,18 +38,18 @@ left n ps h q l =
 pub left_none : (n : ℕ) (ps : List ℕ) → n ≤ length ps → (q : ℕ) → n ≤ q → drop q (take n ps) ≡ []
 left_none n ps h q l = drop_of_length-le (take n ps) {i = q} (let e = length-take-le n ps h in omega arith)
 
-module _ (r : ℕ → List ℕ) (v : List ℕ) (n : ℕ) (ps : List ℕ) (h : n ≤ length ps) (q : ℕ) where
-  pub state_hit : (b : Bool) → q < n → b ≡ same v (r (get_or ps q 0)) → b ≡ true → state_from r v q (drop q (take n ps)) ≡ q
+module _ (r : ℕ → List ℕ) (v ps : List ℕ) (q : ℕ) where
+  pub state_hit : (b : Bool) → q < length ps → b ≡ same v (r (get_or ps q 0)) → b ≡ true → state_from r v q (drop q ps) ≡ q
   unfolding state_from
-  state_hit b l e t = rw (left n ps h q l, ← e, t)
+  state_hit b l e t = rw (drop-cons ps q 0 l, ← e, t)
 
-  pub state_pass : (b : Bool) → q < n → b ≡ same v (r (get_or ps q 0)) → b ≡ false → state_from r v q (drop q (take n ps)) ≡ state_from r v (q + 1) (drop (q + 1) (take n ps))
+  pub state_pass : (b : Bool) → q < length ps → b ≡ same v (r (get_or ps q 0)) → b ≡ false → state_from r v q (drop q ps) ≡ state_from r v (q + 1) (drop (q + 1) ps)
   unfolding state_from
-  state_pass b l e t = rw (left n ps h q l, ← e, t, ← add-one q)
+  state_pass b l e t = rw (drop-cons ps q 0 l, ← e, t, add-one q)
 
-  pub state_end : n ≤ q → state_from r v q (drop q (take n ps)) ≡ q
+  pub state_end : length ps ≤ q → state_from r v q (drop q ps) ≡ q
   unfolding state_from
-  state_end l = rw (left_none n ps h q l)
+  state_end l = rw (drop_of_length-le ps {i = q} l)
 
 -- T from k on
 pub rest : (n k : ℕ) → k < n → places_from k (n - k) ≡ k ∷ places_from (k + 1) (n - (k + 1))
@@ -74,20 +76,20 @@ module _ (r : ℕ → List ℕ) (s : List ℕ) (n k : ℕ) where
   grow_end l = let e : n - k ≡ 0 = omega arith in ap (λ (i : ℕ). grow r s (places_from k i)) e
 
 -- what it has become, put together
-pub grown_none : {o : Option (List ℕ)} (g : Growth) → none ≡ o → g.ok ≡ false → grown_by o g
-grown_none g e f = rw (← e) f
+pub grown_none : {o : maybe.Option (List ℕ)} → none ≡ o → grown_by o None
+grown_none e = rw (← e) refl
 
-pub grown_some : {o : Option (List ℕ)} (s : List ℕ) (g : Growth) → some s ≡ o → g.ok ≡ true → take g.states g.s ≡ s → g.states ≡ length s → grown_by o g
-grown_some s g e f p n = rw (← e) (f, p, n)
+pub grown_some : {o : maybe.Option (List ℕ)} (s : List ℕ) (p : Places) → some s ≡ o → take p.states p.s ≡ s → p.states ≡ length s → grown_by o (Some p)
+grown_some s p e h n = rw (← e) (h, n)
 
 -- ON THE WAY: S stands in the first n of 32 places, and what is left of T from k on decides what it becomes
-pub record Growing (r : ℕ → List ℕ) (rules : ℕ) (end : Option (List ℕ)) (n : ℕ) (ps : List ℕ) (k : ℕ) : Type 0 where
+pub record Growing (r : ℕ → List ℕ) (rules : ℕ) (end : maybe.Option (List ℕ)) (n : ℕ) (ps : List ℕ) (k : ℕ) : Type 0 where
   pub few : n ≤ most_states
   pub long : length ps ≡ most_states
   pub below : (i : ℕ) → i < n → get_or ps i 0 < rules
   pub left_decides : grow r (take n ps) (places_from k (rules - k)) ≡ end
 
-module _ {r : ℕ → List ℕ} {rules : ℕ} {end : Option (List ℕ)} {n : ℕ} {ps : List ℕ} {k : ℕ} (g : Growing r rules end n ps k) where
+module _ {r : ℕ → List ℕ} {rules : ℕ} {end : maybe.Option (List ℕ)} {n : ℕ} {ps : List ℕ} {k : ℕ} (g : Growing r rules end n ps k) where
   pub many : length (take n ps) ≡ n
   many = length-take-le n ps (omega arith)
 

@@ -1,70 +1,55 @@
--- T5 and T6 by places: what is left of the representatives, and of the transitions, decides.
--- By one step of each test, at the places taken apart by the laws of Growth.
-use mathlib.Core.Path.{◌≡◌, sym, ◌∙◌}
-use mathlib.Core.Bool.{Bool, true, false}
-use mathlib.Core.List.{List, map}
-use Prim.Native.Nat.{ℕ, ◌+◌, ◌-◌, ◌≤◌, ◌<◌}
-use native.Mathlib.Omega.{arith}
-use lib.ListN.{length, get_or, take, drop}
+-- T5 and T6 by places: a test of each transition, of the representatives that are left, and how many of them have a row.
+-- By induction on what is left, at the places taken apart by the laws of Growth.
+use Rattle.std.proofs.Common.{◌≡◌, refl, ap, ℕ, zero, suc, ◌+◌, ◌-◌, ◌≤◌, ◌<◌, Bool, true, false, ◌&&◌, List, [], ◌∷◌, map, length, get_or, take, drop, drop-cons, length-drop, add-one, arith}
+use Rattle.std.proofs.Math.ListN.{drop_of_length-le}
+use Rattle.std.proofs.Math.Seq.{length-take-le, get_or-take, get_or-drop}
+use Rattle.std.proofs.lemmas.List.{get_or_default}
+use Rattle.std.specs.List.{list_all, range_with_len}
 use Rattle.model.specs.Base.{all, count_true, same}
 use Rattle.model.specs.Sound.{differ_known, all_differ, count_same}
 use Rattle.table.specs.Answers.{places_from}
-use Rattle.table.proofs.Laws.Growth.{left, left_none, rest}
+use Rattle.table.proofs.Laws.Growth.{left, left_none}
 
 -- EVERY TRANSITION from k on
-module _ (f : ℕ → Bool) (n k : ℕ) (b : Bool) (e : all f (places_from k (n - k)) ≡ b) where
-  pub one_fails : k < n → f k ≡ false → false ≡ b
-  unfolding all
-  one_fails l z = sym (rw (rest n k l, z)) ∙ e
+pub all_places : (f : ℕ → Bool) (k n : ℕ) → list_all f (range_with_len k n) ≡ all f (places_from k n)
+unfolding all places_from
+all_places f k zero = refl
+all_places f k (suc n) = ap (λ (b : Bool). f k && b) (rw (add-one k) (all_places f (suc k) n))
 
-  pub one_passes : k < n → f k ≡ true → all f (places_from (k + 1) (n - (k + 1))) ≡ b
-  unfolding all
-  one_passes l z = sym (rw (rest n k l, z)) ∙ e
+-- REPRESENTATIVES: a test of the row of each
+pub all_rows : (f : List ℕ → Bool) (r : ℕ → List ℕ) (ps : List ℕ) → list_all (λ (p : ℕ). f (r p)) ps ≡ all f (map r ps)
+unfolding all
+all_rows f r [] = refl
+all_rows f r (p ∷ ps) = ap (λ (b : Bool). f (r p) && b) (all_rows f r ps)
 
-  pub all_passed : n ≤ k → true ≡ b
-  unfolding all places_from
-  all_passed l = let z : n - k ≡ 0 = omega arith in sym (rw z) ∙ e
+-- a place of one from a place on is one of the table
+pub place_within : (rules n : ℕ) (ps : List ℕ) → n ≤ length ps → ((i : ℕ) → i < n → get_or ps i 0 < rules) →
+    (from k p : ℕ) → k < length (take (n - from) (drop from ps)) → p ≡ get_or (take (n - from) (drop from ps)) k p → p < rules
+place_within rules n ps h w from k p l e =
+    let d = length-drop from ps in
+    let b = length-take-le (n - from) (drop from ps) (omega arith) in
+    let m : from + k < n = omega arith in
+    omega (arith, e, get_or-take (n - from) (drop from ps) k p (omega arith), get_or-drop from ps k p, get_or_default ps (from + k) p 0 (omega arith), w (from + k) m)
 
--- REPRESENTATIVES from q on
-module _ (r : ℕ → List ℕ) (n : ℕ) (ps : List ℕ) (h : n ≤ length ps) (q : ℕ) where
-  -- all differ from a row
-  module _ (v : List ℕ) (b : Bool) (e : all (differ_known v) (map r (drop q (take n ps))) ≡ b) where
-    pub alike : q < n → differ_known v (r (get_or ps q 0)) ≡ false → false ≡ b
-    unfolding all
-    alike l z = sym (rw (left n ps h q l, z)) ∙ e
+-- each two differ, from q on
+pub differ_each : (r : ℕ → List ℕ) (n : ℕ) (ps : List ℕ) → n ≤ length ps → (q k : ℕ) → q + k ≡ n →
+    list_all (λ (i : ℕ). all (differ_known (r (get_or ps i 0))) (map r (drop (i + 1) (take n ps)))) (range_with_len q k) ≡ all_differ (map r (drop q (take n ps)))
+unfolding all_differ
+differ_each r n ps h q zero e = rw (left_none n ps h q (omega arith)) refl
+differ_each r n ps h q (suc k) e =
+    rw (left n ps h q (omega arith))
+    (ap (λ (b : Bool). all (differ_known (r (get_or ps q 0))) (map r (drop (q + 1) (take n ps))) && b) (differ_each r n ps h (q + 1) k (omega arith)))
 
-    pub differs_here : q < n → differ_known v (r (get_or ps q 0)) ≡ true → all (differ_known v) (map r (drop (q + 1) (take n ps))) ≡ b
-    unfolding all
-    differs_here l z = sym (rw (left n ps h q l, z)) ∙ e
+-- how many have a row, from i on
+module _ (v : List ℕ) (r : ℕ → List ℕ) (ps : List ℕ) (i : ℕ) where
+  pub count_hit : (b : Bool) → i < length ps → b ≡ same v (r (get_or ps i 0)) → b ≡ true → count_same v (map r (drop i ps)) ≡ 1 + count_same v (map r (drop (i + 1) ps))
+  unfolding count_true
+  count_hit b l e t = rw (drop-cons ps i 0 l, ← e, t, add-one i)
 
-    pub differs_from_all : n ≤ q → true ≡ b
-    unfolding all
-    differs_from_all l = sym (rw (left_none n ps h q l)) ∙ e
+  pub count_pass : (b : Bool) → i < length ps → b ≡ same v (r (get_or ps i 0)) → b ≡ false → count_same v (map r (drop i ps)) ≡ count_same v (map r (drop (i + 1) ps))
+  unfolding count_true
+  count_pass b l e t = rw (drop-cons ps i 0 l, ← e, t, add-one i) (omega arith)
 
-  -- each two differ
-  module _ (b : Bool) (e : all_differ (map r (drop q (take n ps))) ≡ b) where
-    pub two_alike : q < n → all (differ_known (r (get_or ps q 0))) (map r (drop (q + 1) (take n ps))) ≡ false → false ≡ b
-    unfolding all_differ
-    two_alike l z = sym (rw (left n ps h q l, z)) ∙ e
-
-    pub differs_later : q < n → all (differ_known (r (get_or ps q 0))) (map r (drop (q + 1) (take n ps))) ≡ true → all_differ (map r (drop (q + 1) (take n ps))) ≡ b
-    unfolding all_differ
-    differs_later l z = sym (rw (left n ps h q l, z)) ∙ e
-
-    pub differ_all : n ≤ q → true ≡ b
-    unfolding all_differ
-    differ_all l = sym (rw (left_none n ps h q l)) ∙ e
-
-  -- how many have a row
-  module _ (v : List ℕ) where
-    pub counts_one : q < n → same v (r (get_or ps q 0)) ≡ true → count_same v (map r (drop q (take n ps))) ≡ 1 + count_same v (map r (drop (q + 1) (take n ps)))
-    unfolding count_true
-    counts_one l z = rw (left n ps h q l, z)
-
-    pub counts_none : q < n → same v (r (get_or ps q 0)) ≡ false → count_same v (map r (drop q (take n ps))) ≡ count_same v (map r (drop (q + 1) (take n ps)))
-    unfolding count_true
-    counts_none l z = rw (left n ps h q l, z) (omega arith)
-
-    pub counts_end : n ≤ q → count_same v (map r (drop q (take n ps))) ≡ 0
-    unfolding count_true
-    counts_end l = rw (left_none n ps h q l)
+  pub count_end : length ps ≤ i → count_same v (map r (drop i ps)) ≡ 0
+  unfolding count_true
+  count_end l = rw (drop_of_length-le ps {i = i} l)

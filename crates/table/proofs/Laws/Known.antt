@@ -1,7 +1,7 @@
 -- A table of which only rows without an unknown answer are trusted: it comes of one that was right before an answer more,
 -- or of one whose rows each begin with an unknown answer. A known answer stays where another one is set.
 use mathlib.Core.Path.{◌≡◌, refl, sym, ap, ◌∙◌}
-use mathlib.Core.Bool.{false, true≢false}
+use mathlib.Core.Bool.{true, false, true≢false}
 use mathlib.Core.List.{List}
 use Prim.Native.Nat.{ℕ, zero, suc, ◌+◌, ◌*◌, ◌≤◌, ◌<◌}
 use native.Mathlib.Omega.{arith}
@@ -15,8 +15,7 @@ use Rattle.model.specs.Table.{answer_at, answers_of}
 use Rattle.model.proofs.Laws.Turn.{answers_same}
 use Rattle.model.proofs.Laws.ReflectLists.{has_back}
 use Rattle.table.specs.Answers.{answers_at, Sized, Observed, KnownRows, Forgotten}
-use Rattle.table.proofs.Laws.Rows.{sized_to}
-use Rattle.table.proofs.Laws.Left.{among_hit}
+use Rattle.table.proofs.Laws.Rows.{sized_to, row_fits, row_more}
 
 -- FORGOTTEN: no row at first, a row more, and none of them is known then
 pub forgotten_none : (tb : List ℕ) → Forgotten 0 tb
@@ -33,6 +32,12 @@ forgotten_more {k} {tb} f l =
         let o : i < k = omega arith in
         get_or-set_other tb (most_contexts * k) (most_contexts * i) 0 0 (λ p. omega arith) ∙ f.first i o
 
+unknown_first : (tb : List ℕ) (n m k : ℕ) → Sized tb n m → k < n → 0 < m → get_or tb (most_contexts * k) 0 ≡ 0 → among 0 (answers_at tb m k) ≡ true
+unfolding among
+unknown_first tb n m k z l some e =
+    let y : most_contexts * k + 0 ≡ most_contexts * k = omega arith in
+    rw (row_more tb m k 0 (row_fits tb n m k z l) some, y, e) refl
+
 pub forgotten_known : (x : Store) (w t : List ℕ) (n : ℕ) (c : List ℕ) (m : ℕ) {tb : List ℕ} → Forgotten n tb → most_contexts * n ≤ length tb → n ≤ most_rules → m ≤ most_contexts → KnownRows x w t n c m tb
 forgotten_known x w t n c m {tb} f z a b = record { sized = sized m b; right = right m b }
   where
@@ -42,8 +47,7 @@ forgotten_known x w t n c m {tb} f z a b = record { sized = sized m b; right = r
     right : (j : ℕ) → j ≤ most_contexts → (k : ℕ) → k < n → among 0 (answers_at tb j k) ≡ false → answers_at tb j k ≡ answers_of x w (take j c) (get_or t k 0)
     right zero h k l e = refl
     right (suc j) h k l e =
-        let y : most_contexts * k + 0 ≡ most_contexts * k = omega arith in
-        absurd (true≢false (sym (among_hit k (sized_to (sized (suc j) h) k l) 0 0 (omega arith) (ap (λ (i : ℕ). get_or tb i 0) y ∙ f.first k l)) ∙ e))
+        absurd (true≢false (sym (unknown_first tb n (suc j) k (sized (suc j) h) l (omega arith) (f.first k l)) ∙ e))
 
 -- A KNOWN ROW is one more of those that are right
 pub observed_known : {x : Store} {w t : List ℕ} {n : ℕ} {c : List ℕ} {m : ℕ} {tb : List ℕ} → KnownRows x w t n c m tb → (k : ℕ) → k < n → among 0 (answers_at tb m k) ≡ false →

@@ -3,8 +3,8 @@
 use mathlib.Core.Path.{◌≡◌, refl, sym, ap, ◌∙◌}
 use mathlib.Core.Bool.{Bool, true, false, ◌||◌, cond, true≢false}
 use mathlib.Core.List.{List, [], ◌∷◌}
-use mathlib.Core.Option
-use mathlib.Core.Option.{Option, none, some}
+use mathlib.Core.Option as maybe
+use mathlib.Core.Option.{none, some}
 use Prim.Native.Nat.{ℕ, zero, suc, ◌+◌, ◌≤◌, ◌<◌}
 use native.Mathlib.Omega.{arith}
 use native.Mathlib.Numerals.{add-one}
@@ -12,6 +12,7 @@ use borrow.Author.Tests.{eqb-true, eqb-false, eq-eqb, ne_eqb}
 use lib.Dec.{eqb}
 use lib.ListN.{length, get_or, take, drop, length-map}
 use lib.Seq.{drop-cons, get_or-take, length-take-le, ext_get_or}
+use Rattle.std.proofs.Common.{Option, None, Some}
 use Rattle.model.specs.Base.{among, Below, none_below, one_below}
 use Rattle.model.specs.Sound.{differ_known}
 use Rattle.model.specs.Store.{Store}
@@ -20,7 +21,7 @@ use Rattle.model.specs.Steps.{unknown, seek_in, seek, grow}
 use Rattle.model.proofs.Laws.Renamed.{at_below, state_renamed, grow_renamed}
 use Rattle.model.proofs.Laws.Lists.{map_at}
 use Rattle.table.specs.declared.Gap.{Gap}
-use Rattle.table.specs.declared.Growth.{Growth}
+use Rattle.table.specs.declared.Places.{Places}
 use Rattle.table.specs.Answers.{answers_at, unknown_in, gap_by, gap_from, state_at, places_from, grow_at, grown_by, Observed, Placed, sought_by, is_open, rows_at}
 
 -- PLACES FROM k ON are below their end, and name what is left of T
@@ -35,7 +36,7 @@ places_rows t k zero l = refl
 places_rows t k (suc i) l = rw (drop-cons t k 0 (omega arith), places_rows t (suc k) i (omega arith))
 
 -- A ROW: its first unknown answer is the first unknown one at C
-module _ (x : Store) (w t c : List ℕ) (k i : ℕ) (its : get_or t k 0 ≡ i) (next : Gap) where
+module _ (x : Store) (w t c : List ℕ) (k i : ℕ) (its : get_or t k 0 ≡ i) (next : Option Gap) where
   row_sought : (cs : List ℕ) (j : ℕ) → ((p : ℕ) → p < length cs → get_or cs p 0 ≡ get_or c (j + p) 0) →
       sought_by t c (gap_by k (unknown_in (answers_of x w cs i) j) next) ≡ seek_in x w cs i (sought_by t c next)
   unfolding unknown_in seek_in
@@ -53,7 +54,7 @@ module _ (x : Store) (w t c : List ℕ) (k i : ℕ) (its : get_or t k 0 ≡ i) (
       go true ih = let a = here in cc
       go false ih = ih
 
-row_open : (vs : List ℕ) (k j : ℕ) (next : Gap) → is_open (gap_by k (unknown_in vs j) next) ≡ among 0 vs || is_open next
+row_open : (vs : List ℕ) (k j : ℕ) (next : Option Gap) → is_open (gap_by k (unknown_in vs j) next) ≡ among 0 vs || is_open next
 unfolding unknown_in among
 row_open [] k j next = refl
 row_open (v ∷ vs) k j next = go (eqb v 0) refl (row_open vs k (suc j) next)
@@ -72,13 +73,13 @@ open_at_last : (tb : List ℕ) (m i count : ℕ) → among 0 (answers_at tb m (i
 unfolding gap_from
 open_at_last tb m i zero e =
     let z : i + 0 ≡ i = omega arith in
-    row_open (answers_at tb m i) i 0 Gap.Closed ∙ ap (λ (b : Bool). b || false) (ap (λ (k : ℕ). among 0 (answers_at tb m k)) (sym z) ∙ e)
+    row_open (answers_at tb m i) i 0 None ∙ ap (λ (b : Bool). b || false) (ap (λ (k : ℕ). among 0 (answers_at tb m k)) (sym z) ∙ e)
 open_at_last tb m i (suc count) e =
     let z : suc i + count ≡ i + suc count = omega arith in
     row_open (answers_at tb m i) i 0 (gap_from tb m (suc i) (suc count)) ∙
     ap (λ (b : Bool). among 0 (answers_at tb m i) || b) (open_at_last tb m (suc i) count (ap (λ (k : ℕ). among 0 (answers_at tb m k)) z ∙ e)) ∙ or_true (among 0 (answers_at tb m i))
 
-pub gap_at_last : (tb : List ℕ) (m k : ℕ) → among 0 (answers_at tb m k) ≡ true → gap_from tb m 0 (k + 1) ≡ Gap.Closed → ⊥
+pub gap_at_last : (tb : List ℕ) (m k : ℕ) → among 0 (answers_at tb m k) ≡ true → gap_from tb m 0 (k + 1) ≡ None → ⊥
 gap_at_last tb m k e g =
     let z : 0 + k ≡ k = omega arith in
     let o = open_at_last tb m 0 k (ap (λ (j : ℕ). among 0 (answers_at tb m j)) z ∙ e) in
@@ -149,24 +150,24 @@ module _ {x : Store} {w t : List ℕ} {n : ℕ} {c : List ℕ} {m : ℕ} {tb : L
         sym (state_renamed (answers_at tb m) rows (λ (p : ℕ). get_or t p 0) n o.rows (answers_at tb m k) 0 placed_below) ∙
         ap (λ (v : List ℕ). state_from rows v 0 (rows_at t (take q ps))) (o.rows k b) ∙ ap (state_from rows (rows (get_or t k 0)) 0) placed_rows
 
-    pub grow_tied : n ≤ length t → grow (answers_of x w (take m c)) (take q s) (take n t) ≡ Option.map (rows_at t) (grow_at tb m n (take q ps))
+    pub grow_tied : n ≤ length t → grow (answers_of x w (take m c)) (take q s) (take n t) ≡ maybe.map (rows_at t) (grow_at tb m n (take q ps))
     grow_tied b =
         ap (λ (u : List ℕ). grow rows u (take n t)) (sym placed_rows) ∙
         ap (grow rows (rows_at t (take q ps))) (sym (places_rows t 0 n (omega arith))) ∙
         grow_renamed (answers_at tb m) rows (λ (p : ℕ). get_or t p 0) n o.rows placed_below (places_below n 0 n (omega arith))
 
     -- as a caller of grow has it: what it hands back, by rows; and its places name them
-    pub grown_full : n ≤ length t → (g : Growth) → grown_by (grow_at tb m n (take q ps)) g → g.ok ≡ false → grow (answers_of x w (take m c)) (take q s) (take n t) ≡ none
-    grown_full b g e f = grow_tied b ∙ go (grow_at tb m n (take q ps)) e
+    pub grown_full : n ≤ length t → grown_by (grow_at tb m n (take q ps)) None → grow (answers_of x w (take m c)) (take q s) (take n t) ≡ none
+    grown_full b e = grow_tied b ∙ go (grow_at tb m n (take q ps)) e
       where
-        go : (u : Option (List ℕ)) → grown_by u g → Option.map (rows_at t) u ≡ none
+        go : (u : maybe.Option (List ℕ)) → grown_by u None → maybe.map (rows_at t) u ≡ none
         go none p = refl
-        go (some v) p = absurd (true≢false (sym p.0 ∙ f))
+        go (some v) p = absurd p
 
-    pub grown_rows : n ≤ length t → (g : Growth) → grown_by (grow_at tb m n (take q ps)) g → g.ok ≡ true →
+    pub grown_rows : n ≤ length t → (g : Places) → grown_by (grow_at tb m n (take q ps)) (Some g) →
         grow (answers_of x w (take m c)) (take q s) (take n t) ≡ some (rows_at t (take g.states g.s))
-    grown_rows b g e f = grow_tied b ∙ go (grow_at tb m n (take q ps)) e
+    grown_rows b g e = grow_tied b ∙ go (grow_at tb m n (take q ps)) e
       where
-        go : (u : Option (List ℕ)) → grown_by u g → Option.map (rows_at t) u ≡ some (rows_at t (take g.states g.s))
-        go none p = absurd (true≢false (sym f ∙ p))
-        go (some v) p = ap (λ (u : List ℕ). some (rows_at t u)) (sym p.1)
+        go : (u : maybe.Option (List ℕ)) → grown_by u (Some g) → maybe.map (rows_at t) u ≡ some (rows_at t (take g.states g.s))
+        go none p = cc
+        go (some v) p = ap (λ (u : List ℕ). some (rows_at t u)) (sym p.0)

@@ -8,11 +8,11 @@ use native.Mathlib.Omega.{arith}
 use lib.Dec.{eqb}
 use lib.ListN.{length, take, drop, take-append-drop}
 use lib.Seq.{take-take}
+use Rattle.std.proofs.Common.{Option, None, Some}
 use Rattle.model.specs.Store.{Store}
 use Rattle.model.specs.Table.{answer_in}
 use Rattle.model.specs.Steps.{Sought, none_unknown, unknown, seek_in, seek}
 use Rattle.table.specs.declared.Gap.{Gap}
-use Rattle.table.specs.declared.Gap.TheVariants.{Closed, At}
 use Rattle.table.specs.Answers.{gap_from, sought_by, ToGap}
 use Rattle.table.proofs.Laws.Tied.{sought_tied}
 
@@ -46,9 +46,9 @@ module _ {x : Store} {w t : List ℕ} {n : ℕ} {c : List ℕ} {m : ℕ} {tb : L
   pub sought_to_gap : sought_by t c (gap_from tb m 0 r) ≡ seek x w (take m c) (take n t)
   sought_to_gap = go (gap_from tb m 0 r) refl
     where
-      go : (g : Gap) → gap_from tb m 0 r ≡ g → sought_by t c (gap_from tb m 0 r) ≡ seek x w (take m c) (take n t)
-      go Closed e = first ∙ ap (λ (k : ℕ). seek x w (take m c) (take k t)) (o.whole e)
-      go (At k j) e =
+      go : (g : Option Gap) → gap_from tb m 0 r ≡ g → sought_by t c (gap_from tb m 0 r) ≡ seek x w (take m c) (take n t)
+      go None e = first ∙ ap (λ (k : ℕ). seek x w (take m c) (take k t)) (o.whole e)
+      go (Some g) e =
           first ∙
           sym (seek_more x w (take m c) (take r t) (drop r (take n t)) (λ z. let d : 1 ≡ 0 = ap found (sym (ap (sought_by t c) e) ∙ first ∙ z) in omega arith)) ∙
           ap (seek x w (take m c)) parts
