@@ -3,7 +3,6 @@ pub mod Steps
 pub mod Reps
 pub mod Among
 pub mod Children
-pub mod Scan
 pub mod Descent
 pub mod Search
 pub mod Turns

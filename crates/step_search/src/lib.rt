@@ -10,7 +10,7 @@ ghost use Rattle.model.specs.Facts.{Good};
 ghost use Rattle.model.specs.Entry.{store_of, answers_in};
 ghost use Rattle.bank.specs.Bank.{Bank, frame_at};
 ghost use Rattle.bank.specs.Notes.{room_in, reps_in, down_in, spots_in, exchanged_in};
-ghost use Rattle.step_search.specs.Spots.{exchanged_by, TurnsBy, DescendedBy, own_rep, not_own, outside_by, spot_by, Handed, EndsAt};
+ghost use Rattle.step_search.specs.Spots.{exchanged_by, TurnsBy, DescendedBy, own_rep, not_own, code_of, outside_by, spot_by, Handed, EndsAt};
 
 use bank::notes::NOTE_WIDTH;
 use bank::{index, notes, rows};
@@ -21,34 +21,25 @@ fn is_rep(reps: &[u16], row: Row) -> bool
     requires { row.0 < length reps.now }
     ensures { result ≡ own_rep reps.now row.0 }
 {
-    let i = row.0;
-    if i == 0 {
-        return false;
-    }
-    reps[i as usize] == i
+    row.0 != 0 && reps[row.0 as usize] == row.0
 }
 
-// The place, plus one, of a row's first child that is not its own representative; 0 for none.
-fn first_outside(words: &[u32], counts: &[u8], used: u16, reps: &[u16], row: Row) -> u8
+// The place of a row's first child that is not its own representative.
+fn first_outside(words: &[u32], counts: &[u8], used: u16, reps: &[u16], row: Row) -> Option<usize>
     requires { Good (store_of words.now counts.now used)
         × (row_width * used ≤ length words.now)
         × (used ≤ length reps.now)
         × (0 < row.0)
         × (row.0 < used) }
     ensures { let x = store_of words.now counts.now used in
-        result ≡ outside_by reps.now x row.0 }
+        code_of result ≡ outside_by reps.now x row.0 }
 {
     let symbol = rows::symbol_of(words, row);
-    let count = counts[symbol as usize];
-    let mut k: u8 = 0;
-    while k < count {
-        let kid = rows::kid_of(words, row, k as usize) as u16;
-        if !is_rep(reps, Row(kid)) {
-            return k + 1;
-        }
-        k += 1;
-    }
-    0
+    let count = counts[symbol as usize] as usize;
+    let places = rows::places_of(words, row);
+    places[..count]
+        .iter()
+        .position(|kid| !is_rep(reps, Row(*kid as u16)))
 }
 
 // The row that is `row` but for the child at a place, which is `with`; row 0 where that is not stored.
@@ -78,10 +69,10 @@ fn with_child(
     index::find(words, used, index, symbol, places)
 }
 
-// The place down of a row, plus one, or 0; the row at its spot; and the row after the exchange.
+// The place down of a row, if it has one; the row at its spot; and the row after the exchange.
 #[derive(Clone, Copy)]
 pub struct Turn {
-    pub place: u8,
+    pub place: Option<u8>,
     pub spot: Row,
     pub row: Row,
 }
@@ -104,42 +95,37 @@ fn turn_of(
         × (row.0 < used) }
     ensures { let x = store_of words.now counts.now used in
         let own = reps.now in
-        (result.place ≡ outside_by own x row.0)
+        (code_of result.place ≡ outside_by own x row.0)
         × (result.spot.0 ≡ (spot_by own x row.0).row)
         × (result.row.0 ≡ exchanged_by (not_own own) own x row.0) }
 {
-    let code = first_outside(words, counts, used, reps, row);
-    if code == 0 {
-        let rep = reps[row.0 as usize];
+    let Some(place) = first_outside(words, counts, used, reps, row) else {
         return Turn {
-            place: 0,
+            place: None,
             spot: row,
-            row: Row(rep),
+            row: Row(reps[row.0 as usize]),
         };
-    }
-    let place = code as usize - 1;
+    };
     let kid = rows::kid_of(words, row, place) as usize;
-    let spot = at[kid];
-    let inner = exchanged[kid];
-    let outer = with_child(words, counts, used, index, row, place, Row(inner));
+    let inner = Row(exchanged[kid]);
     Turn {
-        place: code,
-        spot: Row(spot),
-        row: outer,
+        place: Some(place as u8),
+        spot: Row(at[kid]),
+        row: with_child(words, counts, used, index, row, place, inner),
     }
 }
 
-// Writes the turn of a row down: the three columns behind the representatives.
+// Writes the turn of a row down: the three columns behind the representatives. A place is noted plus one, and none is 0.
 fn note_turn(notes: &mut [u16], row: Row, turn: Turn)
     requires { row.0 < room_in notes.old }
     ensures { (reps_in notes.new ≡ reps_in notes.old)
-        × (down_in notes.new ≡ set (down_in notes.old) row.0 turn.place)
+        × (down_in notes.new ≡ set (down_in notes.old) row.0 (code_of turn.place))
         × (spots_in notes.new ≡ set (spots_in notes.old) row.0 turn.spot.0)
         × (exchanged_in notes.new ≡ set (exchanged_in notes.old) row.0 turn.row.0) }
 {
     let size = notes.len() / NOTE_WIDTH;
     let i = row.0 as usize;
-    notes[size + i] = turn.place as u16;
+    notes[size + i] = turn.place.map_or(0, |place| place as u16 + 1);
     notes[2 * size + i] = turn.spot.0;
     notes[3 * size + i] = turn.row.0;
 }
@@ -159,19 +145,17 @@ fn descend(words: &[u32], counts: &[u8], used: u16, index: &[u16], notes: &mut [
         notes,
         Row(0),
         Turn {
-            place: 0,
+            place: None,
             spot: Row(0),
             row: Row(0),
         },
     );
-    let mut i: u16 = 1;
-    while i < used {
+    for i in 1..used {
         let reps = notes::column(notes, 0);
         let at = notes::column(notes, 2);
         let exchanged = notes::column(notes, 3);
         let turn = turn_of(words, counts, used, index, reps, at, exchanged, Row(i));
         note_turn(notes, Row(i), turn);
-        i += 1;
     }
 }
 
@@ -184,6 +168,7 @@ pub enum Found {
 }
 
 // Turn after turn: the exchanged record is taken in hand while its answer is that of the one before.
+// By a loop: each row follows from the one before, and no list has them.
 fn search(
     words: &[u32],
     counts: &[u8],

@@ -20,18 +20,6 @@ use bank::{index, notes, rows};
 use model::limits::{MOST_LISTED, MOST_STATES};
 use model::{Row, Verdict};
 
-// All entries 0.
-fn clear(reps: &mut [u16])
-    ensures { (length reps.new ≡ length reps.old)
-        × ((i : ℕ) → get_or reps.new i 0 ≡ 0) }
-{
-    let mut i = 0;
-    while i < reps.len() {
-        reps[i] = 0;
-        i += 1;
-    }
-}
-
 // The representative of each transition; 0 for a row that is none.
 pub fn find_reps(
     table: &[u8],
@@ -50,20 +38,17 @@ pub fn find_reps(
     ensures { let in_t = take (length s.now) s_in_t.now in
         RepsBy table.now contexts in_t s.now t.now reps.new }
 {
-    clear(reps);
-    let mut k = 0;
-    while k < t.len() {
+    reps.fill(0);
+    for (k, row) in t.iter().enumerate() {
         let q = table::state_of(table, t.len(), contexts, s_in_t, s.len(), k);
-        let at = q.0 as usize;
-        if at < s.len() {
-            let i = t[k] as usize;
-            reps[i] = s[at];
+        if let Some(rep) = s.get(q.0 as usize) {
+            reps[*row as usize] = *rep;
         }
-        k += 1;
     }
 }
 
 // The representative of a symbol over children by their representatives; 0 where the rule is missing.
+#[tactic(auto, using(bank::proofs::Laws::Children::find_used))]
 fn target_of(
     words: &[u32],
     used: u16,
@@ -104,15 +89,12 @@ fn row_rep(
     let symbol = rows::symbol_of(words, row);
     let count = counts[symbol as usize] as usize;
     let mut places = [0u32; 4];
-    let mut k = 0;
-    while k < count {
-        let kid = rows::kid_of(words, row, k) as usize;
-        let rep = led[kid];
+    for k in 0..count {
+        let rep = led[rows::kid_of(words, row, k) as usize];
         if rep == 0 {
             return Row(0);
         }
         places[k] = rep as u32;
-        k += 1;
     }
     target_of(words, used, index, reps, symbol, places)
 }
@@ -129,13 +111,11 @@ fn row_reps(words: &[u32], counts: &[u8], used: u16, index: &[u16], upto: Row, n
 {
     let size = notes.len() / NOTE_WIDTH;
     notes[size] = 0;
-    let mut i: u16 = 1;
-    while i <= upto.0 {
+    for i in 1..upto.0 + 1 {
         let reps = notes::column(notes, 0);
         let led = notes::column(notes, 1);
         let rep = row_rep(words, counts, used, index, reps, led, Row(i));
         notes[size + i as usize] = rep.0;
-        i += 1;
     }
 }
 
@@ -160,10 +140,7 @@ pub fn accepts_row(
     row_reps(words, counts, used, index, row, notes);
     let size = notes.len() / NOTE_WIDTH;
     let rep = notes[size + row.0 as usize];
-    if rep == 0 {
-        return false;
-    }
-    is_final(words, Row(rep))
+    rep != 0 && is_final(words, Row(rep))
 }
 
 // Whether a state is final, by its representative.
@@ -174,14 +151,7 @@ fn is_final(words: &[u32], rep: Row) -> bool
     rows::answer_of(words, rep) == 2
 }
 
-// Where a run on a listed record ends: at the representative of its state, or stuck at the first symbol without a rule.
-#[derive(Clone, Copy)]
-pub enum Led {
-    To(Row),
-    Stuck(u16),
-}
-
-// The run on a listed record, by a stack of representatives.
+// Where the run on a listed record ends, by a stack of representatives: at that of its state, or stuck at the place of the first symbol without a rule.
 pub fn run_list(
     words: &[u32],
     counts: &[u8],
@@ -189,7 +159,7 @@ pub fn run_list(
     index: &[u16],
     reps: &[u16],
     symbols: &[u8],
-) -> Led
+) -> Result<Row, u16>
     requires { Bank words.now counts.now used index.now
         × (used ≤ length reps.now)
         × Parses counts.now 0 symbols.now
@@ -199,21 +169,18 @@ pub fn run_list(
 {
     let mut stack = [0u16; MOST_LISTED];
     let mut height = 0;
-    let mut at = 0;
-    while at < symbols.len() {
-        let symbol = symbols[at] as u32;
-        let count = counts[symbol as usize] as usize;
+    for (at, symbol) in symbols.iter().enumerate() {
+        let count = counts[*symbol as usize] as usize;
         let places = bank_listed::top_places(&stack, height, count);
-        let rep = target_of(words, used, index, reps, symbol, places);
+        let rep = target_of(words, used, index, reps, *symbol as u32, places);
         if rep.0 == 0 {
-            return Led::Stuck(at as u16);
+            return Err(at as u16);
         }
         height -= count;
         stack[height] = rep.0;
         height += 1;
-        at += 1;
     }
-    Led::To(Row(stack[0]))
+    Ok(Row(stack[0]))
 }
 
 // The verdict where a run ended at a state, by its representative.
@@ -222,9 +189,10 @@ fn verdict_at(words: &[u32], rep: Row) -> Verdict
     ensures { result ≡ cond (eqb (answer_in words.now rep.0) 2) Verdict.Accepted Verdict.NotFinal }
 {
     if is_final(words, rep) {
-        return Verdict::Accepted;
+        Verdict::Accepted
+    } else {
+        Verdict::NotFinal
     }
-    Verdict::NotFinal
 }
 
 // The verdict on a listed record.
@@ -245,7 +213,7 @@ pub fn verdict_on(
         result ≡ verdict_list_by x answers reps.now symbols.now }
 {
     match run_list(words, counts, used, index, reps, symbols) {
-        Led::To(rep) => verdict_at(words, rep),
-        Led::Stuck(place) => Verdict::NoRule(place),
+        Ok(rep) => verdict_at(words, rep),
+        Err(place) => Verdict::NoRule(place),
     }
 }
