@@ -3,7 +3,7 @@ ghost use Rattle.std.specs.Prelude.{◌≡◌, ◌<◌, get_or};
 ghost use Rattle.model.specs.Listing.{size_at, body_at, behind, is_block};
 ghost use Rattle.list.specs.Blocks.{block_len};
 
-// The byte at a place, 0 past the end.
+// The byte at a place. It is 0 past the end, and no Option: there the definitions of size, kind and key read zeros.
 pub fn byte_at(bytes: &[u8], i: usize) -> u8
     ensures { result ≡ get_or bytes.now i 0 }
 {
@@ -23,7 +23,7 @@ fn size_at(bytes: &[u8]) -> usize
     ]) as usize
 }
 
-// Whether a whole block of a kind stands at the head.
+// Whether a whole block of a kind stands at the head. A kind is the number that the bytes hold (§6.1), as in model's `is_block`.
 pub(crate) fn is_block(bytes: &[u8], kind: u16) -> bool
     ensures { result ≡ is_block kind bytes.now }
 {

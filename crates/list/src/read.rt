@@ -87,6 +87,7 @@ fn read_rules(counts: &[u8], finals: &[u8], bytes: &[u8]) -> Option<u16>
     requires { (alphabet_fits counts.now ≡ true) × (finals_fit finals.now ≡ true) }
     ensures { counted result ≡ loaded_by (read_rules counts.now finals.now bytes.now) }
 {
+    // An array with a count beside it, for there is no heap.
     let mut keys = [0usize; MOST_RULES];
     let mut at = bytes;
     for count in 0..MOST_RULES {

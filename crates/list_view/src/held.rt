@@ -1,4 +1,5 @@
 // The view over the host's bytes (§6.3): each function takes the struct apart and calls one on bytes and numbers.
+// Both stay (DECISIONS): the view shows a struct, and the calls of a C host have bytes alone.
 ghost use Rattle.std.specs.Prelude.{◌≡◌, get_or};
 ghost use Rattle.std.proofs.Math.Option.{some};
 ghost use Rattle.model.specs.Automata.{is_final};

@@ -25,14 +25,14 @@ pub fn sizes_in(bytes: &[u8], rules: u16) -> Sizes
     }
 }
 
-// The child count of a symbol, 0 for one that is not in the alphabet.
+// The child count of a symbol. It is 0 for one that is not in the alphabet, as `Shows` has it.
 pub fn count_in(bytes: &[u8], symbol: u8) -> u8
     ensures { result ≡ get_or (body_at bytes.now) symbol 0 }
 {
     byte_at(body(bytes), symbol as usize)
 }
 
-// Whether a state is final.
+// Whether a state is final: a state's byte is 1 or 0 (§6.1).
 pub fn final_in(bytes: &[u8], q: State) -> bool
     ensures { result ≡ is_final (body_at (behind bytes.now)) (some q.0) }
 {
@@ -50,7 +50,7 @@ fn rule_body(bytes: &[u8], k: u16) -> &[u8]
     body(at)
 }
 
-// The target in a rule's body: its last byte.
+// The target in a rule's body: its last byte, and 0 where there is none, as in model's `rule_in`.
 fn target_byte(body: &[u8]) -> u8
     ensures { result ≡ (rule_in body.now).target }
 {
