@@ -1,6 +1,6 @@
 // The hash index over the used rows, in one slice that the caller lends: for each row two links and the place of its child with the hole,
 // behind them the heads of two buckets a row. The rows of a bucket are a digital search tree, so no contents make a walk longer than a key has bits.
-ghost use Rattle.std.specs.Prelude.{◌≡◌, ◌*◌, ◌/◌, ◌<◌, ◌≤◌, length, get_or};
+ghost use Rattle.std.specs.Prelude.{◌≡◌, ℕ, ◌*◌, ◌/◌, ◌<◌, ◌≤◌, length, get_or};
 ghost use Rattle.model.specs.Store.{is_node};
 ghost use Rattle.bank.specs.Rows.{Within, node_in};
 ghost use Rattle.bank.specs.Index.{most_buckets, size_in, hole_of, bucket_for, key_for, Finding, find_in, Seat, Walk, entered};
@@ -180,4 +180,14 @@ pub fn hole_of(index: &[u16], row: Row) -> u16
 {
     let i = LINKS * row.0 as usize;
     index[i + 2]
+}
+
+// The marks of the used rows, copied.
+pub fn copy_marks(index: &[u16], used: u16, down: &mut [u16])
+    requires { (used ≤ size_in index.now) × (used ≤ length down.old) }
+    ensures { (i : ℕ) → i < used → get_or down.new i 0 ≡ get_or index.now (hole_of i) 0 }
+{
+    for i in 0..used {
+        down[i as usize] = hole_of(index, Row(i));
+    }
 }
