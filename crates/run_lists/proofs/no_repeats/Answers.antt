@@ -1,5 +1,5 @@
 -- `run_lists::no_repeats` meets its contract: what is left of the list decides.
-use Rattle.std.proofs.Common.{rules, arith, ◌≡◌, ◌∙◌, sym, ap}
+use Rattle.std.proofs.lemmas.List.{nil_from_length}
 use Rattle.model.specs.Base.{no_repeats}
 use Rattle.run_lists.proofs.no_repeats.Goals as goal
 
@@ -18,5 +18,5 @@ loop-x-preserved c =
 pub returns : goal.returns
 unfolding no_repeats
 returns c =
-    let e = length-zero c.in_default.ensures.cases in
+    let e = nil_from_length _ c.in_default.ensures.cases in
     rw (c.loop-x.invariant, e)

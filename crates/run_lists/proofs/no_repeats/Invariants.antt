@@ -1,5 +1,5 @@
 -- `run_lists::no_repeats` meets its contract: what is left of the list decides.
-use Rattle.std.proofs.Common.{◌≡◌, ℕ, length}
+use Rattle.std.proofs.Common.{◌≡◌, length}
 use Rattle.model.specs.Base.{no_repeats}
 use Rattle.run_lists.proofs.no_repeats.Given as goal
 
