@@ -19,6 +19,7 @@ pub const INDEX_WIDTH: usize = 5;
 const BASE: u64 = MOST_ROWS as u64;
 
 // The bucket of a symbol and four places, among `size` of them.
+#[tactic(auto, unfolding(crate::specs::Index::bucket_for))]
 fn bucket(size: usize, symbol: u32, places: [u32; 4]) -> usize
     requires { (0 < size) × (size ≤ most_buckets) }
     ensures { (result ≡ bucket_for size symbol places) × (result < size) }
@@ -36,7 +37,7 @@ fn times(a: u32, by: u32) -> u64
     requires { by < 536870912 }
     ensures { (result ≡ a * by) × (result < 2305843009213693952) }
 {
-    a as u64 * by as u64
+    u64::from(a) * u64::from(by)
 }
 
 // A number below 2^31 scaled to one below `size`.
@@ -48,6 +49,7 @@ fn scaled(x: u64, size: usize) -> usize
 }
 
 // The key of a symbol and four places. Rows that fit T1 have different keys.
+#[tactic(auto, unfolding(crate::specs::Index::key_for))]
 fn key(symbol: u32, places: [u32; 4]) -> u64
     ensures { result ≡ key_for symbol places }
 {
@@ -62,21 +64,7 @@ pub fn row_is(words: &[u32], row: Row, symbol: u32, places: [u32; 4]) -> bool
     requires { Within words.now row.0 }
     ensures { result ≡ is_node symbol places (node_in words.now row.0) }
 {
-    let a = rows::symbol_of(words, row);
-    if a != symbol {
-        return false;
-    }
-    let ps = rows::places_of(words, row);
-    if ps[0] != places[0] {
-        return false;
-    }
-    if ps[1] != places[1] {
-        return false;
-    }
-    if ps[2] != places[2] {
-        return false;
-    }
-    ps[3] == places[3]
+    rows::symbol_of(words, row) == symbol && rows::places_of(words, row) == places
 }
 
 // The slot of a symbol and four places: it holds the row that has them, or 0 where none has and one may be entered.
@@ -89,10 +77,7 @@ pub fn seek(words: &[u32], used: u16, index: &[u16], symbol: u32, places: [u32; 
     let size = index.len() / INDEX_WIDTH;
     let head = LINKS * size + bucket(2 * size, symbol, places);
     let at = index[head];
-    if at == 0 {
-        return head;
-    }
-    if row_is(words, Row(at), symbol, places) {
+    if at == 0 || row_is(words, Row(at), symbol, places) {
         return head;
     }
     below(words, used, index, symbol, places, Row(at))
@@ -149,16 +134,7 @@ pub fn find(words: &[u32], used: u16, index: &[u16], symbol: u32, places: [u32; 
     requires { Finding words.now used index.now }
     ensures { result.0 ≡ find_in words.now used symbol places }
 {
-    let size = index.len() / INDEX_WIDTH;
-    let at = index[LINKS * size + bucket(2 * size, symbol, places)];
-    if at == 0 {
-        return Row(0);
-    }
-    if row_is(words, Row(at), symbol, places) {
-        return Row(at);
-    }
-    let slot = below(words, used, index, symbol, places, Row(at));
-    row_at(index, slot)
+    row_at(index, seek(words, used, index, symbol, places))
 }
 
 // Puts a row into its slot, with the place of its hole and nothing below it.
