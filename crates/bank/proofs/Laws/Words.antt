@@ -8,7 +8,6 @@ use lib.ListN.{length, get_or, take, drop, replicate, length-append, length-drop
 use borrow.Rule.Slice.PartMut.{put_mid}
 use lib.Seq.{get_or-drop, get_or-take, drop-drop, get_or-append-add, sets-eq, length-sets, take_at, drop_at, length-take-le, ext_get_or, drop-append-le}
 use Rattle.model.specs.Limits.{row_width, most_children}
-use Rattle.model.specs.Base.{over}
 use Rattle.model.specs.Store.{Node, Store, Extends, hole_node, node, padded, used, node_at, symbol_at, kids_at, added}
 use Rattle.model.specs.Table.{answer_at}
 use Rattle.model.specs.Entry.{nodes_in, answers_in, row_words, store_of}
@@ -113,9 +112,6 @@ module _ (ws vs : List ℕ) (n : ℕ) (same : SameRows ws n vs) where
         ext_get_or hole_node (nodes_in n vs) (nodes_in n ws) (length_nodes_in n vs ∙ sym (length_nodes_in n ws))
         (λ i u. node_kept [] i (omega (arith, length_nodes_in n vs)))
 
-    pub store_kept : (ns : List ℕ) → store_of vs ns n ≡ store_of ws ns n
-    store_kept ns = λ t. record { counts = ns; room = long t / row_width; nodes = nodes_kept t }
-
 -- ROWS WRITTEN behind the first n
 row_words_zeros : (ms : List Node) (k : ℕ) → row_words ms [] ≡ row_words ms (replicate k 0)
 unfolding row_words
@@ -182,11 +178,6 @@ module _ (ws ns : List ℕ) (n : ℕ) (y : Store) (ext : Extends (store_of ws ns
 
   long_answers : length (answers_more ws n (used y)) ≡ used y
   long_answers = simp (length-append, length_answers_in, length-replicate) (omega (arith, more))
-
-  pub with_rows_over : with_rows ws n y ≡ over (row_words y.nodes (answers_more ws n (used y))) ws
-  with_rows_over =
-      let l = length_row_words y.nodes (answers_more ws n (used y)) four in
-      λ t. rows_answered t ++ drop (sym l t) ws
 
   pub length_with_rows : length (with_rows ws n y) ≡ length ws
   length_with_rows = simp (length-append, length-drop) (omega (arith, long_front, long_rest, more))
@@ -275,9 +266,6 @@ module _ (ws : List ℕ) (n a : ℕ) (ps : List ℕ) (within : Within ws n) wher
 
   pub symbol_written : symbol_in (with_row ws n a ps) n ≡ a
   symbol_written = at_word 0 (row_width * n) (omega arith)
-
-  pub answer_written : answer_in (with_row ws n a ps) n ≡ 0
-  answer_written = at_word 1 (row_width * n + 1) (omega arith)
 
   pub places_written : length ps ≡ 4 → places_in (with_row ws n a ps) n ≡ ps
   places_written l =
