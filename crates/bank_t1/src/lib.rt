@@ -90,7 +90,7 @@ fn row_fits(words: &[u32], counts: &[u8], used: u16, index: &[u16], row: Row) ->
     Some(hole)
 }
 
-// The slot of a row among the earlier ones: it holds the one that is equal to it, if there is one.
+// The slot of a row among the earlier ones: it holds the one that is equal to it, or 0 for none, as `find_in` has it.
 fn seat_of(words: &[u32], index: &[u16], row: Row) -> usize
     requires { Within words.now row.0 × Finding words.now row.0 index.now }
     ensures { let symbol = symbol_in words.now row.0 in

@@ -1,6 +1,6 @@
 // The ways in which a run's lists change (§3, §4), by value. Zeros and the lists of a start are model's `zero_lists` and `started`;
 // each other way has its definition in specs/Changes.antt.
-// Where a call does not name a field, it stays.
+// Where a call does not name a field, it stays. Row 0 is none in hand and none asked, and accepted is 0 or 1: C reads and writes `Lists`.
 ghost use Rattle.std.specs.Prelude.{◌≡◌, ◌≤◌, ◌<◌, length};
 ghost use Rattle.model.specs.Limits.{most_symbols, most_rules, most_contexts};
 ghost use Rattle.model.specs.Base.{over};

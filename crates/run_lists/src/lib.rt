@@ -17,7 +17,7 @@ pub fn is_among(xs: &[u16], row: Row) -> bool
     xs.contains(&row.0)
 }
 
-// The place of a row in a list; the length of the list for none.
+// The place of a row in a list; the length of the list for none, as model's place_of has it: call_emit's `state_of` promises that of any row.
 pub fn place_of(xs: &[u16], row: Row) -> usize
     ensures { result ≡ place_of row.0 0 xs.now }
 {

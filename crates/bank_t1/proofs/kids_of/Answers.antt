@@ -34,12 +34,12 @@ loop-k-preserved c =
     let early : kid_in a.words.now a.row.0 l.k < a.row.0 = omega arith in
     let next = left_say a.words.now a.index.now a.row.0 a.count (l.k + 1) in
     elim c.if-has_hole.branch [
-      then-has_hole+else-hole-ne0 w ↦
-        let p = read a.index.now _ (kid_in a.words.now a.row.0 l.k) _ _ b c.has_hole.ensures w.if-has_hole.true in
-        ap next w.hole-is ∙ sym (hole_here (hole_by a.index.now) a.words.now a.row.0 a.count c.requires.2 l.k l.hole c.loop-k-test.true early p w.if-hole-ne0.false) ∙ l.invariant
-    | else-has_hole w ↦
-        let p = read a.index.now _ (kid_in a.words.now a.row.0 l.k) _ _ b c.has_hole.ensures w.if-has_hole.false in
-        ap next w.hole-is ∙ sym (none_here (hole_by a.index.now) a.words.now a.row.0 a.count c.requires.2 l.k l.hole c.loop-k-test.true early p) ∙ l.invariant
+      | then-has_hole+else-hole-ne0 w ↦
+          let p = read a.index.now _ (kid_in a.words.now a.row.0 l.k) _ _ b c.has_hole.ensures w.if-has_hole.true in
+          ap next w.hole-is ∙ sym (hole_here (hole_by a.index.now) a.words.now a.row.0 a.count c.requires.2 l.k l.hole c.loop-k-test.true early p w.if-hole-ne0.false) ∙ l.invariant
+      | else-has_hole w ↦
+          let p = read a.index.now _ (kid_in a.words.now a.row.0 l.k) _ _ b c.has_hole.ensures w.if-has_hole.false in
+          ap next w.hole-is ∙ sym (none_here (hole_by a.index.now) a.words.now a.row.0 a.count c.requires.2 l.k l.hole c.loop-k-test.true early p) ∙ l.invariant
     ]
 
 pub returns : goal.returns

@@ -18,7 +18,7 @@ pub loop-i-preserved : goal.loop-i-preserved
 loop-i-preserved c =
     let twin = c.row_at-twin.ensures ∙ c.seat_of-slot.ensures.1 in
     rw c.enter.ensures
-        (goes_on _ _ _ c.loop-i.invariant c.loop-i-test.true (sym c.in-Some.is ∙ c.row_fits.ensures) c.seat_of-slot.result c.seat_of-slot.ensures.0 c.seat_of-slot.ensures.1 (sym twin ∙ c.if-twin-ne0.false))
+    (goes_on _ _ _ c.loop-i.invariant c.loop-i-test.true (sym c.in-Some.is ∙ c.row_fits.ensures) c.seat_of-slot.result c.seat_of-slot.ensures.0 c.seat_of-slot.ensures.1 (sym twin ∙ c.if-twin-ne0.false))
 
 pub returns-clause-value : goal.returns-clause-value
 returns-clause-value c = sym (ends _ _ _ c.loop-i.invariant c.loop-i-test.false).0
