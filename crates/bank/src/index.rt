@@ -40,7 +40,7 @@ fn times(a: u32, by: u32) -> u64
     u64::from(a) * u64::from(by)
 }
 
-// A number below 2^31 scaled to one below `size`.
+// A number below 2^31 scaled to one below `size`. By `as`: no From leads from u64 to usize or back.
 fn scaled(x: u64, size: usize) -> usize
     requires { (x < 2147483648) × (0 < size) × (size ≤ most_buckets) }
     ensures { (result ≡ x * size / 2147483648) × (result < size) }
