@@ -129,10 +129,7 @@ fn above(words: &mut [u32], used: u16, index: &mut [u16], row: Row, place: usize
 {
     let symbol = rows::symbol_of(words, row);
     let mut places = rows::places_of(words, row);
-    places[place] = kid.0 as u32;
-    let mut hole = 0;
-    if bank_t1::has_hole(index, kid) {
-        hole = place as u8 + 1;
-    }
+    places[place] = u32::from(kid.0);
+    let hole = if bank_t1::has_hole(index, kid) { place as u8 + 1 } else { 0 };
     put(words, used, index, symbol, places, hole)
 }

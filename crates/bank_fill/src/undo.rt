@@ -5,18 +5,16 @@ ghost use Rattle.model.specs.Limits.{row_width};
 ghost use Rattle.bank_fill.specs.Saved.{Saved, PutBack};
 
 use model::limits::ROW_WIDTH;
+use std::cmp::min;
 
 // Saves the rows from `used` on, and no others: the first of them at the front of `saved`.
 pub fn save(words: &[u32], used: u16, saved: &mut [u32])
     requires { length words.now ≤ row_width * used + length saved.old }
     ensures { Saved words.now used saved.new }
 {
-    let first = ROW_WIDTH * used as usize;
-    let mut i = first;
-    while i < words.len() {
-        saved[i - first] = words[i];
-        i += 1;
-    }
+    let first = min(ROW_WIDTH * used as usize, words.len());
+    let behind = &words[first..];
+    saved[..behind.len()].copy_from_slice(behind);
 }
 
 // Puts them back.
@@ -26,9 +24,6 @@ pub fn restore(words: &mut [u32], used: u16, saved: &[u32])
     ensures { PutBack words.old used saved.now words.new }
 {
     let start = ROW_WIDTH * used as usize;
-    let mut at = start;
-    while at < words.len() {
-        words[at] = saved[at - start];
-        at += 1;
-    }
+    let behind = &mut words[start..];
+    behind.copy_from_slice(&saved[..behind.len()]);
 }

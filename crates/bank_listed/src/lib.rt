@@ -50,13 +50,6 @@ pub fn record_fault(counts: &[u8], symbols: &[u8]) -> u8
     15
 }
 
-// A row's number as wide as a child place.
-fn wide(row: Row) -> u32
-    ensures { result ≡ row.0 }
-{
-    row.0 as u32
-}
-
 // The top of a stack of rows as the child places of the next row, in order.
 pub fn top_places(stack: &[u16; MOST_LISTED], height: usize, count: usize) -> [u32; 4]
     requires { (length stack.now ≡ most_listed)
@@ -66,10 +59,8 @@ pub fn top_places(stack: &[u16; MOST_LISTED], height: usize, count: usize) -> [u
     ensures { result ≡ padded (top count (stack_of stack.now height)) }
 {
     let mut places = [0u32; 4];
-    let mut k = 0;
-    while k < count {
-        places[k] = wide(Row(stack[height - (count - k)]));
-        k += 1;
+    for k in 0..count {
+        places[k] = u32::from(stack[height - count + k]);
     }
     places
 }
@@ -116,19 +107,16 @@ pub fn known_row(words: &[u32], counts: &[u8], used: u16, index: &[u16], symbols
 {
     let mut stack = [0u16; MOST_LISTED];
     let mut height = 0;
-    let mut at = 0;
-    while at < symbols.len() {
-        let symbol = symbols[at] as u32;
-        let count = counts[symbol as usize] as usize;
+    for symbol in symbols {
+        let count = counts[*symbol as usize] as usize;
         let places = top_places(&stack, height, count);
-        let row = index::find(words, used, index, symbol, places);
+        let row = index::find(words, used, index, u32::from(*symbol), places);
         if row.0 == 0 {
             return Row(0);
         }
         height -= count;
         stack[height] = row.0;
         height += 1;
-        at += 1;
     }
     Row(stack[0])
 }

@@ -10,6 +10,7 @@ ghost use Rattle.bank_listed.specs.Sizes.{Sizing};
 use bank::rows;
 use model::Row;
 use model::limits::{MOST_LISTED, MOST_ROWS};
+use std::cmp::min;
 
 // As far as sizes are counted: one more than a record that is written out may have.
 const MOST: u16 = MOST_LISTED as u16 + 1;
@@ -24,16 +25,10 @@ fn row_size(words: &[u32], counts: &[u8], used: u16, sizes: &[u16; MOST_ROWS], r
     let symbol = rows::symbol_of(words, row);
     let count = counts[symbol as usize] as usize;
     let mut size: u16 = 1;
-    let mut k = 0;
-    while k < count {
-        let kid = rows::kid_of(words, row, k);
-        size += sizes[kid as usize];
-        k += 1;
+    for k in 0..count {
+        size += sizes[rows::kid_of(words, row, k) as usize];
     }
-    if MOST < size {
-        return MOST;
-    }
-    size
+    min(size, MOST)
 }
 
 // The cut size of a used row, by one pass over the rows up to it.
@@ -43,12 +38,8 @@ pub fn size_of(words: &[u32], counts: &[u8], used: u16, row: Row) -> u16
 {
     let mut sizes = [0u16; MOST_ROWS];
     sizes[0] = 1;
-    let last = row.0;
-    let mut i: u16 = 1;
-    while i <= last {
-        let size = row_size(words, counts, used, &sizes, Row(i));
-        sizes[i as usize] = size;
-        i += 1;
+    for i in 1..row.0 + 1 {
+        sizes[i as usize] = row_size(words, counts, used, &sizes, Row(i));
     }
-    sizes[last as usize]
+    sizes[row.0 as usize]
 }

@@ -20,11 +20,8 @@ fn write_states(t: &[u16], s_in_t: &[u16; MOST_STATES], states: usize, s: &mut [
         × ((i : ℕ) → i < states → get_or s_in_t.now i 0 < length t.now) }
     ensures { s.new ≡ over (rows_at t.now (take states s_in_t.now)) s.old }
 {
-    let mut i = 0;
-    while i < states {
-        let at = s_in_t[i] as usize;
-        s[i] = t[at];
-        i += 1;
+    for i in 0..states {
+        s[i] = t[s_in_t[i] as usize];
     }
 }
 

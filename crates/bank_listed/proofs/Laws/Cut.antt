@@ -2,7 +2,7 @@
 -- A sum cut once is the sum with its parts cut before, for a part past the cut takes the sum past it.
 use mathlib.Core.Path.{◌≡◌, refl, sym, ◌∙◌}
 use mathlib.Core.Bool.{Bool, true, false, cond}
-use Prim.Native.Nat.{ℕ, ◌+◌, ◌≤◌, ◌<◌}
+use Prim.Native.Nat.{ℕ, ◌+◌, ◌≤◌, ◌<◌, min}
 use native.Mathlib.Omega.{arith}
 use lib.Dec.{leb}
 use borrow.Author.Tests.{leb-true, leb-false, le-leb}
@@ -26,6 +26,14 @@ cut_most n = go (leb n most_counted) refl
     go : (b : Bool) → leb n most_counted ≡ b → cond b n most_counted ≤ most_counted
     go true e = leb-true n most_counted e
     go false e = omega arith
+
+-- the cut size is the smaller of two
+pub cut_least : (n : ℕ) → min n most_counted ≡ cut n
+cut_least n = go (leb n most_counted) refl
+  where
+    go : (b : Bool) → leb n most_counted ≡ b → min n most_counted ≡ cond b n most_counted
+    go true e = let h = leb-true n most_counted e in omega arith
+    go false e = let h = leb-false n most_counted e in omega arith
 
 -- WHAT IT TELLS: the size of a record that can be listed; else that it is larger, and only then
 pub cut_same : (n : ℕ) → n ≤ most_listed → cut n ≡ n
