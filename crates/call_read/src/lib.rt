@@ -2,20 +2,19 @@
 // 18, 30, then what the call wants of sound tables.
 #![tactic(auto)]
 
-ghost use Rattle.std.specs.Prelude.{◌≡◌, true, ◌*◌, ◌<◌, ◌≤◌, length};
-ghost use Rattle.model.specs.Limits.{row_width};
+ghost use Rattle.std.specs.Prelude.{◌≡◌, true};
 ghost use Rattle.model.specs.Calls.{looks};
 ghost use Rattle.model.specs.Entry.{size_fits, lent_fits, call_seen, emit_seen, emit_out, judged, judge_seen};
 ghost use Rattle.sound.specs.Working.{Room};
-ghost use Rattle.call.specs.Ladder.{small_rows, small_rules};
+ghost use Rattle.call.specs.Ladder.{Enough};
 ghost use Rattle.call_read.specs.Read.{ReadAs, UsedAs, ReadTo};
 
-use bank::index::INDEX_WIDTH;
 use bank::notes;
-use bank::notes::NOTE_WIDTH;
-use call::ladder;
-use call::ladder::{SMALL_ROWS, SMALL_RULES};
-use model::limits::{MOST_CONTEXTS, MOST_ROWS, MOST_RULES, ROW_WIDTH};
+use call::ladder::{
+    MID_INDEX, MID_NOTES, MID_TABLE, SMALL_INDEX, SMALL_NOTES, SMALL_TABLE, Size, TINY_INDEX,
+    TINY_NOTES, TINY_TABLE, WIDE_INDEX, WIDE_NOTES, WIDE_TABLE, size_for,
+};
+use model::limits::ROW_WIDTH;
 use model::{Emitted, Judged, Lists, Seen};
 
 // What a call that reads wants: whether the tables are sound, the list of the proposed automaton, or its verdict on a listed record.
@@ -90,44 +89,47 @@ fn read_in(
     }
 }
 
-// In small room: few rows, and few transitions.
-fn read_small(words: &[u32], lists: Lists, wants: Wants, symbols: &[u8], out: &mut [u8]) -> Got
+// In arrays of these lengths. Each size has a frame of its own: a small call touches no page of wide arrays.
+#[inline(never)]
+fn read_room<const INDEX: usize, const TABLE: usize, const NOTES: usize>(
+    words: &[u32],
+    lists: Lists,
+    wants: Wants,
+    symbols: &[u8],
+    out: &mut [u8],
+) -> Got
     requires { (size_fits words.now ≡ true)
         × (lent_fits words.now lists ≡ true)
-        × (length words.now ≤ row_width * small_rows)
-        × (lists.rules < small_rules) }
+        × Enough words.now lists.rules INDEX TABLE NOTES }
     ensures { ReadAs words.now lists wants symbols.now out.old result out.new }
 {
-    let mut index = [0u16; INDEX_WIDTH * SMALL_ROWS];
-    let mut table = [0u8; MOST_CONTEXTS * SMALL_RULES];
-    let mut notes = [0u16; NOTE_WIDTH * SMALL_ROWS];
+    let mut index = [0u16; INDEX];
+    let mut table = [0u8; TABLE];
+    let mut notes = [0u16; NOTES];
     read_in(
         words, lists, wants, symbols, out, &mut index, &mut table, &mut notes,
     )
 }
 
-// In room for all that may be lent.
-fn read_wide(words: &[u32], lists: Lists, wants: Wants, symbols: &[u8], out: &mut [u8]) -> Got
-    requires { (size_fits words.now ≡ true) × (lent_fits words.now lists ≡ true) }
-    ensures { ReadAs words.now lists wants symbols.now out.old result out.new }
-{
-    let mut index = [0u16; INDEX_WIDTH * MOST_ROWS];
-    let mut table = [0u8; MOST_CONTEXTS * MOST_RULES];
-    let mut notes = [0u16; NOTE_WIDTH * MOST_ROWS];
-    read_in(
-        words, lists, wants, symbols, out, &mut index, &mut table, &mut notes,
-    )
-}
-
-// In the smaller room where it is enough for the rows lent.
+// In the smallest room that is enough for the rows lent.
 fn read(words: &[u32], lists: Lists, wants: Wants, symbols: &[u8], out: &mut [u8]) -> Got
     requires { (size_fits words.now ≡ true) × (lent_fits words.now lists ≡ true) }
     ensures { ReadAs words.now lists wants symbols.now out.old result out.new }
 {
-    if ladder::is_small(words.len() / ROW_WIDTH, lists.rules) {
-        return read_small(words, lists, wants, symbols, out);
+    match size_for(words.len() / ROW_WIDTH, lists.rules) {
+        Size::Tiny => {
+            read_room::<TINY_INDEX, TINY_TABLE, TINY_NOTES>(words, lists, wants, symbols, out)
+        }
+        Size::Small => {
+            read_room::<SMALL_INDEX, SMALL_TABLE, SMALL_NOTES>(words, lists, wants, symbols, out)
+        }
+        Size::Mid => {
+            read_room::<MID_INDEX, MID_TABLE, MID_NOTES>(words, lists, wants, symbols, out)
+        }
+        Size::Wide => {
+            read_room::<WIDE_INDEX, WIDE_TABLE, WIDE_NOTES>(words, lists, wants, symbols, out)
+        }
     }
-    read_wide(words, lists, wants, symbols, out)
 }
 
 // How many words a call reads that adds no row: those of the used rows where they are some, and lent; else all.
@@ -137,23 +139,16 @@ fn words_read(used: u16, size: usize) -> usize
     if used == 0 {
         return size;
     }
-    let most = ROW_WIDTH * used as usize;
-    if size < most {
-        return size;
-    }
-    most
+    size.min(ROW_WIDTH * used as usize)
 }
 
-// Reading the used rows alone, where nothing is written. Few rows are read in a frame that has no room for more.
+// Reading the used rows alone, where nothing is written.
 fn read_used(words: &[u32], lists: Lists, wants: Wants, symbols: &[u8]) -> Got
     requires { (size_fits words.now ≡ true) × (lent_fits words.now lists ≡ true) }
     ensures { UsedAs words.now lists wants symbols.now result }
 {
     let mut none = [0u8; 1];
     let most = words_read(lists.used, words.len());
-    if ladder::is_small(most / ROW_WIDTH, lists.rules) {
-        return read_small(&words[..most], lists, wants, symbols, &mut none[..0]);
-    }
     read(&words[..most], lists, wants, symbols, &mut none[..0])
 }
 
