@@ -1,5 +1,6 @@
 -- `tried::first` meets its contract: what the call on the first words says of them, said of all.
 use Rattle.std.proofs.Common.{◌+◌, ◌++◌, ◌/◌, length, drop, arith}
+use Rattle.model.specs.Limits.{row_width}
 use Rattle.call.specs.Said.{call_of}
 use Rattle.call_room.specs.Tried.{FirstAs}
 use Rattle.call_room.proofs.Laws.First.{first_as}
@@ -10,7 +11,7 @@ pub returns-then-n-words : goal.returns-then-n-words
 returns-then-n-words c =
     let s = c.args in
     let d = c.in_smallest-done in
-    (first_as s.words.now s.lists (call_of s.said s.symbols.now) d.result d.new.words c.requires.0 c.requires.1 (s.lists.used + length s.saved.now / 6)
+    (first_as s.words.now s.lists (call_of s.said s.symbols.now) d.result d.new.words c.requires.0 c.requires.1 (s.lists.used + length s.saved.now / row_width)
     (omega arith) (omega arith) c.min-n.result (λ h. omega arith) (λ h. omega arith) d.ensures).short c.if-seen-eq34.true
 
 pub returns : goal.returns
@@ -18,7 +19,7 @@ returns c =
     let s = c.args in
     let d = c.in_smallest-done in
     let f : FirstAs s.words.now c.min-n.result s.lists (call_of s.said s.symbols.now) d.result (d.new.words ++ drop c.min-n.result s.words.now) =
-    first_as s.words.now s.lists (call_of s.said s.symbols.now) d.result d.new.words c.requires.0 c.requires.1 (s.lists.used + length s.saved.now / 6)
+    first_as s.words.now s.lists (call_of s.said s.symbols.now) d.result d.new.words c.requires.0 c.requires.1 (s.lists.used + length s.saved.now / row_width)
     (omega arith) (omega arith) c.min-n.result (λ h. omega arith) (λ h. omega arith) d.ensures in
     elim c.else-seen-eq34.branch [
       | else-seen-eq34-via-then-seen-eq34+else-n-words w ↦ f.all (omega (arith, w.if-n-words.false))
