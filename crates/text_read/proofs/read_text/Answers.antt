@@ -10,12 +10,12 @@ returns-then-whole-len c =
     let t : Text c.args.letters.now c.args.counts.now c.index-known.result (take c.args.len c.args.text.now) c.args.len r c.read_record-whole.new.text =
     record { few = omega arith; balanced = sym c.is_balanced.ensures ∙ c.if-not-is_balanced.false; known = c.index-known.ensures; came = c.read_record-whole.ensures } in
     text_none t (λ e. elim c.then-whole-len.branch [
-      | then-whole-len-via-then-whole-len w ↦ absurd (w.if-whole-len.true e)
-      | then-whole-len-via-else-whole-len+then-size-eq0 w ↦ w.if-size-eq0.true
+      | then-whole-len-via-then-whole-len w ↦ absurd (omega arith)
+      | then-whole-len-via-else-whole-len+then-size-eq0 w ↦ omega arith
     ])
 
 pub returns : goal.returns
 returns c =
     let t : Text c.args.letters.now c.args.counts.now c.index-known.result (take c.args.len c.args.text.now) c.args.len c.read_record-whole.result c.read_record-whole.new.text =
     record { few = omega arith; balanced = sym c.is_balanced.ensures ∙ c.if-not-is_balanced.false; known = c.index-known.ensures; came = c.read_record-whole.ensures } in
-    text_some t c.if-whole-len.false c.if-size-eq0.false
+    text_some t (omega arith) (omega arith)
