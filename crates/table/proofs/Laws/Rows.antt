@@ -24,9 +24,6 @@ row_more tb m k j h l =
     ap (λ (v : ℕ). v ∷ drop (suc j) (answers_at tb m k)) (row_at tb m k j l) ∙
     ap (λ (i : ℕ). get_or tb (most_contexts * k + j) 0 ∷ drop i (answers_at tb m k)) (sym (add-one j))
 
-pub row_end : (tb : List ℕ) (m k j : ℕ) → most_contexts * k + m ≤ length tb → m ≤ j → drop j (answers_at tb m k) ≡ []
-row_end tb m k j h l = drop_of_length-le (answers_at tb m k) {i = j} (let e = row_length tb m k h in omega arith)
-
 -- each row stands within the table; one that has room for n rows has room up to each of them
 pub sized_to : {tb : List ℕ} {n m : ℕ} → Sized tb n m → (k : ℕ) → k < n → Sized tb (k + 1) m
 sized_to z k l = record { long = omega arith; few_t = omega arith; few_c = z.few_c }
