@@ -5,9 +5,8 @@ use mathlib.Core.Bool.{true, false, true≢false}
 use mathlib.Core.List.{List}
 use Prim.Native.Nat.{ℕ, zero, suc, ◌+◌, ◌*◌, ◌≤◌, ◌<◌}
 use native.Mathlib.Omega.{arith}
-use native.Mathlib.Decide.{ℕ_discrete}
 use lib.ListN.{length, get_or, set, take}
-use lib.Seq.{get_or-set_same, get_or-set_other}
+use lib.Seq.{get_or-set_other}
 use Rattle.model.specs.Limits.{most_rules, most_contexts}
 use Rattle.model.specs.Base.{among}
 use Rattle.model.specs.Store.{Store, filled_row, frames_of}
@@ -15,7 +14,7 @@ use Rattle.model.specs.Table.{answer_at, answers_of}
 use Rattle.model.proofs.Laws.Turn.{answers_same}
 use Rattle.model.proofs.Laws.ReflectLists.{has_back}
 use Rattle.table.specs.Answers.{answers_at, Sized, Observed, KnownRows, Forgotten}
-use Rattle.table.proofs.Laws.Rows.{sized_to, row_fits, row_more}
+use Rattle.table.proofs.Laws.Rows.{row_fits, row_more}
 
 -- FORGOTTEN: no row at first, a row more, and none of them is known then
 -- FORGOTTEN: a row that begins with an unknown answer is not known

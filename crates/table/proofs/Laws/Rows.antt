@@ -1,11 +1,11 @@
 -- A row of the table of answers: how long it is, its answers one by one, and what is left of it after some.
 -- By the laws of take, drop and get_or: row k is the first m numbers from place `most_contexts * k` on.
 use mathlib.Core.Path.{◌≡◌, sym, ap, ◌∙◌}
-use mathlib.Core.List.{List, [], ◌∷◌}
+use mathlib.Core.List.{List, ◌∷◌}
 use Prim.Native.Nat.{ℕ, suc, ◌+◌, ◌*◌, ◌≤◌, ◌<◌}
 use native.Mathlib.Numerals.{add-one}
 use native.Mathlib.Omega.{arith}
-use lib.ListN.{length, get_or, drop, length-drop, drop_of_length-le}
+use lib.ListN.{length, get_or, drop, length-drop}
 use lib.Seq.{get_or-take, get_or-drop, length-take-le, drop-cons}
 use Rattle.model.specs.Limits.{most_contexts}
 use Rattle.table.specs.Answers.{answers_at, Sized}

@@ -1,5 +1,5 @@
 -- `table_answers::observe` meets its contract, by the laws of Steps: a transition's column is its row of answers.
-use Rattle.std.proofs.Common.{◌≡◌, ap, ◌∙◌, ℕ, ◌*◌, ◌≤◌, length, get_or, take, arith}
+use Rattle.std.proofs.Common.{◌*◌, ◌≤◌, length, arith}
 use Rattle.std.proofs.Math.Seq.{length-take-le}
 use Rattle.model.specs.Limits.{most_contexts}
 use Rattle.table_columns.proofs.Laws.Rows.{observed_more}

@@ -1,6 +1,6 @@
 -- `table_answers::observe_to_gap` meets its contract, by the laws of Steps: a row without an unknown answer is passed;
 -- an unknown answer in a row written anew is a gap; past the loop all have their rows.
-use Rattle.std.proofs.Common.{◌≡◌, sym, ap, ◌∙◌, ℕ, ◌*◌, ◌≤◌, length, get_or, take, arith}
+use Rattle.std.proofs.Common.{sym, ◌∙◌, ◌*◌, ◌≤◌, length, arith}
 use Rattle.std.proofs.Math.Seq.{length-take-le}
 use Rattle.model.specs.Limits.{most_contexts}
 use Rattle.table.proofs.Laws.Tied.{gap_at_last}

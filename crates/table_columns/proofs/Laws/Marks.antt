@@ -1,6 +1,6 @@
 -- Marks of rows in the last column of the notes: cleared, set at the members of C, and set at the hole children of marked rows.
 -- A mark set leaves the other marks, so marked rows stay marked.
-use mathlib.Core.Path.{◌≡◌, refl, sym, ap, ◌∙◌}
+use mathlib.Core.Path.{◌≡◌, sym, ap, ◌∙◌}
 use mathlib.Core.List.{List}
 use Prim.Native.Nat.{ℕ, ◌+◌, ◌*◌, ◌≤◌, ◌<◌}
 use native.Mathlib.Omega.{arith}
