@@ -11,7 +11,6 @@ use native.Mathlib.Omega.{arith}
 use lib.ListN.{length, get_or, take, set, length-map}
 use lib.Seq.{length-take-le, get_or-take}
 use Rattle.std.proofs.Common.{None, Some, Result, Ok, Err}
-use Rattle.model.specs.Limits.{most_states}
 use Rattle.model.specs.Base.{over}
 use Rattle.model.specs.Entry.{Arrays, lists_fit}
 use Rattle.model.specs.declared.Lists.{Lists}
@@ -40,9 +39,6 @@ module _ (o : maybe.Option (List ℕ)) (r : Places) (e : grown_by o (Some r)) wh
       go : (p : maybe.Option (List ℕ)) → grown_by p (Some r) → length (take r.states r.s) ≡ r.states
       go none d = cc
       go (some v) d = ap length d.0 ∙ sym d.1
-
-  pub grown_few : length r.s ≡ most_states → r.states ≤ most_states
-  grown_few l = omega (arith, grown_count, take_few r.states r.s)
 
   pub grown_rows_count : (t : List ℕ) → length (rows_at t (take r.states r.s)) ≡ r.states
   grown_rows_count t = length-map (take r.states r.s) (λ (p : ℕ). get_or t p 0) ∙ grown_count
