@@ -129,6 +129,13 @@ impl<'a> Terms<'a> {
         index::find(self.words, self.used, self.index, symbol, places)
     }
 
+    // The index, for tests that read it and no row.
+    pub fn index(&self) -> &[u16]
+        ensures { result.now ≡ self.now.index }
+    {
+        &self.index[..]
+    }
+
     // The place, plus one, of the child of a used row that has the hole; 0 where none has.
     pub fn hole_of(&self, row: Row) -> u16
         requires { row.0 < self.now.used }

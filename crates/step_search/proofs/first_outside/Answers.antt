@@ -6,9 +6,9 @@ use Rattle.std.proofs.lemmas.Iterator.Adapters.{serves_from_places}
 use Rattle.std.proofs.lemmas.Iterator.Search.{position_from_yields_List}
 use Rattle.model.specs.Store.{kids_at}
 use Rattle.model.specs.Entry.{store_of}
-use Rattle.bank.proofs.Laws.Children.{bank_stored, row_early}
+use Rattle.bank.proofs.Laws.Children.{bank_stored, kids_counted, row_early}
 use Rattle.step_search.specs.Spots.{not_own, code_of}
-use Rattle.step_search.proofs.Laws.Place.{code_position, kids_counted}
+use Rattle.step_search.proofs.Laws.Place.{code_position}
 use Rattle.step_search.proofs.first_outside.Goals as goal
 
 pub position-requires-clause-callable : goal.position-requires-clause-callable
