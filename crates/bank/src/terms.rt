@@ -52,6 +52,14 @@ impl<'a> Terms<'a> {
         self.used
     }
 
+    // How many children a symbol of the alphabet has.
+    pub fn arity_of(&self, symbol: u8) -> u8
+        requires { symbol < length self.now.counts }
+        ensures { result ≡ get_or self.now.counts symbol 0 }
+    {
+        self.counts[usize::from(symbol)]
+    }
+
     // The symbol of a used row.
     pub fn symbol_of(&self, row: Row) -> u32
         requires { row.0 < self.now.used }
@@ -102,6 +110,7 @@ impl<'a> Terms<'a> {
     }
 
     // The row that is `row` but for the child at a place, which is `with`; row 0 where that is not stored.
+    // Row 0 is none, as in the notes that `with` comes from and the result goes into (next_row, exchanged_by).
     pub fn exchanged(&self, row: Row, place: usize, with: Row) -> Row
         requires { let x = store_of self.now.words self.now.counts self.now.used in
             (0 < row.0)
@@ -118,6 +127,13 @@ impl<'a> Terms<'a> {
         let mut places = rows::places_of(self.words, row);
         places[place] = u32::from(with.0);
         index::find(self.words, self.used, self.index, symbol, places)
+    }
+
+    // The index, for tests that read it and no row.
+    pub fn index(&self) -> &[u16]
+        ensures { result.now ≡ self.now.index }
+    {
+        &self.index[..]
     }
 
     // The place, plus one, of the child of a used row that has the hole; 0 where none has.

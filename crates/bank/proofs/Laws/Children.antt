@@ -4,7 +4,7 @@ use mathlib.Core.Path.{◌≡◌, refl, sym, ap, ◌∙◌}
 use mathlib.Core.List.{List}
 use Prim.Native.Nat.{ℕ, zero, suc, ◌≤◌, ◌<◌}
 use native.Mathlib.Omega.{arith}
-use lib.ListN.{length, get_or}
+use lib.ListN.{length, get_or, take}
 use lib.Seq.{get_or-take, length-take-le}
 use Rattle.model.specs.Limits.{most_rows}
 use Rattle.model.specs.Base.{Below, none_below, one_below}
@@ -56,6 +56,10 @@ module _ {ws ns : List ℕ} {n : ℕ} (r : Stored ws ns n) (i : ℕ) (h : i < n)
   -- row 0 too, which has no children
   pub count_kids : get_or ns (symbol_in ws i) 0 ≡ length (kids_at (store_of ws ns n) i)
   count_kids = sym (ap length (kids_in_law ws ns n i h r.room) ∙ length-take-le (get_or ns (symbol_in ws i) 0) (places_in ws i) (r.good.wide (symbol_in ws i)))
+
+  -- as many of a row's places as it has children
+  pub kids_counted : kids_at (store_of ws ns n) i ≡ take (length (kids_at (store_of ws ns n) i)) (places_in ws i)
+  kids_counted = kids_in_law ws ns n i h r.room ∙ ap (λ (k : ℕ). take k (places_in ws i)) count_kids
 
   pub row_beyond : (k : ℕ) → k < length (kids_at (store_of ws ns n) i) → 0 < i
   row_beyond k l = omega (arith, below_at (earlier (store_of ws ns n) r.good i row_used) k l)

@@ -15,7 +15,7 @@ use Rattle.model.specs.Entry.{store_of, answers_in}
 use Rattle.model.specs.declared.Row.{Row}
 use Rattle.model.specs.declared.Verdict.{Verdict}
 use Rattle.model.proofs.Laws.Stack.{each_drop}
-use Rattle.bank.specs.Rows.{answer_in, Within}
+use Rattle.bank.specs.Rows.{answer_in}
 use Rattle.bank.specs.Index.{Finding}
 use Rattle.bank.proofs.Laws.Words.{answer_in_law}
 use Rattle.bank.proofs.Laws.Children.{find_used}
@@ -37,9 +37,6 @@ module _ {ws : List ℕ} (ns : List ℕ) {n : ℕ} {ix reps : List ℕ} (f : Fin
   found_in : (a : ℕ) (ks : List ℕ) → get_or reps (find_row x a ks) 0 < n
   found_in a ks = r.within (find_row x a ks) (find_used f a (padded ks))
 
-  within : {k : ℕ} → k < n → Within ws k
-  within l = omega (arith, f.room)
-
   -- OF A STORED RECORD
   module _ (i : ℕ) where
     row_in : rep_row (store_of ws ns n) reps i < n
@@ -50,8 +47,8 @@ module _ {ws : List ℕ} (ns : List ℕ) {n : ℕ} {ix reps : List ℕ} (f : Fin
         go true l = omega (arith, f.some)
         go false l = l
 
-    pub row_lent : {k : ℕ} → k ≡ rep_row (store_of ws ns n) reps i → Within ws k
-    row_lent e = within (omega (arith, e, row_in))
+    pub row_low : {k : ℕ} → k ≡ rep_row (store_of ws ns n) reps i → k < n
+    row_low e = omega (arith, e, row_in)
 
     abbrev says : (rep : ℕ) → Bool
     says k = not (eqb k 0) && eqb (answer_at w k) 2
@@ -79,11 +76,8 @@ module _ {ws : List ℕ} (ns : List ℕ) {n : ℕ} {ix reps : List ℕ} (f : Fin
       go false next e = e
 
   module _ (xs : List ℕ) where
-    list_in : (k : Row) → Ok k ≡ led_list (store_of ws ns n) reps xs → k.0 < n
+    pub list_in : (k : Row) → Ok k ≡ led_list (store_of ws ns n) reps xs → k.0 < n
     list_in k e = subst (EndsIn n) (sym e) (run_in 0 xs [] each_nil)
-
-    pub list_lent : (k : Row) → Ok k ≡ led_list (store_of ws ns n) reps xs → Within ws k.0
-    list_lent k e = within (list_in k e)
 
     pub list_says : (k : Row) {v : Verdict} → Ok k ≡ led_list (store_of ws ns n) reps xs → v ≡ cond (eqb (answer_in ws k.0) 2) Verdict.Accepted Verdict.NotFinal →
         v ≡ verdict_list_by (store_of ws ns n) (answers_in n ws) reps xs

@@ -4,4 +4,4 @@ use Rattle.table_verdict.proofs.Laws.Rows.{KidsLed}
 use Rattle.table_verdict.proofs.row_rep.Given as goal
 
 abbrev pub invariant-loop-k : goal.invariant-loop-k
-invariant-loop-k l = KidsLed (store_of l.words l.counts l.used) l.led l.row.0 l.places l.k
+invariant-loop-k l = KidsLed (store_of l.bank.words l.bank.counts l.bank.used) l.led l.row.0 l.places l.k

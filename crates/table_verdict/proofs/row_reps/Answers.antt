@@ -10,16 +10,16 @@ use Rattle.table_verdict.proofs.row_reps.Goals as goal
 
 pub loop-i-init : goal.loop-i-init
 loop-i-init c =
-    let u = used_of c.args.words.now c.args.counts.now c.args.used in
-    R.noted_start c.requires.0.good c.args.notes.now (omega (arith, u, c.requires.1))
+    let u = used_of c.args.bank.now.words c.args.bank.now.counts c.args.bank.now.used in
+    R.noted_start c.used.ensures.ready.good c.args.notes.now (omega (arith, u, c.requires.0))
 
 pub loop-i-preserved : goal.loop-i-preserved
 loop-i-preserved c =
-    let x = store_of c.args.words.now c.args.counts.now c.args.used in
-    let u = used_of c.args.words.now c.args.counts.now c.args.used in
-    let room : used x ≤ room_in c.args.notes.now = omega (arith, u, c.requires.1) in
-    let b : c.loop-i.i < used x = omega (arith, u, c.requires.2) in
-    R.noted_more c.args.notes.now c.loop-i.invariant room c.requires.0.good b c.row_rep-rep.result.0
+    let x = store_of c.args.bank.now.words c.args.bank.now.counts c.args.bank.now.used in
+    let u = used_of c.args.bank.now.words c.args.bank.now.counts c.args.bank.now.used in
+    let room : used x ≤ room_in c.args.notes.now = omega (arith, u, c.requires.0) in
+    let b : c.loop-i.i < used x = omega (arith, u, c.requires.1) in
+    R.noted_more c.args.notes.now c.loop-i.invariant room c.used.ensures.ready.good b c.row_rep-rep.result.0
     (c.row_rep-rep.ensures ∙ ap (λ (reps : List ℕ). rep_row x reps c.loop-i.i) c.column-reps.ensures)
 
 pub returns : goal.returns

@@ -6,4 +6,4 @@ use Rattle.table_verdict.proofs.Laws.Rows.{Noted}
 use Rattle.table_verdict.proofs.row_reps.Given as goal
 
 abbrev pub invariant-loop-i : goal.invariant-loop-i
-invariant-loop-i l = Noted (store_of l.words l.counts l.used) (set l.fn.notes (room_in l.fn.notes) 0) l.notes l.i
+invariant-loop-i l = Noted (store_of l.bank.words l.bank.counts l.bank.used) (set l.fn.notes (room_in l.fn.notes) 0) l.notes l.i

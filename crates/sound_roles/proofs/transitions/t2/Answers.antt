@@ -6,27 +6,28 @@ use Rattle.sound_roles.proofs.transitions.t2.Goals.{then-no_repeats, else-no_rep
 
 pub all_kids_in-requires : goal.all_kids_in-requires
 all_kids_in-requires c =
-    let e = records_ready c.requires c.args.t.now in (
-      c.requires.good,
-      c.requires.finding.room,
-      elim c.if-no_repeats.branch [
-        | then-no_repeats w ↦ cc
-        | else-no_repeats w ↦ cc
-      ],
-    )
+    let e = records_ready c.used-used.ensures.ready c.args.t.now in
+    elim c.if-no_repeats.branch [
+      | then-no_repeats w ↦ cc
+      | else-no_repeats w ↦ cc
+    ]
 
 pub returns-then-all_records : goal.returns-then-all_records
 returns-then-all_records c =
-    let e = records_ready c.requires c.args.t.now in
+    let e = records_ready c.used-used.ensures.ready c.args.t.now in
     elim c.if-no_repeats.branch [
-      | then-no_repeats w ↦ rw (← c.no_repeats.ensures, w.if-no_repeats.true, ← e, ← w.all_records.ensures, ← w.value-is, c.if-all_records.true) c.all_kids_in.ensures
+      | then-no_repeats w ↦
+          let a = rw (c.used-used.ensures.value, c.index-index.ensures) at w.all_records.ensures in
+          rw (← c.no_repeats.ensures, w.if-no_repeats.true, ← e, ← a, ← w.value-is, c.if-all_records.true) c.all_kids_in.ensures
       | else-no_repeats w ↦ cc
     ]
 
 pub returns-else-all_records : goal.returns-else-all_records
 returns-else-all_records c =
-    let e = records_ready c.requires c.args.t.now in
+    let e = records_ready c.used-used.ensures.ready c.args.t.now in
     elim c.if-no_repeats.branch [
-      | then-no_repeats w ↦ rw (← c.no_repeats.ensures, w.if-no_repeats.true, ← e, ← w.all_records.ensures, ← w.value-is, c.if-all_records.false) refl
+      | then-no_repeats w ↦
+          let a = rw (c.used-used.ensures.value, c.index-index.ensures) at w.all_records.ensures in
+          rw (← c.no_repeats.ensures, w.if-no_repeats.true, ← e, ← a, ← w.value-is, c.if-all_records.false) refl
       | else-no_repeats w ↦ rw (c.if-all_records.false, ← c.no_repeats.ensures, w.if-no_repeats.false) refl
     ]
