@@ -24,10 +24,7 @@ fn final_byte(words: &[u32], rep: Row) -> u8
     requires { Within words.now rep.0 }
     ensures { result ≡ final_byte words.now rep.0 }
 {
-    if rows::answer_of(words, rep) == 2 {
-        return 1;
-    }
-    0
+    u8::from(rows::answer_of(words, rep) == 2)
 }
 
 // A final byte for each state.
@@ -41,15 +38,13 @@ fn write_finals(words: &[u32], used: u16, s: &[u16], finals: &mut [u8; MOST_STAT
         (take states finals.new ≡ finals_of answers s.now)
         × (length finals.new ≡ most_states) }
 {
-    let mut q = 0;
-    while q < s.len() {
-        let byte = final_byte(words, Row(s[q]));
-        finals[q] = byte;
-        q += 1;
+    for (q, row) in s.iter().enumerate() {
+        finals[q] = final_byte(words, Row(*row));
     }
 }
 
 // The state of a representative: its place in S.
+#[tactic(auto, using(crate::proofs::Laws::Transition::place_most))]
 fn state_of(s: &[u16], rep: Row) -> State
     requires { length s.now ≤ most_states }
     ensures { result.0 ≡ place_of rep.0 0 s.now }
@@ -79,12 +74,10 @@ fn rule_bytes(
     let count = counts[symbol as usize] as usize;
     let mut bytes = [0u8; list::RULE_WIDTH];
     bytes[0] = symbol as u8;
-    let mut i = 0;
-    while i < count {
+    for i in 0..count {
         let kid = rows::kid_of(words, row, i) as u16;
         let state = state_of(s, Row(kid));
         bytes[1 + i] = state.0 as u8;
-        i += 1;
     }
     let target = state_of(s, Row(reps[row.0 as usize]));
     bytes[5] = target.0 as u8;
@@ -96,12 +89,7 @@ fn put_six(flat: &mut [u8; list::RULE_WIDTH * MOST_RULES], at: usize, bytes: [u8
     requires { (length flat.old ≡ rule_width * most_rules) × (at + rule_width ≤ rule_width * most_rules) }
     ensures { SixAt flat.old at bytes flat.new }
 {
-    flat[at] = bytes[0];
-    flat[at + 1] = bytes[1];
-    flat[at + 2] = bytes[2];
-    flat[at + 3] = bytes[3];
-    flat[at + 4] = bytes[4];
-    flat[at + 5] = bytes[5];
+    flat[at..at + list::RULE_WIDTH].copy_from_slice(&bytes);
 }
 
 // The rules in T's order.
@@ -123,11 +111,9 @@ fn write_rules(
         let rules = length t.now in
         Flat x s.now t.now reps.now rules flat.new }
 {
-    let mut k = 0;
-    while k < t.len() {
-        let bytes = rule_bytes(words, counts, used, s, reps, Row(t[k]));
+    for (k, row) in t.iter().enumerate() {
+        let bytes = rule_bytes(words, counts, used, s, reps, Row(*row));
         put_six(flat, list::RULE_WIDTH * k, bytes);
-        k += 1;
     }
 }
 
