@@ -1,10 +1,19 @@
--- The place of a list's first member with a property, as `position` of an iterator gives it, and its code. By induction on the list.
-use Rattle.std.proofs.Common.{◌≡◌, refl, ap, ◌∙◌, ℕ, ◌+◌, List, [], ◌∷◌, length, Bool, true, false, cond, suc, Some, None, add-one, arith}
+-- A row's children as its first places; and the place of a list's first member with a property, as `position` of an iterator gives it, and its code.
+-- The first by the bank's laws of a row, the second by induction on the list.
+use Rattle.std.proofs.Common.{◌≡◌, refl, ap, ◌∙◌, ℕ, ◌+◌, List, [], ◌∷◌, length, Bool, true, false, cond, suc, take, ◌<◌, Some, None, add-one, arith}
 use Rattle.std.specs.List.{position, position_or_len}
 use lib.Dec.{ltb}
 use borrow.Author.Tests.{lt-ltb, le-ltb, ltb-true, ltb-false}
-use Rattle.bank.specs.Bank.{place_code, one_further}
+use Rattle.model.specs.Store.{kids_at}
+use Rattle.model.specs.Entry.{store_of}
+use Rattle.bank.specs.Rows.{places_in}
+use Rattle.bank.specs.Bank.{Stored, place_code, one_further}
+use Rattle.bank.proofs.Laws.Words.{kids_in_law}
+use Rattle.bank.proofs.Laws.Children.{count_kids}
 use Rattle.step_search.specs.Spots.{code_of}
+
+pub kids_counted : {ws ns : List ℕ} {n : ℕ} → Stored ws ns n → (i : ℕ) → i < n → kids_at (store_of ws ns n) i ≡ take (length (kids_at (store_of ws ns n) i)) (places_in ws i)
+kids_counted {ws} {ns} {n} r i l = kids_in_law ws ns n i l r.room ∙ ap (λ (k : ℕ). take k (places_in ws i)) (count_kids r i l)
 
 behind : (m n : ℕ) → code_of (cond (ltb (1 + m) (suc n)) (Some (1 + m)) None) ≡ one_further (code_of (cond (ltb m n) (Some m) None))
 behind m n = go (ltb m n) refl

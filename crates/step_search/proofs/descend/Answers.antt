@@ -11,14 +11,14 @@ use Rattle.step_search.proofs.descend.Goals as goal
 pub loop-i-init : goal.loop-i-init
 loop-i-init c =
     let ns = c.args.notes.now in
-    let u = used_of c.args.words.now c.args.counts.now c.args.used in
+    let u = used_of c.args.bank.now.words c.args.bank.now.counts c.args.bank.now.used in
     let e = c.note_turn.ensures in (
       e.0,
       rw (e.1, e.2, e.3)
-          (descended_hole c.requires.0.good c.requires.2 (down_in ns) (spots_in ns) (exchanged_in ns)
-          (omega (arith, u, c.requires.1, column_long ns 1 (omega arith)))
-          (omega (arith, u, c.requires.1, column_long ns 2 (omega arith)))
-          (omega (arith, u, c.requires.1, column_long ns 3 (omega arith)))),
+          (descended_hole c.used-used.ensures.ready.good c.requires.1 (down_in ns) (spots_in ns) (exchanged_in ns)
+          (omega (arith, u, c.requires.0, column_long ns 1 (omega arith)))
+          (omega (arith, u, c.requires.0, column_long ns 2 (omega arith)))
+          (omega (arith, u, c.requires.0, column_long ns 3 (omega arith)))),
     )
 
 pub loop-i-preserved : goal.loop-i-preserved
@@ -30,6 +30,6 @@ loop-i-preserved c =
     let own = sym (c.column-reps.ensures ∙ v.0) in (
       e.0 ∙ v.0,
       rw (e.1, e.2, e.3)
-          (descended_more (code_of r.place) r.spot.0 r.row.0 (row_used (bank_stored c.requires.0) c.loop-i.i c.loop-i-test.true) v.1
+          (descended_more (code_of r.place) r.spot.0 r.row.0 (row_used (bank_stored c.used-used.ensures.ready) c.loop-i.i (omega (arith, c.loop-i-test.true, c.used-used.ensures.value))) v.1
           (rw own t.0) (record { spot_is = rw own t.1; row_is = rw own t.2 })),
     )

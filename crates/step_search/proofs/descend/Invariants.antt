@@ -8,4 +8,4 @@ use Rattle.step_search.proofs.descend.Given as goal
 abbrev pub invariant-loop-i : goal.invariant-loop-i
 invariant-loop-i l =
     (reps_in l.notes ≡ reps_in l.fn.notes)
-    × DescendedBy (not_own (reps_in l.fn.notes)) (reps_in l.fn.notes) (store_of l.words l.counts l.used) (down_in l.notes) (spots_in l.notes) (exchanged_in l.notes) l.i
+    × DescendedBy (not_own (reps_in l.fn.notes)) (reps_in l.fn.notes) (store_of l.bank.words l.bank.counts l.bank.used) (down_in l.notes) (spots_in l.notes) (exchanged_in l.notes) l.i

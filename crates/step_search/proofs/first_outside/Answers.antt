@@ -6,37 +6,31 @@ use Rattle.std.proofs.lemmas.Iterator.Adapters.{serves_from_places}
 use Rattle.std.proofs.lemmas.Iterator.Search.{position_from_yields_List}
 use Rattle.model.specs.Store.{kids_at}
 use Rattle.model.specs.Entry.{store_of}
-use Rattle.bank.specs.Bank.{Stored}
-use Rattle.bank.proofs.Laws.Words.{kids_in_law}
-use Rattle.bank.proofs.Laws.Children.{row_known, row_early}
+use Rattle.bank.proofs.Laws.Children.{bank_stored, row_early}
 use Rattle.step_search.specs.Spots.{not_own, code_of}
-use Rattle.step_search.proofs.Laws.Place.{code_position}
+use Rattle.step_search.proofs.Laws.Place.{code_position, kids_counted}
 use Rattle.step_search.proofs.first_outside.Goals as goal
-
-pub bounds-counts-symbol : goal.bounds-counts-symbol
-bounds-counts-symbol c =
-    let r : Stored c.args.words.now c.args.counts.now c.args.used = record { good = c.requires.0; room = c.requires.1 } in
-    omega (arith, c.symbol_of-symbol.ensures, row_known r c.args.row.0 c.requires.4 c.requires.3)
 
 pub position-requires-clause-callable : goal.position-requires-clause-callable
 position-requires-clause-callable c =
-    let r : Stored c.args.words.now c.args.counts.now c.args.used = record { good = c.requires.0; room = c.requires.1 } in
+    let r = bank_stored c.used.ensures.ready in
     let i = c.args.row.0 in
-    let ks = kids_at (store_of c.args.words.now c.args.counts.now c.args.used) i in
-    let these = kids_in_law c.args.words.now c.args.counts.now c.args.used i c.requires.4 c.requires.1 in
+    let ks = kids_at (store_of c.args.bank.now.words c.args.bank.now.counts c.args.bank.now.used) i in
+    let these = kids_counted r i c.requires.2 in
     serves_from_places
     (YieldsList-from_slice ks cc)
     (λ x q k. search (rules, tests))
     (λ x k l e.
-    let early : x.now < i = omega (arith, e, get_or_default ks k x.now 0 l, row_early r i c.requires.4 c.requires.3 k l) in
-    let noted : x.now < length c.args.reps.now = omega (arith, c.requires.4, c.requires.2) in
-    let small : x.now < 2 ^ 16 = omega (arith, c.requires.4, c.ranges.used) in
+    let early : x.now < i = omega (arith, e, get_or_default ks k x.now 0 l, row_early r i c.requires.2 c.requires.1 k l) in
+    let noted : x.now < length c.args.reps.now = omega (arith, c.requires.2, c.requires.0) in
+    let small : x.now < 2 ^ 16 = omega (arith, c.requires.2, c.used.ensures.ready.finding.few) in
     search rules)
 
 pub returns : goal.returns
 returns c =
+    let r = bank_stored c.used.ensures.ready in
     let p = not_own c.args.reps.now in
-    let ks = kids_at (store_of c.args.words.now c.args.counts.now c.args.used) c.args.row.0 in
-    let these = kids_in_law c.args.words.now c.args.counts.now c.args.used c.args.row.0 c.requires.4 c.requires.1 in
+    let ks = kids_at (store_of c.args.bank.now.words c.args.bank.now.counts c.args.bank.now.used) c.args.row.0 in
+    let these = kids_counted r c.args.row.0 c.requires.2 in
     ap code_of (position_from_yields_List p _ _ c.position.result c.position.ensures.ran (YieldsList-from_slice ks cc) (λ x b q k. search (rules, tests)))
     ∙ code_position p ks
