@@ -6,6 +6,7 @@ ghost use Rattle.std.specs.Prelude.{◌≡◌, true, ◌*◌, ◌<◌, ◌≤◌
 ghost use Rattle.model.specs.Limits.{row_width};
 ghost use Rattle.model.specs.Calls.{looks};
 ghost use Rattle.model.specs.Entry.{size_fits, lent_fits, call_seen, emit_seen, emit_out, judged, judge_seen};
+ghost use Rattle.model.specs.Refusals.{emitted_as, verdict_as};
 ghost use Rattle.sound.specs.Working.{Room};
 ghost use Rattle.call.specs.Ladder.{small_rows, small_rules};
 ghost use Rattle.call_read.specs.Read.{ReadAs, UsedAs, ReadTo};
@@ -16,7 +17,8 @@ use bank::notes::NOTE_WIDTH;
 use call::ladder;
 use call::ladder::{SMALL_ROWS, SMALL_RULES};
 use model::limits::{MOST_CONTEXTS, MOST_ROWS, MOST_RULES, ROW_WIDTH};
-use model::{Emitted, Judged, Lists, Seen};
+use model::refusal::Refusal;
+use model::{Emitted, Judged, Lists, Seen, Verdict};
 
 // What a call that reads wants: whether the tables are sound, the list of the proposed automaton, or its verdict on a listed record.
 #[derive(Clone, Copy)]
@@ -38,29 +40,43 @@ fn numbered(number: u8) -> Got
     ensures { (result.emitted.number ≡ number) × (result.emitted.size ≡ 0) × (result.judged ≡ judged number 0 0) }
 {
     Got {
-        emitted: call_emit::refuse(number as u32),
-        judged: call_verdict::refuse(number),
+        emitted: Emitted {
+            number: number as u32,
+            size: 0,
+        },
+        judged: Judged {
+            number: number,
+            outcome: 0,
+            place: 0,
+        },
     }
 }
 
 // What emitting gets.
-fn wrote(emitted: Emitted) -> Got
-    ensures { result.emitted ≡ emitted }
+fn wrote(listed: Result<u32, Refusal>) -> Got
+    ensures { result.emitted ≡ emitted_as listed }
 {
-    Got {
-        emitted: emitted,
-        judged: call_verdict::refuse(0),
-    }
+    let mut got = numbered(0);
+    got.emitted = match listed {
+        Ok(size) => Emitted {
+            number: 0,
+            size: size,
+        },
+        Err(refusal) => Emitted::from(refusal),
+    };
+    got
 }
 
 // What a verdict gets.
-fn judges(judged: Judged) -> Got
-    ensures { result.judged ≡ judged }
+fn judges(verdict: Result<Verdict, Refusal>) -> Got
+    ensures { result.judged ≡ verdict_as verdict }
 {
-    Got {
-        emitted: call_emit::refuse(0),
-        judged: judged,
-    }
+    let mut got = numbered(0);
+    got.judged = match verdict {
+        Ok(verdict) => Judged::from(verdict),
+        Err(refusal) => Judged::from(refusal),
+    };
+    got
 }
 
 // Reading tables of a size that fits, in lists that fit, in the room lent.
@@ -161,15 +177,14 @@ fn read_used(words: &[u32], lists: Lists, wants: Wants, symbols: &[u8]) -> Got
 pub fn look(words: &[u32], lists: Lists) -> Seen
     ensures { result ≡ call_seen words.now lists looks }
 {
-    let fault = call::lent_fault(words, lists);
-    if fault != 0 {
-        return call::refusal(fault);
+    if let Err(refusal) = call::lent_fault(words, lists) {
+        return Seen::from(refusal);
     }
     let none = [0u8; 1];
     let got = read_used(words, lists, Wants::Look, &none);
     let emitted = got.emitted;
     if emitted.number != 0 {
-        return call::refusal(30);
+        return Seen::from(Refusal::Unsound);
     }
     call::told(lists)
 }
@@ -178,9 +193,8 @@ pub fn look(words: &[u32], lists: Lists) -> Seen
 pub fn verdict(words: &[u32], lists: Lists, symbols: &[u8]) -> Judged
     ensures { result ≡ judge_seen words.now lists symbols.now }
 {
-    let fault = call::lent_fault(words, lists);
-    if fault != 0 {
-        return call_verdict::refuse(fault);
+    if let Err(refusal) = call::lent_fault(words, lists) {
+        return Judged::from(refusal);
     }
     let got = read_used(words, lists, Wants::Judge, symbols);
     got.judged
@@ -191,9 +205,8 @@ pub fn emit(words: &[u32], lists: Lists, out: &mut [u8]) -> Emitted
     ensures value { result ≡ emit_seen words.now lists out.old }
     ensures bytes { out.new ≡ emit_out words.now lists out.old }
 {
-    let fault = call::lent_fault(words, lists);
-    if fault != 0 {
-        return call_emit::refuse(fault as u32);
+    if let Err(refusal) = call::lent_fault(words, lists) {
+        return Emitted::from(refusal);
     }
     let none = [0u8; 1];
     let got = read(words, lists, Wants::Emit, &none, out);

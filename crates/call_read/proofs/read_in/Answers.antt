@@ -1,0 +1,22 @@
+-- Of sound tables: with no question open the representatives give the proposal.
+use Rattle.std.proofs.Common.{rules, sym, subst, ◌∙◌}
+use Rattle.model.specs.Entry.{Arrays}
+use Rattle.sound.specs.Proposal.{Proposal}
+use Rattle.sound.proofs.Laws.Proposal.{proposal}
+use Rattle.call_read.proofs.read_in.Goals as goal
+
+pub emit_sound-requires : goal.emit_sound-requires
+emit_sound-requires c =
+    let l = c.args.lists in
+    let f : Arrays l = record { counts = search rules; s = search rules; t = search rules; c = search rules } in
+    let w = c.lists_sound.ensures.working c.if-not-lists_sound.false in
+    let e = sym c.lists_sound.ensures.value ∙ c.if-not-lists_sound.false in
+    (c.requires.0, c.requires.1, e, λ idle. subst (Proposal c.args.words.now l) (sym c.column-reps.ensures) (proposal l c.requires.1 f w e idle))
+
+pub judge_sound-requires : goal.judge_sound-requires
+judge_sound-requires c =
+    let l = c.args.lists in
+    let f : Arrays l = record { counts = search rules; s = search rules; t = search rules; c = search rules } in
+    let w = c.lists_sound.ensures.working c.if-not-lists_sound.false in
+    let e = sym c.lists_sound.ensures.value ∙ c.if-not-lists_sound.false in
+    (c.requires.0, c.requires.1, e, w.bank, λ idle. subst (Proposal c.args.words.now l) (sym c.column-reps.ensures) (proposal l c.requires.1 f w e idle))
