@@ -1,22 +1,17 @@
--- Of sound tables: with no question open the representatives give the proposal.
-use Rattle.std.proofs.Common.{rules, sym, subst, ◌∙◌}
+-- `call_read::read_in` meets its contract: of sound tables the step gets an index and the representatives, which give the proposal.
+use Rattle.std.proofs.Common.{rules, refl, sym, ◌∙◌}
 use Rattle.model.specs.Entry.{Arrays}
-use Rattle.sound.specs.Proposal.{Proposal}
-use Rattle.sound.proofs.Laws.Proposal.{proposal}
+use Rattle.call_read.proofs.Laws.Reads.{read_by}
 use Rattle.call_read.proofs.read_in.Goals as goal
 
-pub emit_sound-requires : goal.emit_sound-requires
-emit_sound-requires c =
-    let l = c.args.lists in
-    let f : Arrays l = record { counts = search rules; s = search rules; t = search rules; c = search rules } in
-    let w = c.lists_sound.ensures.working c.if-not-lists_sound.false in
-    let e = sym c.lists_sound.ensures.value ∙ c.if-not-lists_sound.false in
-    (c.requires.0, c.requires.1, e, λ idle. subst (Proposal c.args.words.now l) (sym c.column-reps.ensures) (proposal l c.requires.1 f w e idle))
+pub step-requires : goal.step-requires
+step-requires g c =
+    let a : Arrays c.args.lists = record { counts = search rules; s = search rules; t = search rules; c = search rules } in
+    let e = c.if-not-lists_sound.false in
+    c.requires.3 _ _ _ (read_by c.args.words.now c.args.lists c.requires.0 c.requires.1 a (c.lists_sound.ensures.working e) (sym c.lists_sound.ensures.value ∙ e) c.column.ensures)
 
-pub judge_sound-requires : goal.judge_sound-requires
-judge_sound-requires c =
-    let l = c.args.lists in
-    let f : Arrays l = record { counts = search rules; s = search rules; t = search rules; c = search rules } in
-    let w = c.lists_sound.ensures.working c.if-not-lists_sound.false in
-    let e = sym c.lists_sound.ensures.value ∙ c.if-not-lists_sound.false in
-    (c.requires.0, c.requires.1, e, w.bank, λ idle. subst (Proposal c.args.words.now l) (sym c.column-reps.ensures) (proposal l c.requires.1 f w e idle))
+pub returns : goal.returns
+returns g c =
+    let a : Arrays c.args.lists = record { counts = search rules; s = search rules; t = search rules; c = search rules } in
+    let e = c.if-not-lists_sound.false in
+    (_, _, _, _, read_by c.args.words.now c.args.lists c.requires.0 c.requires.1 a (c.lists_sound.ensures.working e) (sym c.lists_sound.ensures.value ∙ e) c.column.ensures, refl, c.step.ensures, refl)
