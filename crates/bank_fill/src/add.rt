@@ -11,11 +11,11 @@ use bank::{index, rows};
 use model::Row;
 use model::limits::ROW_WIDTH;
 
-// How adding rows ends: rows ran out, or the row with the rows used afterwards.
+// A row found or added, and the rows used afterwards; there is none where the rows run out.
 #[derive(Clone, Copy)]
-pub enum Grown {
-    Full,
-    At(Row, u16),
+pub struct Added {
+    pub row: Row,
+    pub used: u16,
 }
 
 // The row of a symbol and children, found or added; `hole` is the place, plus one, of its child with a hole.
@@ -27,7 +27,7 @@ pub fn row_for(
     symbol: u32,
     places: [u32; 4],
     hole: u8,
-) -> Grown
+) -> Option<Added>
     requires { Bank words.old counts.now used index.old
         × PlacesAsked (store_of words.old counts.now used) symbol places hole }
     ensures { let x = store_of words.old counts.now used in
@@ -45,21 +45,24 @@ fn put(
     symbol: u32,
     places: [u32; 4],
     hole: u8,
-) -> Grown
+) -> Option<Added>
     requires { Lent words.old used index.old }
     ensures { Put words.old used index.old symbol places hole result words.new index.new }
 {
     let slot = index::seek(words, used, index, symbol, places);
     let found = index::row_at(index, slot);
     if found.0 != 0 {
-        return Grown::At(found, used);
+        return Some(Added { row: found, used });
     }
     if words.len() < ROW_WIDTH * used as usize + ROW_WIDTH {
-        return Grown::Full;
+        return None;
     }
     rows::write_row(words, Row(used), symbol, places);
     index::enter(index, slot, Row(used), hole);
-    Grown::At(Row(used), used + 1)
+    Some(Added {
+        row: Row(used),
+        used: used + 1,
+    })
 }
 
 // A context, or the frames around a spot, filled: down along `down` from a row, and the rows found or added on the way back.
@@ -71,7 +74,7 @@ pub fn fill(
     down: &[u16],
     row: Row,
     with: Row,
-) -> Grown
+) -> Option<Added>
     requires { let x = store_of words.old counts.now used in
         Bank words.old counts.now used index.old
         × (used ≤ length down.now)
@@ -84,7 +87,7 @@ pub fn fill(
 {
     let i = row.0 as usize;
     if down[i] == 0 {
-        return Grown::At(with, used);
+        return Some(Added { row: with, used });
     }
     fill_frames(words, down, row, with, used, index)
 }
@@ -98,7 +101,7 @@ fn fill_frames(
     with: Row,
     used: u16,
     index: &mut [u16],
-) -> Grown
+) -> Option<Added>
     requires { Under (λ (counts : List ℕ). FramesAsked words.old counts used index.old down.now row.0 with.0) }
     ensures { (counts : List ℕ) →
         FramesAsked words.old counts used index.old down.now row.0 with.0 →
@@ -112,16 +115,12 @@ fn fill_frames(
     if down[kid as usize] == 0 {
         return above(words, used, index, row, k, with); // the innermost
     }
-    let at = Row(kid as u16);
-    let mut grown = fill_frames(words, down, at, with, used, index);
-    if let Grown::At(j, n) = grown {
-        grown = above(words, n, index, row, k, j); // on the way back
-    }
-    grown
+    let below = fill_frames(words, down, Row(kid as u16), with, used, index)?;
+    above(words, below.used, index, row, k, below.row) // on the way back
 }
 
 // The row that is `row` but for the child at a place, found or added.
-fn above(words: &mut [u32], used: u16, index: &mut [u16], row: Row, place: usize, kid: Row) -> Grown
+fn above(words: &mut [u32], used: u16, index: &mut [u16], row: Row, place: usize, kid: Row) -> Option<Added>
     requires { Lent words.old used index.old × (row.0 < used) × (place < 4) × (kid.0 < used) }
     ensures { let symbol = symbol_in words.old row.0 in
         let places = set (places_in words.old row.0) place kid.0 in

@@ -7,7 +7,7 @@ ghost use Rattle.bank.specs.Bank.{Bank};
 ghost use Rattle.bank_fill.specs.Adding.{Came};
 
 use crate::add;
-use crate::add::Grown;
+use crate::add::Added;
 use bank::index;
 use model::Row;
 
@@ -33,7 +33,7 @@ pub fn fill_context(
     context: Row,
     with: Row,
     down: &mut [u16],
-) -> Grown
+) -> Option<Added>
     requires { Bank words.old counts.now used index.old
         × (context.0 < used)
         × (has_hole (store_of words.old counts.now used) context.0 ≡ true)

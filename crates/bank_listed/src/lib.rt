@@ -15,7 +15,7 @@ ghost use Rattle.bank_listed.specs.Listed.{stack_of};
 
 use bank::index;
 use bank_fill::add;
-use bank_fill::add::Grown;
+use bank_fill::add::Added;
 use model::Row;
 use model::limits::MOST_LISTED;
 use model::refusal::Refusal;
@@ -81,7 +81,7 @@ pub fn store(
     used: u16,
     index: &mut [u16],
     symbols: &[u8],
-) -> Grown
+) -> Option<Added>
     requires { Bank words.old counts.now used index.old
         × Parses counts.now 0 symbols.now
         × (length symbols.now ≤ most_listed) }
@@ -92,26 +92,19 @@ pub fn store(
     let mut stack = [0u16; MOST_LISTED];
     let mut height = 0;
     let mut n = used;
-    let mut at = 0;
-    while at < symbols.len() {
-        let symbol = symbols[at] as u32;
-        let count = counts[symbol as usize] as usize;
+    for symbol in symbols {
+        let count = counts[*symbol as usize] as usize;
         let places = top_places(&stack, height, count);
-        let grown = add::row_for(words, counts, n, index, symbol, places, 0);
-        match grown {
-            Grown::Full => {
-                return Grown::Full;
-            }
-            Grown::At(row, m) => {
-                height -= count;
-                stack[height] = row.0;
-                height += 1;
-                n = m;
-            }
-        }
-        at += 1;
+        let added = add::row_for(words, counts, n, index, u32::from(*symbol), places, 0)?;
+        height -= count;
+        stack[height] = added.row.0;
+        height += 1;
+        n = added.used;
     }
-    Grown::At(Row(stack[0]), n)
+    Some(Added {
+        row: Row(stack[0]),
+        used: n,
+    })
 }
 
 // The row of a listed record where it stands already; row 0 for none.

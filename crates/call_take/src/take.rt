@@ -13,7 +13,7 @@ ghost use Rattle.call.specs.Said.{call_of};
 ghost use Rattle.call_take.specs.Taken.{mark_of, built_for, given_by};
 
 use bank::rows;
-use bank_fill::add::Grown;
+use bank_fill::add::Added;
 use bank_fill::undo;
 use call::{Done, Said};
 use model::{Lists, Row};
@@ -30,7 +30,13 @@ fn mark_of(said: Said) -> u8
 }
 
 // The row that the mark is for: the one asked about, or that of the record offered, which is stored.
-fn row_for(words: &mut [u32], lists: Lists, symbols: &[u8], said: Said, index: &mut [u16]) -> Grown
+fn row_for(
+    words: &mut [u32],
+    lists: Lists,
+    symbols: &[u8],
+    said: Said,
+    index: &mut [u16],
+) -> Option<Added>
     requires { (lists_fit lists ≡ true)
         × Bank words.old (counts_in lists) lists.used index.old
         × (fault_of (tables_of words.old lists) (call_of said symbols.now) ≡ 0) }
@@ -38,7 +44,10 @@ fn row_for(words: &mut [u32], lists: Lists, symbols: &[u8], said: Said, index: &
         Came words.old (counts_in lists) lists.used built result words.new index.new }
 {
     match said {
-        Said::Answer(_) => Grown::At(Row(lists.asked), lists.used),
+        Said::Answer(_) => Some(Added {
+            row: Row(lists.asked),
+            used: lists.used,
+        }),
         Said::Offer(_) => {
             let letters = lists.letters as usize;
             let counts = lists.counts;
@@ -80,27 +89,22 @@ pub fn take(
 {
     let used = lists.used;
     undo::save(words, used, saved);
-    match row_for(words, lists, symbols, said, index) {
-        Grown::Full => {
+    let Some(Added { row, used: n }) = row_for(words, lists, symbols, said, index) else {
+        undo::restore(words, used, saved);
+        return call::refuse(34, lists);
+    };
+    let old = rows::answer_of(words, row);
+    rows::set_answer(words, row, u32::from(mark_of(said)) + 1);
+    let begun = given(lists, said, row, n);
+    match step::advance(words, begun, index, table, notes) {
+        Ok(left) => Done {
+            seen: call::told(left),
+            lists: left,
+        },
+        Err(short) => {
+            rows::set_answer(words, row, old);
             undo::restore(words, used, saved);
-            call::refuse(34, lists)
-        }
-        Grown::At(row, n) => {
-            let old = rows::answer_of(words, row);
-            rows::set_answer(words, row, mark_of(said) as u32 + 1);
-            let begun = given(lists, said, row, n);
-            let stepped = step::advance(words, begun, index, table, notes);
-            let number = stepped.number;
-            if number != 0 {
-                rows::set_answer(words, row, old);
-                undo::restore(words, used, saved);
-                return call::refuse(number, lists);
-            }
-            let left = stepped.lists;
-            Done {
-                seen: call::told(left),
-                lists: left,
-            }
+            call::refuse(u8::from(short), lists)
         }
     }
 }

@@ -1,5 +1,5 @@
 -- What the probes return and leave: T1 behind the test of the size, and where it holds what model defines.
-use Rattle.std.specs.Prelude.{◌≡◌, Bool, true, false, ◌&&◌, cond, List, [], ℕ, ◌≤◌, ◌<◌, ltb, eqb, length, get_or}
+use Rattle.std.specs.Prelude.{◌≡◌, Bool, true, false, ◌&&◌, cond, List, [], ℕ, ◌≤◌, ◌<◌, ltb, eqb, length, get_or, Option, Some, None}
 use Rattle.model.specs.Store.{Store, Built, full, built, used, kids_at, has_hole, is_context, fill, frames_of}
 use Rattle.model.specs.Table.{tables}
 use Rattle.model.specs.Sound.{is_t1}
@@ -7,7 +7,7 @@ use Rattle.model.specs.Terms.{record_fault, store_from, known_row}
 use Rattle.model.specs.Entry.{store_of, answers_in, size_fits}
 use Rattle.bank.specs.Index.{hole_of, find_in}
 use Rattle.bank.specs.Bank.{place_code, Kept, with_rows}
-use Rattle.bank_fill.specs.declared.add.Grown.{Grown}
+use Rattle.bank_fill.specs.declared.add.Added.{Added}
 use Rattle.probe.specs.declared.Reply.{Reply}
 
 -- 18's test of the size, then T1
@@ -27,9 +27,9 @@ Marks ws ns n b out =
 abbrev pub said : (code row used : ℕ) → Reply
 said k i n = record { code = k; row = i; used = n }
 
-abbrev pub said_of : Grown → Reply
-said_of Grown.Full = said 0 0 0
-said_of (Grown.At i n) = said 1 i.0 n
+abbrev pub said_of : Option Added → Reply
+said_of None = said 0 0 0
+said_of (Some a) = said 1 a.row.0 a.used
 
 -- and what is left in the words
 abbrev pub Said : (words : List ℕ) → (n : ℕ) → Built → Reply → (after : List ℕ) → Type 0

@@ -15,7 +15,7 @@ ghost use Rattle.probe.specs.Probed.{is_passed, Shown, Marks, said, said_of, fou
 
 use bank::index::INDEX_WIDTH;
 use bank::{index, rows};
-use bank_fill::add::Grown;
+use bank_fill::add::Added;
 use bank_fill::context;
 use model::Row;
 use model::limits::MOST_ROWS;
@@ -115,19 +115,19 @@ fn refused() -> Reply
 }
 
 // How adding rows ended, as numbers.
-fn reply_of(grown: Grown) -> Reply
-    ensures { result ≡ said_of grown }
+fn reply_of(added: Option<Added>) -> Reply
+    ensures { result ≡ said_of added }
 {
-    match grown {
-        Grown::Full => Reply {
+    match added {
+        None => Reply {
             code: 0,
             row: 0,
             used: 0,
         },
-        Grown::At(row, used) => Reply {
+        Some(Added { row, used }) => Reply {
             code: 1,
             row: row.0,
-            used: used,
+            used,
         },
     }
 }
@@ -155,8 +155,8 @@ fn filled(
     }
     let mut down = [0u16; MOST_ROWS];
     let around = Row(context);
-    let grown = context::fill_context(words, counts, used, index, around, Row(with), &mut down);
-    reply_of(grown)
+    let added = context::fill_context(words, counts, used, index, around, Row(with), &mut down);
+    reply_of(added)
 }
 
 // A context filled, where T1 holds.
@@ -185,8 +185,7 @@ fn stored(words: &mut [u32], counts: &[u8], used: u16, index: &mut [u16], symbol
     if bank_listed::record_fault(counts, symbols).is_err() {
         return refused();
     }
-    let grown = bank_listed::store(words, counts, used, index, symbols);
-    reply_of(grown)
+    reply_of(bank_listed::store(words, counts, used, index, symbols))
 }
 
 // A listed record stored, where T1 holds.

@@ -13,13 +13,13 @@ ghost use Rattle.step_settle.specs.Stepped.{EndedAs};
 ghost use Rattle.step.specs.InHand.{InHand};
 
 use bank::notes;
-use bank::notes::NOTE_WIDTH;
 use bank_fill::add;
 use model::limits::MOST_RULES;
+use model::refusal::Refusal;
 use model::{Lists, Row};
 use run_lists::change;
 use step_search::Found;
-use step_settle::{Stepped, opened, putdown, short};
+use step_settle::{opened, putdown};
 
 // The row at the spot is no transition: it becomes one, and the record is put down.
 fn new_transition(
@@ -30,7 +30,7 @@ fn new_transition(
     notes: &mut [u16],
     hand: Row,
     spot: Row,
-) -> Stepped
+) -> Result<Lists, Refusal>
     requires { let x = (tables_of words.old lists).store in
         Bank words.old (counts_in lists) lists.used index.old
         × Run words.old lists
@@ -46,7 +46,7 @@ fn new_transition(
         EndedAs words.old lists (searched_of x found) result words.new }
 {
     if lists.rules as usize == MOST_RULES {
-        return short(36, lists);
+        return Err(Refusal::RulesShort);
     }
     let left = change::with_rule(lists, spot);
     putdown::put_down(words, left, index, table, notes, hand)
@@ -60,7 +60,7 @@ fn unknown(
     down: &[u16],
     hand: Row,
     rep: Row,
-) -> Stepped
+) -> Result<Lists, Refusal>
     requires { let x = (tables_of words.old lists).store in
         Bank words.old (counts_in lists) lists.used index.old
         × Run words.old lists
@@ -75,7 +75,7 @@ fn unknown(
 {
     let letters = lists.letters as usize;
     let counts = lists.counts;
-    let grown = add::fill(
+    let added = add::fill(
         words,
         &counts[..letters],
         lists.used,
@@ -84,7 +84,7 @@ fn unknown(
         hand,
         rep,
     );
-    opened(lists, hand, grown)
+    opened(lists, hand, added)
 }
 
 // The row at a row's spot.
@@ -92,8 +92,7 @@ fn spot_of(notes: &[u16], row: Row) -> Row
     requires { row.0 < room_in notes.now }
     ensures { result.0 ≡ get_or (spots_in notes.now) row.0 0 }
 {
-    let size = notes.len() / NOTE_WIDTH;
-    Row(notes[2 * size + row.0 as usize])
+    Row(notes::column(notes, 2)[row.0 as usize])
 }
 
 // The representative of a transition.
@@ -101,7 +100,7 @@ fn rep_of(notes: &[u16], row: Row) -> Row
     requires { row.0 < room_in notes.now }
     ensures { result.0 ≡ get_or (reps_in notes.now) row.0 0 }
 {
-    Row(notes[row.0 as usize])
+    Row(notes::column(notes, 0)[row.0 as usize])
 }
 
 // Where the search ended, the record is asked about or put down.
@@ -112,7 +111,7 @@ pub fn searched(
     table: &mut [u8],
     notes: &mut [u16],
     found: Found,
-) -> Stepped
+) -> Result<Lists, Refusal>
     requires { let x = tables_of words.old lists in
         let reps = reps_in notes.old in
         Bank words.old (counts_in lists) lists.used index.old

@@ -14,9 +14,10 @@ ghost use Rattle.step_search.specs.Spots.{Descended, search_by};
 ghost use Rattle.step_settle.specs.Stepped.{KnownTable, EndedAs};
 ghost use Rattle.step.specs.InHand.{InHand};
 
+use model::refusal::Refusal;
 use model::{Lists, Row};
 use step_search::Found;
-use step_settle::{Stepped, settle};
+use step_settle::settle;
 
 mod found; // found.rt: what the search in hand found: a missing transition, an unknown answer, answers that differ
 
@@ -54,7 +55,7 @@ pub fn advance(
     index: &mut [u16],
     table: &mut [u8],
     notes: &mut [u16],
-) -> Stepped
+) -> Result<Lists, Refusal>
     requires { Bank words.old (counts_in lists) lists.used index.old
         × Run words.old lists
         × NotesFor words.old notes.old

@@ -7,9 +7,9 @@ ghost use Rattle.run_lists.specs.Members.{states_in, rules_in};
 ghost use Rattle.table.specs.Answers.{Sized, rows_at};
 ghost use Rattle.step_settle.specs.Stepped.{ProposedAs};
 
-use crate::{Stepped, short};
 use model::Lists;
 use model::limits::MOST_STATES;
+use model::refusal::Refusal;
 use run_lists::change;
 
 // S as its places in T name it.
@@ -29,7 +29,7 @@ fn write_states(t: &[u16], s_in_t: &[u16; MOST_STATES], states: usize, s: &mut [
 }
 
 // The lists with S grown; short where it would have a 33rd state.
-pub fn proposed(lists: Lists, table: &[u8]) -> Stepped
+pub fn proposed(lists: Lists, table: &[u8]) -> Result<Lists, Refusal>
     requires { (lists_fit lists ≡ true)
         × (all_among (states_in lists) (rules_in lists) ≡ true)
         × Sized table.now lists.rules lists.contexts }
@@ -45,13 +45,10 @@ pub fn proposed(lists: Lists, table: &[u8]) -> Stepped
     let grown = table::grow(table, rules, contexts, s_in_t, lists.states);
     let ok = grown.ok;
     if !ok {
-        return short(35, lists);
+        return Err(Refusal::StatesShort);
     }
     let then = grown.s;
     let n = grown.states;
     write_states(&t[..rules], &then, n as usize, &mut s);
-    Stepped {
-        number: 0,
-        lists: change::proposing(lists, s, n),
-    }
+    Ok(change::proposing(lists, s, n))
 }

@@ -10,10 +10,10 @@ ghost use Rattle.run_lists.specs.Members.{counts_in};
 ghost use Rattle.run_lists.specs.Run.{Run};
 ghost use Rattle.step_settle.specs.Stepped.{EndedAs};
 
-use crate::{Stepped, settle, short};
+use crate::settle;
 use bank::notes;
 use bank_fill::add;
-use bank_fill::add::Grown;
+use model::refusal::Refusal;
 use model::{Lists, Row};
 use run_lists::change;
 
@@ -25,7 +25,7 @@ pub fn put_down(
     table: &mut [u8],
     notes: &mut [u16],
     hand: Row,
-) -> Stepped
+) -> Result<Lists, Refusal>
     requires { let x = (tables_of words.old lists).store in
         Bank words.old (counts_in lists) lists.used index.old
         × Run words.old lists
@@ -41,7 +41,7 @@ pub fn put_down(
     let letters = lists.letters as usize;
     let counts = lists.counts;
     let down = notes::column(notes, 1);
-    match add::fill(
+    let context = add::fill(
         words,
         &counts[..letters],
         lists.used,
@@ -49,12 +49,9 @@ pub fn put_down(
         down,
         hand,
         Row(0),
-    ) {
-        Grown::Full => short(34, lists),
-        Grown::At(context, n) => {
-            let left = change::with_context(lists, context, n);
-            table::forget(table, left.rules as usize);
-            settle::settled(words, left, index, table, notes)
-        }
-    }
+    )
+    .ok_or(Refusal::RowsShort)?;
+    let left = change::with_context(lists, context.row, context.used);
+    table::forget(table, left.rules as usize);
+    settle::settled(words, left, index, table, notes)
 }

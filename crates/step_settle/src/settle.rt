@@ -9,8 +9,9 @@ ghost use Rattle.run_lists.specs.Members.{counts_in};
 ghost use Rattle.run_lists.specs.Run.{Run};
 ghost use Rattle.step_settle.specs.Stepped.{KnownTable, EndedAs};
 
-use crate::{Stepped, opened, propose};
+use crate::{opened, propose};
 use bank_fill::context;
+use model::refusal::Refusal;
 use model::{Lists, Row};
 use table::Gap;
 
@@ -21,7 +22,7 @@ pub fn settled(
     index: &mut [u16],
     table: &mut [u8],
     notes: &mut [u16],
-) -> Stepped
+) -> Result<Lists, Refusal>
     requires { Bank words.old (counts_in lists) lists.used index.old
         × Run words.old lists
         × NotesFor words.old notes.old
@@ -45,8 +46,8 @@ pub fn settled(
         Gap::At(k, context) => {
             let around = Row(c[context.0 as usize]);
             let with = Row(t[k as usize]);
-            let grown = context::fill_context(words, counts, used, index, around, with, notes);
-            opened(lists, Row(0), grown)
+            let added = context::fill_context(words, counts, used, index, around, with, notes);
+            opened(lists, Row(0), added)
         }
     }
 }

@@ -20,7 +20,8 @@ use Rattle.bank.specs.Rows.{symbol_in, places_in}
 use Rattle.bank.specs.Bank.{place_code, one_further, Bank, frame_at}
 use Rattle.bank.proofs.Laws.Words.{used_of, symbol_in_law, places_in_law}
 use Rattle.bank_t1.proofs.Laws.T1.{hole_ready}
-use Rattle.bank_fill.specs.declared.add.Grown.{Grown}
+use Rattle.std.specs.Prelude.{Option}
+use Rattle.bank_fill.specs.declared.add.Added.{Added}
 use Rattle.bank_fill.specs.Adding.{kids_of, PlacesAsked, hole_above, Put}
 use Rattle.bank_fill.proofs.Laws.Coming.{Comes, comes_by}
 use Rattle.bank_fill.proofs.Laws.Adding.{put_comes}
@@ -109,6 +110,6 @@ module _ {ws ns : List ℕ} {n : ℕ} {xs : List ℕ} (r : Bank ws ns n xs) (i k
       }
 
   -- and how putting it ends
-  pub above_comes : {g : Grown} {vs xs' : List ℕ} → Put ws n xs (symbol_in ws i) (set (places_in ws i) k j) (hole_above xs j k) g vs xs' →
+  pub above_comes : {g : Option Added} {vs xs' : List ℕ} → Put ws n xs (symbol_in ws i) (set (places_in ws i) k j) (hole_above xs j k) g vs xs' →
       Comes ws ns n (row_for (store_of ws ns n) (symbol_at (store_of ws ns n) i) (filled_kids (frame_at (store_of ws ns n) i k) j)) g vs xs'
   above_comes p = comes_by (λ t. row_for (store_of ws ns n) (sym_in t) (sym above_kids t)) (put_comes r above_asks p)

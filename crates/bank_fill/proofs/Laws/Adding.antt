@@ -24,8 +24,9 @@ use Rattle.bank.specs.Bank.{place_code, Holed, Bank, Lent, with_rows}
 use Rattle.bank.proofs.Laws.Words.{used_of, length_with_row, front_with_row, symbol_written, places_written, one_row, store_with_rows, nodes_kept}
 use Rattle.bank.proofs.Laws.Trees.{finding_kept, finding_more, holes_kept, hole_entered}
 use Rattle.bank_t1.proofs.Laws.Row.{code_below}
-use Rattle.bank_fill.specs.declared.add.Grown.{Grown}
-use Rattle.bank_fill.specs.Adding.{grown_row, kids_of, PlacesAsked, Put, found, no_room, written}
+use Rattle.std.specs.Prelude.{Option, None}
+use Rattle.bank_fill.specs.declared.add.Added.{Added}
+use Rattle.bank_fill.specs.Adding.{added_row, kids_of, PlacesAsked, Put, found, no_room, written}
 use Rattle.bank_fill.proofs.Laws.Coming.{Comes, comes_by, comes_same, store_room}
 
 -- a row's hole stands where it stood in a store with more rows
@@ -45,7 +46,7 @@ pub fits_one : {ws : List ℕ} {n : ℕ} {xs : List ℕ} → Lent ws n xs → Wi
 fits_one r w = let l = r.lent in omega arith
 
 -- a row put, by equal symbols, places and marks
-pub put_as : {ws : List ℕ} {n : ℕ} {xs : List ℕ} {a b : ℕ} {ps qs : List ℕ} {h k : ℕ} {g : Grown} {vs xs' : List ℕ} → a ≡ b → ps ≡ qs → h ≡ k →
+pub put_as : {ws : List ℕ} {n : ℕ} {xs : List ℕ} {a b : ℕ} {ps qs : List ℕ} {h k : ℕ} {g : Option Added} {vs xs' : List ℕ} → a ≡ b → ps ≡ qs → h ≡ k →
     Put ws n xs a ps h g vs xs' → Put ws n xs b qs k g vs xs'
 put_as {ws} {n} {xs} {a} {b} {ps} {qs} {h} {k} {g} {vs} {xs'} d e f p =
     subst (λ (c : ℕ). Put ws n xs c qs k g vs xs') d
@@ -64,14 +65,14 @@ module _ {ws ns : List ℕ} {n : ℕ} {xs : List ℕ} (r : Bank ws ns n xs) {a :
   found_same = ap (find_in ws n a) q.unused
 
   -- FOUND
-  comes_found : (j : ℕ) → j ≡ find_in ws n a ps → (j ≡ 0 → ⊥) → Comes ws ns n (row_for (store_of ws ns n) a (kids_of ns a ps)) (grown_row j n) ws xs
+  comes_found : (j : ℕ) → j ≡ find_in ws n a ps → (j ≡ 0 → ⊥) → Comes ws ns n (row_for (store_of ws ns n) a (kids_of ns a ps)) (added_row j n) ws xs
   comes_found j p z =
       let f : j ≡ find_row (store_of ws ns n) a (kids_of ns a ps) = p ∙ found_same in
       let t : eqb (find_row (store_of ws ns n) a (kids_of ns a ps)) 0 ≡ false = ne_eqb (find_row (store_of ws ns n) a (kids_of ns a ps)) 0 (λ s. z (f ∙ s)) in
       comes_by (rw t (ap (λ (k : ℕ). built k (store_of ws ns n)) (sym f))) (comes_same r j)
 
   -- NO ROOM
-  comes_full : find_in ws n a ps ≡ 0 → length ws < row_width * n + row_width → Comes ws ns n (row_for (store_of ws ns n) a (kids_of ns a ps)) Grown.Full ws xs
+  comes_full : find_in ws n a ps ≡ 0 → length ws < row_width * n + row_width → Comes ws ns n (row_for (store_of ws ns n) a (kids_of ns a ps)) None ws xs
   comes_full p l =
       let t : eqb (find_row (store_of ws ns n) a (kids_of ns a ps)) 0 ≡ true = eq-eqb (find_row (store_of ws ns n) a (kids_of ns a ps)) 0 (sym found_same ∙ p) in
       let s : ltb (used (store_of ws ns n)) (rows_lent ws) ≡ false = le-ltb (used (store_of ws ns n)) (rows_lent ws) (omega (arith, used_of ws ns n)) in
@@ -152,7 +153,7 @@ module _ {ws ns : List ℕ} {n : ℕ} {xs : List ℕ} (r : Bank ws ns n xs) {a :
           holed k (inl l) = hole_old k l
           holed k (inr e) = rw e hole_new
 
-      comes_added : Comes ws ns n (row_for (store_of ws ns n) a (kids_of ns a ps)) (grown_row n (n + 1)) (with_row ws n a ps) (entered xs slot n hole)
+      comes_added : Comes ws ns n (row_for (store_of ws ns n) a (kids_of ns a ps)) (added_row n (n + 1)) (with_row ws n a ps) (entered xs slot n hole)
       comes_added =
           let f : eqb (find_row (store_of ws ns n) a (kids_of ns a ps)) 0 ≡ true = eq-eqb (find_row (store_of ws ns n) a (kids_of ns a ps)) 0 unseen in
           let l : ltb (used (store_of ws ns n)) (rows_lent ws) ≡ true = lt-ltb (used (store_of ws ns n)) (rows_lent ws) room in
@@ -160,16 +161,16 @@ module _ {ws ns : List ℕ} {n : ℕ} {xs : List ℕ} (r : Bank ws ns n xs) {a :
           comes_by e
           (record {
             came = (
-              (λ k. grown_row (sym (used_of ws ns n) k) (sym used_more k)),
+              (λ k. added_row (sym (used_of ws ns n) k) (sym used_more k)),
               words_are,
               subst (λ (k : ℕ). Bank (with_row ws n a ps) ns k (entered xs slot n hole)) (sym used_more) ready_more,
             );
           })
 
   -- ONE OF THESE
-  pub put_comes : {g : Grown} {vs xs' : List ℕ} → Put ws n xs a ps hole g vs xs' → Comes ws ns n (row_for (store_of ws ns n) a (kids_of ns a ps)) g vs xs'
+  pub put_comes : {g : Option Added} {vs xs' : List ℕ} → Put ws n xs a ps hole g vs xs' → Comes ws ns n (row_for (store_of ws ns n) a (kids_of ns a ps)) g vs xs'
   put_comes (found {j = j} e z) = comes_found j e z
   put_comes (no_room e l) = comes_full e l
   put_comes (written {index' = us} {slot = t} e w seat free v i) =
-      subst (λ (zs : List ℕ). Comes ws ns n (row_for (store_of ws ns n) a (kids_of ns a ps)) (grown_row n (n + 1)) zs us) (sym v)
-      (subst (λ (zs : List ℕ). Comes ws ns n (row_for (store_of ws ns n) a (kids_of ns a ps)) (grown_row n (n + 1)) (with_row ws n a ps) zs) (sym i) (comes_added e w t seat free))
+      subst (λ (zs : List ℕ). Comes ws ns n (row_for (store_of ws ns n) a (kids_of ns a ps)) (added_row n (n + 1)) zs us) (sym v)
+      (subst (λ (zs : List ℕ). Comes ws ns n (row_for (store_of ws ns n) a (kids_of ns a ps)) (added_row n (n + 1)) (with_row ws n a ps) zs) (sym i) (comes_added e w t seat free))

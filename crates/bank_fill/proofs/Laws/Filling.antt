@@ -14,8 +14,9 @@ use Rattle.bank.specs.Rows.{symbol_in, kid_in, places_in}
 use Rattle.bank.specs.Bank.{Bank, Lent, frame_at, path_of}
 use Rattle.bank.proofs.Laws.Words.{used_of}
 use Rattle.bank.proofs.Laws.Children.{bank_stored, row_beyond, row_kid}
-use Rattle.bank_fill.specs.declared.add.Grown.{Grown}
-use Rattle.bank_fill.specs.Adding.{grown_row, hole_above, Put, FramesAsked}
+use Rattle.std.specs.Prelude.{Option, None}
+use Rattle.bank_fill.specs.declared.add.Added.{Added}
+use Rattle.bank_fill.specs.Adding.{added_row, hole_above, Put, FramesAsked}
 use Rattle.bank_fill.proofs.Laws.Coming.{Comes, comes_by, comes_same, comes_row, Stage, stage, not_full}
 use Rattle.bank_fill.proofs.Laws.Adding.{lent_of}
 use Rattle.bank_fill.proofs.Laws.Above.{frame_place, frame_four, above_comes}
@@ -29,10 +30,10 @@ pub record Reached (ws ns : List ℕ) (n : ℕ) (fs : List Frame) (i j u : ℕ) 
   pub stands : Stage ws ns n j y u ws' xs
 
 pub reached : (ws ns : List ℕ) (n : ℕ) (fs : List Frame) (i : ℕ) → Good (store_of ws ns n) → Fits (store_of ws ns n) fs → i < n →
-    {j u : ℕ} {ws' xs : List ℕ} → Comes ws ns n (fill (store_of ws ns n) fs i) (grown_row j u) ws' xs → Reached ws ns n fs i j u ws' xs
+    {j u : ℕ} {ws' xs : List ℕ} → Comes ws ns n (fill (store_of ws ns n) fs i) (added_row j u) ws' xs → Reached ws ns n fs i j u ws' xs
 reached ws ns n fs i g q l {j} {u} {ws'} {xs} c = go (fill (store_of ws ns n) fs i) refl c
   where
-    go : (b : Built) → fill (store_of ws ns n) fs i ≡ b → Comes ws ns n b (grown_row j u) ws' xs → Reached ws ns n fs i j u ws' xs
+    go : (b : Built) → fill (store_of ws ns n) fs i ≡ b → Comes ws ns n b (added_row j u) ws' xs → Reached ws ns n fs i j u ws' xs
     go full e d = absurd (not_full d)
     go (built k y) e d =
         let f = fill_is fs (store_of ws ns n) g q i (omega (arith, used_of ws ns n)) k y e in
@@ -72,7 +73,7 @@ module _ {ws ns : List ℕ} {n : ℕ} {fs : List Frame} {i j u : ℕ} {ws' xs : 
   next_kid : j < u
   next_kid = let a = d.filled.within in let b = d.stands.count in omega arith
 
-  next_comes : {r : Grown} {vs xs' : List ℕ} →
+  next_comes : {r : Option Added} {vs xs' : List ℕ} →
       Comes ws' ns u (row_for (store_of ws' ns u) (symbol_at (store_of ws' ns u) row) (filled_kids (frame_at (store_of ws' ns u) row k) j)) r vs xs' →
       Comes ws ns n (fill (store_of ws ns n) (frame_at (store_of ws ns n) row k ∷ fs) i) r vs xs'
   unfolding fill
@@ -85,16 +86,16 @@ module _ {ws ns : List ℕ} {n : ℕ} {fs : List Frame} {i j u : ℕ} {ws' xs : 
       (comes_row ws ns n d.y d.filled.ext d.filled.good d.stands f.symbol (filled_kids f j) a (comes_by e c))
 
 -- ROWS RAN OUT: one fill is full where another is, and the first rows are kept
-full_on : {ws ns : List ℕ} {n : ℕ} {b c : Built} {vs xs : List ℕ} → (b ≡ full → c ≡ full) → Comes ws ns n b Grown.Full vs xs → Comes ws ns n c Grown.Full vs xs
+full_on : {ws ns : List ℕ} {n : ℕ} {b c : Built} {vs xs : List ℕ} → (b ≡ full → c ≡ full) → Comes ws ns n b None vs xs → Comes ws ns n c None vs xs
 full_on {ws} {ns} {n} {b} {c} {vs} {xs} f d = go b refl d
   where
-    go : (a : Built) → b ≡ a → Comes ws ns n a Grown.Full vs xs → Comes ws ns n c Grown.Full vs xs
+    go : (a : Built) → b ≡ a → Comes ws ns n a None vs xs → Comes ws ns n c None vs xs
     go full e k = comes_by (f e) (record { came = k.came })
     go (built i y) e k = let p = k.came.0 in let z : ◌≡◌ {A = ℕ} 0 1 = cc in absurd (omega arith)
 
 -- NO FRAME: a row whose entry names no place
 pub fill_none : {ws ns : List ℕ} {n : ℕ} {xs : List ℕ} → Bank ws ns n xs → (ds : List ℕ) (row i : ℕ) → get_or ds row 0 ≡ 0 →
-    Comes ws ns n (fill (store_of ws ns n) (path_of ds (store_of ws ns n) row) i) (grown_row i n) ws xs
+    Comes ws ns n (fill (store_of ws ns n) (path_of ds (store_of ws ns n) row) i) (added_row i n) ws xs
 unfolding fill
 fill_none {ws} {ns} {n} r ds row i e = comes_by (ap (λ (fs : List Frame). fill (store_of ws ns n) fs i) (path_none ds (store_of ws ns n) r.good row e)) (comes_same r i)
 
@@ -149,12 +150,12 @@ module _ {ws ns : List ℕ} {n : ℕ} {xs ds : List ℕ} {row i : ℕ} (q : Fram
         let h : Frame = frame_at (store_of ws ns n) row (get_or ds row 0 - 1) in
         ap (λ (fs : List Frame). fill (store_of ws ns n) fs i) path_is ∙ ap (λ (b : Built). then_build b (λ (j : ℕ) (y : Store). row_for y h.symbol (filled_kids h j))) p
 
-    pub up_full : {vs xs' : List ℕ} → Comes ws ns n (fill (store_of ws ns n) (path_of ds (store_of ws ns n) kid) i) Grown.Full vs xs' →
-        Comes ws ns n (fill (store_of ws ns n) (path_of ds (store_of ws ns n) row) i) Grown.Full vs xs'
+    pub up_full : {vs xs' : List ℕ} → Comes ws ns n (fill (store_of ws ns n) (path_of ds (store_of ws ns n) kid) i) None vs xs' →
+        Comes ws ns n (fill (store_of ws ns n) (path_of ds (store_of ws ns n) row) i) None vs xs'
     up_full c = full_on full_above c
 
     -- what is below gave a row: the row above put
-    module _ {j u : ℕ} {ws' xs' : List ℕ} (c : Comes ws ns n (fill (store_of ws ns n) (path_of ds (store_of ws ns n) kid) i) (grown_row j u) ws' xs') where
+    module _ {j u : ℕ} {ws' xs' : List ℕ} (c : Comes ws ns n (fill (store_of ws ns n) (path_of ds (store_of ws ns n) kid) i) (added_row j u) ws' xs') where
       inside : Reached ws ns n (path_of ds (store_of ws ns n) kid) i j u ws' xs'
       inside = reached ws ns n (path_of ds (store_of ws ns n) kid) i q.bank.good kid_fits q.with_used c
 
@@ -167,7 +168,7 @@ module _ {ws ns : List ℕ} {n : ℕ} {xs ds : List ℕ} {row i : ℕ} (q : Fram
       pub up_kid : j < u
       up_kid = next_kid q.bank.good inside row (get_or ds row 0 - 1) q.row_used frame_fits
 
-      pub up_comes : {r : Grown} {vs xs'' : List ℕ} →
+      pub up_comes : {r : Option Added} {vs xs'' : List ℕ} →
           Put ws' u xs' (symbol_in ws' row) (set (places_in ws' row) (get_or ds row 0 - 1) j) (hole_above xs' j (get_or ds row 0 - 1)) r vs xs'' →
           Comes ws ns n (fill (store_of ws ns n) (path_of ds (store_of ws ns n) row) i) r vs xs''
       up_comes p =

@@ -14,8 +14,9 @@ use Rattle.model.specs.Entry.{store_of}
 use Rattle.model.proofs.Laws.Fill.{ext_refl, ext_trans}
 use Rattle.bank.specs.Bank.{Bank, with_rows}
 use Rattle.bank.proofs.Laws.Words.{used_of}
-use Rattle.bank_fill.specs.declared.add.Grown.{Grown}
-use Rattle.bank_fill.specs.Adding.{kids_of, grown_row, PlacesAsked}
+use Rattle.std.specs.Prelude.{Option, None}
+use Rattle.bank_fill.specs.declared.add.Added.{Added}
+use Rattle.bank_fill.specs.Adding.{kids_of, added_row, PlacesAsked}
 use Rattle.bank_listed.specs.Listed.{stack_of}
 use Rattle.bank_fill.proofs.Laws.Coming.{Comes, Stage, with_rows_none, comes_by, comes_row, stage, not_full}
 use Rattle.bank_listed.proofs.Laws.Reading as R
@@ -45,7 +46,7 @@ module _ {ws ns : List ℕ} {u : ℕ} {xs ws' ix st : List ℕ} {h n at : ℕ} (
     row_asked = rw places (R.places_asked s.reading more)
 
     -- its row, over the old words
-    over : {r : Grown} {vs ix' : List ℕ} → Comes ws' ns n (row_for (store_of ws' ns n) (symbol_next xs at) (kids_of ns (symbol_next xs at) ps)) r vs ix' →
+    over : {r : Option Added} {vs ix' : List ℕ} → Comes ws' ns n (row_for (store_of ws' ns n) (symbol_next xs at) (kids_of ns (symbol_next xs at) ps)) r vs ix' →
         Comes ws ns u (row_for (store_of ws' ns n) (symbol_next xs at) (kids_next (store_of ws' ns n) xs st h at)) r vs ix'
     over c =
         let e = ap (kids_of ns (symbol_next xs at)) places ∙ R.kids_back s.reading more in
@@ -53,22 +54,22 @@ module _ {ws ns : List ℕ} {u : ℕ} {xs ws' ix st : List ℕ} {h n at : ℕ} (
         (comes_by (ap (row_for (store_of ws' ns n) (symbol_next xs at)) (sym e)) c)
 
     -- rows ran out
-    pub ran_out : {vs ix' : List ℕ} → Comes ws' ns n (row_for (store_of ws' ns n) (symbol_next xs at) (kids_of ns (symbol_next xs at) ps)) Grown.Full vs ix' →
-        Comes ws ns u (store_from (store_of ws ns u) xs []) Grown.Full vs ix'
+    pub ran_out : {vs ix' : List ℕ} → Comes ws' ns n (row_for (store_of ws' ns n) (symbol_next xs at) (kids_of ns (symbol_next xs at) ps)) None vs ix' →
+        Comes ws ns u (store_from (store_of ws ns u) xs []) None vs ix'
     ran_out {vs} {ix'} c = go (row_for (store_of ws' ns n) (symbol_next xs at) (kids_next (store_of ws' ns n) xs st h at)) refl (over c)
       where
-        go : (b : Built) → row_for (store_of ws' ns n) (symbol_next xs at) (kids_next (store_of ws' ns n) xs st h at) ≡ b → Comes ws ns u b Grown.Full vs ix' →
-            Comes ws ns u (store_from (store_of ws ns u) xs []) Grown.Full vs ix'
+        go : (b : Built) → row_for (store_of ws' ns n) (symbol_next xs at) (kids_next (store_of ws' ns n) xs st h at) ≡ b → Comes ws ns u b None vs ix' →
+            Comes ws ns u (store_from (store_of ws ns u) xs []) None vs ix'
         go full e d = comes_by (sym s.same ∙ R.store_full s.reading more e) d
         go (built j z) e d = let p = d.came.0 in let q : ◌≡◌ {A = ℕ} 0 1 = cc in absurd (omega arith)
 
     -- its row is on the stack
     pub storing_more : {j v : ℕ} {vs ix' : List ℕ} →
-        Comes ws' ns n (row_for (store_of ws' ns n) (symbol_next xs at) (kids_of ns (symbol_next xs at) ps)) (grown_row j v) vs ix' →
+        Comes ws' ns n (row_for (store_of ws' ns n) (symbol_next xs at) (kids_of ns (symbol_next xs at) ps)) (added_row j v) vs ix' →
         Storing ws ns u xs vs ix' (set st (h - count_next (store_of ws' ns n) xs at) j) (h - count_next (store_of ws' ns n) xs at + 1) v (at + 1)
     storing_more {j} {v} {vs} {ix'} c = go (row_for (store_of ws' ns n) (symbol_next xs at) (kids_next (store_of ws' ns n) xs st h at)) refl (over c)
       where
-        go : (b : Built) → row_for (store_of ws' ns n) (symbol_next xs at) (kids_next (store_of ws' ns n) xs st h at) ≡ b → Comes ws ns u b (grown_row j v) vs ix' →
+        go : (b : Built) → row_for (store_of ws' ns n) (symbol_next xs at) (kids_next (store_of ws' ns n) xs st h at) ≡ b → Comes ws ns u b (added_row j v) vs ix' →
             Storing ws ns u xs vs ix' (set st (h - count_next (store_of ws' ns n) xs at) j) (h - count_next (store_of ws' ns n) xs at + 1) v (at + 1)
         go full e d = absurd (not_full d)
         go (built k z) e d =
@@ -85,8 +86,8 @@ module _ {ws ns : List ℕ} {u : ℕ} {xs ws' ix st : List ℕ} {h n at : ℕ} (
             }
 
   -- ALL READ
-  pub stored : length xs ≤ at → Comes ws ns u (store_from (store_of ws ns u) xs []) (grown_row (get_or st 0 0) n) ws' ix
+  pub stored : length xs ≤ at → Comes ws ns u (store_from (store_of ws ns u) xs []) (added_row (get_or st 0 0) n) ws' ix
   stored done =
       let e = used_of ws' ns n in
       comes_by (sym s.same ∙ R.store_end s.reading done)
-      (record { came = (ap (grown_row (get_or st 0 0)) (sym e), s.stage.words, subst (λ (k : ℕ). Bank ws' ns k ix) (sym e) s.stage.bank) })
+      (record { came = (ap (added_row (get_or st 0 0)) (sym e), s.stage.words, subst (λ (k : ℕ). Bank ws' ns k ix) (sym e) s.stage.bank) })

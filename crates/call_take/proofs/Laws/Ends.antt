@@ -21,7 +21,9 @@ use Rattle.bank.specs.Bank.{Kept}
 use Rattle.bank.proofs.Laws.Words.{word_kept}
 use Rattle.run_lists.specs.Members.{counts_in}
 use Rattle.bank_fill.specs.Left.{Left}
-use Rattle.step_settle.specs.declared.Stepped.{Stepped}
+use Rattle.std.specs.Prelude.{Result, Ok, Err}
+use Rattle.model.specs.declared.refusal.Refusal.{Refusal}
+use Rattle.model.specs.Refusals.{number_of, refused_by}
 use Rattle.step_settle.proofs.Laws.Ends.{Ends}
 
 number_some : (k : Shortage) → shortage_number k ≡ 0 → ⊥
@@ -30,27 +32,27 @@ number_some of_states e = omega arith
 number_some of_transitions e = omega arith
 number_some of_turns e = omega arith
 
-module _ {ws : List ℕ} {l : Lists} {r : Stepped} {ws' : List ℕ} where
-  pub ends_short : (e : Ended) → Ends ws l e r ws' → (r.number ≡ 0 → ⊥) → (end_of e ≡ refuses r.number) × Kept ws l.used ws'
-  ends_short (short k) t n = (ap refuses (sym t.ended.0), t.ended.1)
-  ends_short (asks y) t n = absurd (n t.ended.0)
-  ends_short (proposes y) t n = absurd (n t.ended.0)
+module _ {ws : List ℕ} {l : Lists} {r : Result Lists Refusal} {ws' : List ℕ} {why : Refusal} where
+  pub ends_short : (e : Ended) → Ends ws l e r ws' → r ≡ Err why → (end_of e ≡ refuses (number_of why)) × Kept ws l.used ws'
+  ends_short (short k) t n = (ap refuses (sym t.ended.0 ∙ ap refused_by n), t.ended.1)
+  ends_short (asks y) t n = absurd (let e = t.ended.0 in let z : ◌≡◌ {A = ℕ} 0 1 = cc in omega arith)
+  ends_short (proposes y) t n = absurd (let e = t.ended.0 in let z : ◌≡◌ {A = ℕ} 0 1 = cc in omega arith)
 
 -- the tables left
-pub record EndsLeft (ws : List ℕ) (l : Lists) (e : Ended) (r : Stepped) (ws' : List ℕ) : Type 0 where
+pub record EndsLeft (ws : List ℕ) (l : Lists) (e : Ended) (m : Lists) (ws' : List ℕ) : Type 0 where
   pub left_tables : Tables
   pub end : (e ≡ asks left_tables) ⊎ (e ≡ proposes left_tables)
-  pub lists : r.lists ≡ lists_of l left_tables
+  pub lists : m ≡ lists_of l left_tables
   pub left : Left ws (counts_in l) ws' left_tables.store left_tables.answers
 
-module _ {ws : List ℕ} {l : Lists} {r : Stepped} {ws' : List ℕ} where
-  pub ends_left : (e : Ended) → Ends ws l e r ws' → r.number ≡ 0 → EndsLeft ws l e r ws'
-  ends_left (short k) t n = absurd (number_some k (sym t.ended.0 ∙ n))
-  ends_left (asks y) t n = record { left_tables = y; end = inl refl; lists = t.ended.1; left = t.ended.2 }
-  ends_left (proposes y) t n = record { left_tables = y; end = inr refl; lists = t.ended.1; left = t.ended.2 }
+module _ {ws : List ℕ} {l m : Lists} {ws' : List ℕ} where
+  pub ends_left : {r : Result Lists Refusal} (e : Ended) → Ends ws l e r ws' → r ≡ Ok m → EndsLeft ws l e m ws'
+  ends_left (short k) t n = absurd (number_some k (sym t.ended.0 ∙ ap refused_by n))
+  ends_left (asks y) t n = let p = t.ended.0 in record { left_tables = y; end = inl refl; lists = cc; left = t.ended.1 }
+  ends_left (proposes y) t n = let p = t.ended.0 in record { left_tables = y; end = inr refl; lists = cc; left = t.ended.1 }
 
   -- what the definitions say of them
-  module _ {e : Ended} (q : EndsLeft ws l e r ws') where
+  module _ {e : Ended} (q : EndsLeft ws l e m ws') where
     pub ends_leaves : end_of e ≡ leaves q.left_tables
     ends_leaves = go q.end
       where

@@ -27,10 +27,12 @@ use Rattle.bank.specs.Bank.{Bank, Kept}
 use Rattle.bank.specs.Notes.{NotesFor, reps_in}
 use Rattle.bank.proofs.Laws.Words.{used_of, length_with_rows, front_with_rows}
 use Rattle.bank.proofs.Laws.Notes.{column_long}
-use Rattle.bank_fill.specs.Adding.{grown_row}
+use Rattle.bank_fill.specs.Adding.{added_row}
 use Rattle.bank_fill.specs.Left.{Left}
 use Rattle.bank_fill.specs.Saved.{Saved, PutBack}
-use Rattle.bank_fill.specs.declared.add.Grown.{Grown}
+use Rattle.std.specs.Prelude.{Result, Ok, Err, None}
+use Rattle.model.specs.declared.refusal.Refusal.{Refusal}
+use Rattle.model.specs.Refusals.{number_of}
 use Rattle.bank_fill.proofs.Laws.Coming.{Comes, Stage, stage, not_full, store_room}
 use Rattle.bank_fill.proofs.Laws.SavedWords.{undone}
 use Rattle.bank_fill.proofs.Laws.Left.{left_words, left_then, left_rows, left_answer, ready_answered}
@@ -45,7 +47,6 @@ use Rattle.table.proofs.Laws.Tied.{missing_tied}
 use Rattle.table_verdict.proofs.Laws.Tied.{RepsOf, reps_tied}
 use Rattle.sound.specs.Working.{WorkingOn}
 use Rattle.step_search.specs.Spots.{Noted}
-use Rattle.step_settle.specs.declared.Stepped.{Stepped}
 use Rattle.step_settle.specs.Stepped.{KnownTable}
 use Rattle.step_settle.proofs.Laws.Ends.{Ends}
 use Rattle.step_settle.proofs.Laws.Lists.{tables_left}
@@ -102,11 +103,11 @@ module _ {ws : List ℕ} {l : Lists} {k : Said} {xs index table notes : List ℕ
   rows_held = t.working.bank.finding.room
 
   -- ROWS RAN OUT
-  module _ {us ix : List ℕ} (d : Comes ws (counts_in l) l.used (built_for (tables_of ws l) k xs) Grown.Full us ix) where
+  module _ {us ix : List ℕ} (d : Comes ws (counts_in l) l.used (built_for (tables_of ws l) k xs) None us ix) where
     no_rows : (done_by X (call_of k xs) ≡ refuses 34) × Kept ws l.used us
     no_rows = let p = go (built_for X k xs) d in (taken_done X k xs ∙ p.0, p.1)
       where
-        go : (b : Built) → Comes ws (counts_in l) l.used b Grown.Full us ix → (end_of (taken_for X k b) ≡ refuses 34) × Kept ws l.used us
+        go : (b : Built) → Comes ws (counts_in l) l.used b None us ix → (end_of (taken_for X k b) ≡ refuses 34) × Kept ws l.used us
         go full c = (refl, c.came.1)
         go (built i y) c = absurd (let e = c.came.0 in let z : ◌≡◌ {A = ℕ} 0 1 = cc in omega arith)
 
@@ -116,10 +117,10 @@ module _ {ws : List ℕ} {l : Lists} {k : Said} {xs index table notes : List ℕ
         (called_short ws l (call_of k xs) r t.size fits t.sound t.free 34 no_rows.0 a b)
 
   -- BUILT
-  pub built_at : {j v : ℕ} {us ix : List ℕ} → Comes ws (counts_in l) l.used (built_for (tables_of ws l) k xs) (grown_row j v) us ix → BuiltAt ws l k xs j v us ix
+  pub built_at : {j v : ℕ} {us ix : List ℕ} → Comes ws (counts_in l) l.used (built_for (tables_of ws l) k xs) (added_row j v) us ix → BuiltAt ws l k xs j v us ix
   built_at {j} {v} {us} {ix} d = go (built_for X k xs) refl d
     where
-      go : (b : Built) → built_for X k xs ≡ b → Comes ws (counts_in l) l.used b (grown_row j v) us ix → BuiltAt ws l k xs j v us ix
+      go : (b : Built) → built_for X k xs ≡ b → Comes ws (counts_in l) l.used b (added_row j v) us ix → BuiltAt ws l k xs j v us ix
       go full e c = absurd (not_full c)
       go (built i y) e c =
           let b = begins X sounds k xs t.free i y e in
@@ -269,10 +270,10 @@ module _ {ws : List ℕ} {l : Lists} {k : Said} {xs index table notes : List ℕ
       done_by_law : done_by X (call_of k xs) ≡ end_of (advance (tables_of us' l'))
       done_by_law = taken_done X k xs ∙ ap (λ (b : Built). end_of (taken_for X k b)) q.is ∙ ap (λ (z : Tables). end_of (advance z)) (sym back)
 
-      module _ {r : Stepped} {vs : List ℕ} (d : Ends us' l' (advance (tables_of us' l')) r vs) where
+      module _ {r : Result Lists Refusal} {vs : List ℕ} (d : Ends us' l' (advance (tables_of us' l')) r vs) where
         -- SHORT: the answer is set back, and the rows behind
-        module _ (n : r.number ≡ 0 → ⊥) where
-          ran_short : (end_of (advance (tables_of us' l')) ≡ refuses r.number) × Kept us' l'.used vs
+        module _ {why : Refusal} (n : r ≡ Err why) where
+          ran_short : (end_of (advance (tables_of us' l')) ≡ refuses (number_of why)) × Kept us' l'.used vs
           ran_short = ends_short (advance (tables_of us' l')) d n
 
           kept_short : Kept (with_answer us j mark) v vs
@@ -293,15 +294,15 @@ module _ {ws : List ℕ} {l : Lists} {k : Said} {xs index table notes : List ℕ
             pub back_held : row_width * l.used ≤ length vs'
             back_held = omega (arith, rows_held, back_size)
 
-            pub short_called : {zs after : List ℕ} {o : Done} → Saved ws l.used zs → PutBack vs' l.used zs after → o.seen ≡ refused r.number → o.lists ≡ l →
+            pub short_called : {zs after : List ℕ} {o : Done} → Saved ws l.used zs → PutBack vs' l.used zs after → o.seen ≡ refused (number_of why) → o.lists ≡ l →
                 CallAs ws l (call_of k xs) o after
             short_called {zs} {after} {o} s b seen lists =
                 subst (CallAs ws l (call_of k xs) o) (sym (undone ws l.used zs vs' after s kept_again b))
-                (called_short ws l (call_of k xs) o t.size fits t.sound t.free r.number (done_by_law ∙ ran_short.0) seen lists)
+                (called_short ws l (call_of k xs) o t.size fits t.sound t.free (number_of why) (done_by_law ∙ ran_short.0) seen lists)
 
         -- LEFT: the tables with which the step ends
-        module _ (n : r.number ≡ 0) where
-          ended : EndsLeft us' l' (advance (tables_of us' l')) r vs
+        module _ {m : Lists} (n : r ≡ Ok m) where
+          ended : EndsLeft us' l' (advance (tables_of us' l')) m vs
           ended = ends_left (advance (tables_of us' l')) d n
 
           abbrev Y : Tables
@@ -310,7 +311,7 @@ module _ {ws : List ℕ} {l : Lists} {k : Said} {xs index table notes : List ℕ
           ok : step.Left Z Y
           ok = ends_ok ended (subst (λ (z : Tables). step.StepOk Z (advance z)) (sym back) (begins_step X sounds k j y blank q.begun))
 
-          lists : r.lists ≡ lists_of l Y
+          lists : m ≡ lists_of l Y
           lists = ended.lists ∙ ap (λ (o : Lists). lists_of o Y) is_asking_law
 
           left_all : Left ws (counts_in l) vs Y.store Y.answers
@@ -318,12 +319,12 @@ module _ {ws : List ℕ} {l : Lists} {k : Said} {xs index table notes : List ℕ
               left_then ws (counts_in l) us' vs y Y.store (set blank j mark) Y.answers left_now
               (subst (λ (o : Lists). Left us' (counts_in o) vs Y.store Y.answers) is_asking_law ended.left) ok.keeps.ext.more
 
-          pub left_fit : lists_fit r.lists ≡ true
+          pub left_fit : lists_fit m ≡ true
           left_fit =
               let f = ok.nearly.tidy in
               ap lists_fit lists ∙ lists_fit_true (lists_of l Y) (lists_of_within l Y ok.nearly.core.good.letters f.few_s f.few_t (omega (arith, f.few_s, f.few_t, f.few_c)))
 
-          pub left_called : {o : Done} → o.seen ≡ seen_of (look (tables_of vs r.lists)) → o.lists ≡ r.lists → CallAs ws l (call_of k xs) o vs
+          pub left_called : {o : Done} → o.seen ≡ seen_of (look (tables_of vs m)) → o.lists ≡ m → CallAs ws l (call_of k xs) o vs
           left_called {o} seen same =
               let counts : Y.store.counts ≡ counts_in l = ok.keeps.ext.counts ∙ q.begun.ext.counts in
               let held : used Y.store ≤ rows_lent ws = omega (arith, ok.nearly.core.good.fits, ok.keeps.ext.room, q.begun.ext.room) in

@@ -10,7 +10,8 @@ use Rattle.model.specs.Store.{Built, full, built, used, has_hole, fill, frames_o
 use Rattle.model.specs.Terms.{record_fault, store_from}
 use Rattle.model.specs.Entry.{store_of}
 use Rattle.bank.proofs.Laws.Words.{used_of}
-use Rattle.bank_fill.specs.declared.add.Grown.{Grown}
+use Rattle.std.specs.Prelude.{Option}
+use Rattle.bank_fill.specs.declared.add.Added.{Added}
 use Rattle.bank_fill.proofs.Laws.Coming.{Comes}
 use Rattle.probe.specs.declared.Reply.{Reply}
 use Rattle.probe.specs.Probed.{is_passed, said, said_of, Said, SaidIf, is_fillable, FilledReady, Filled, is_listed, StoredReady, Stored}
@@ -30,7 +31,7 @@ module _ (ws : List ℕ) (n : ℕ) (b : Built) (r : Reply) (ws' : List ℕ) wher
   said_before s t e p q = subst (λ (a : Bool). SaidIf (a && t) ws n b r ws') (sym e) (p, q)
 
 -- WHAT ADDING CAME TO, as numbers
-pub comes_said : {ws ns : List ℕ} {n : ℕ} {b : Built} {g : Grown} {r : Reply} {ws' ix : List ℕ} → r ≡ said_of g → Comes ws ns n b g ws' ix → Said ws n b r ws'
+pub comes_said : {ws ns : List ℕ} {n : ℕ} {b : Built} {g : Option Added} {r : Reply} {ws' ix : List ℕ} → r ≡ said_of g → Comes ws ns n b g ws' ix → Said ws n b r ws'
 comes_said {b = full} e c = (e ∙ ap said_of c.came.0, c.came.1)
 comes_said {b = built j y} e c = (e ∙ ap said_of c.came.0, c.came.1)
 
@@ -64,7 +65,7 @@ module _ (ws ns : List ℕ) (n c i : ℕ) where
           said_not ws n (fill (store_of ws ns n) (frames_of (store_of ws ns n) c) i) r ws (is_fillable (store_of ws ns n) c i)
           (context ∙ le-ltb i (used (store_of ws ns n)) (omega arith)) p refl
 
-      pub filled : i < n → {g : Grown} {r : Reply} {ws' ix' : List ℕ} → r ≡ said_of g →
+      pub filled : i < n → {g : Option Added} {r : Reply} {ws' ix' : List ℕ} → r ≡ said_of g →
           Comes ws ns n (fill (store_of ws ns n) (frames_of (store_of ws ns n) c) i) g ws' ix' → FilledReady ws ns n c i r ws'
       filled q {r = r} {ws' = ws'} p k =
           let u = used_of ws ns n in
@@ -86,7 +87,7 @@ module _ (ws ns : List ℕ) (n : ℕ) (xs : List ℕ) where
   pub at_fault : (record_fault ns xs ≡ 0 → ⊥) → {r : Reply} → r ≡ said 2 0 0 → StoredReady ws ns n xs r ws
   at_fault e {r} p = said_not ws n (store_from (store_of ws ns n) xs []) r ws (is_listed ns xs) (ne_eqb (record_fault ns xs) 0 e) p refl
 
-  pub stored : record_fault ns xs ≡ 0 → {g : Grown} {r : Reply} {ws' ix : List ℕ} → r ≡ said_of g →
+  pub stored : record_fault ns xs ≡ 0 → {g : Option Added} {r : Reply} {ws' ix : List ℕ} → r ≡ said_of g →
       Comes ws ns n (store_from (store_of ws ns n) xs []) g ws' ix → StoredReady ws ns n xs r ws'
   stored e {r = r} {ws' = ws'} p k =
       said_so ws n (store_from (store_of ws ns n) xs []) r ws' (is_listed ns xs) (eq-eqb (record_fault ns xs) 0 e) (comes_said p k)

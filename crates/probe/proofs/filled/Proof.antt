@@ -63,7 +63,7 @@ returns-3 c =
 slice-aggregate-fill-context : tie.Need-slice_bounds-fill_context-end
 slice-aggregate-fill-context c = search rules
 
-fill-context-requires : tie.Need-fill_context-grown-requires
+fill-context-requires : tie.Need-fill_context-added-requires
 fill-context-requires c κs =
     let e : tie.Else-used-with = c.before.before.before in
     let d = e.before in
@@ -85,7 +85,7 @@ returns-4 c =
     let e : tie.Else-used-with = f.before.before.before.before in
     let d = e.before in
     let s = start (tested d.before) in
-    filled-law s.args.words.now s.args.counts.now s.args.used s.args.context s.args.with (tested d.before).if-used-context.false (holed d) e.if-used-with.false c.reply_of.ensures (record { came = f.fill_context-grown.ensures })
+    filled-law s.args.words.now s.args.counts.now s.args.used s.args.context s.args.with (tested d.before).if-used-context.false (holed d) e.if-used-with.false c.reply_of.ensures (record { came = f.fill_context-added.ensures })
 
 pub filled_spec : {M : Type 1} → statement M
 filled_spec =

@@ -25,7 +25,10 @@ use Rattle.bank.specs.Bank.{Bank, path_of}
 use Rattle.run_lists.specs.Members.{counts_in}
 use Rattle.run_lists.specs.Changes.{with_rule}
 use Rattle.run_lists.specs.Run.{Run}
-use Rattle.step_settle.specs.declared.Stepped.{Stepped}
+use Rattle.std.specs.Prelude.{Result, Ok, Err}
+use Rattle.model.specs.declared.refusal.Refusal.{Refusal}
+use Rattle.model.specs.declared.refusal.Refusal.TheVariants.{RulesShort}
+use Rattle.model.specs.Refusals.{refused_by}
 use Rattle.step_settle.specs.Stepped.{EndedAs}
 use Rattle.step_settle.proofs.Laws.Ends.{Ends, ends_by}
 
@@ -78,10 +81,10 @@ lists_ruled l i y n =
       asked = y.asked;
     }
 
-ended_ruled : (ws : List ℕ) (l : Lists) (i : ℕ) (r : Stepped) (us : List ℕ) (t : List ℕ) → l.rules < length t → (e : Ended) → WithRules t e → EndedAs ws (with_rule l i) e r us → EndedAs ws l e r us
+ended_ruled : (ws : List ℕ) (l : Lists) (i : ℕ) (r : Result Lists Refusal) (us : List ℕ) (t : List ℕ) → l.rules < length t → (e : Ended) → WithRules t e → EndedAs ws (with_rule l i) e r us → EndedAs ws l e r us
 ended_ruled ws l i r us t n (short k) w d = d
-ended_ruled ws l i r us t n (asks y) (with_asks e) d = (d.0, d.1 ∙ lists_ruled l i y (omega (arith, ap length e)), d.2)
-ended_ruled ws l i r us t n (proposes y) (with_proposes e) d = (d.0, d.1 ∙ lists_ruled l i y (omega (arith, ap length e)), d.2)
+ended_ruled ws l i r us t n (asks y) (with_asks e) d = (d.0 ∙ ap Ok (lists_ruled l i y (omega (arith, ap length e))), d.1)
+ended_ruled ws l i r us t n (proposes y) (with_proposes e) d = (d.0 ∙ ap Ok (lists_ruled l i y (omega (arith, ap length e))), d.1)
 
 -- WHAT PUTTING DOWN NEEDS, along a way down from a record
 pub record Putting (ws : List ℕ) (l : Lists) (ix ds : List ℕ) (h : ℕ) : Type 0 where
@@ -136,7 +139,7 @@ module _ {ws : List ℕ} {l : Lists} {ix ds : List ℕ} {h : ℕ} (p : Putting w
       ap (λ (t : List ℕ). put_down (tables x.store x.answers x.s t x.c h 0 false) fs) (sym appended) ∙
       put_same x.store x.answers x.s (tables_of ws (with_rule l i)).t x.c h 0 l.hand l.asked false x.accepted (fill x.store fs 0)
 
-  put : (fs : List Frame) (r : Stepped) (us : List ℕ) → Ends ws (with_rule l i) (put_down (tables_of ws (with_rule l i)) fs) r us →
+  put : (fs : List Frame) (r : Result Lists Refusal) (us : List ℕ) → Ends ws (with_rule l i) (put_down (tables_of ws (with_rule l i)) fs) r us →
       Ends ws l (searched (tables_of ws l) (at_new_transition h (record { row = i; around = fs }))) r us
   put fs r us d =
       let x : Tables = tables_of ws (with_rule l i) in
@@ -147,16 +150,16 @@ module _ {ws : List ℕ} {l : Lists} {ix ds : List ℕ} {h : ℕ} (p : Putting w
     pub rule_putting : IsRecord (tables_of ws l).store i → Putting ws l' ix ds h
     rule_putting z = subst (λ (k : Lists). Putting ws k ix ds h) (sym e) (ruled z)
 
-    pub rule_put : (r : Stepped) (us : List ℕ) → Ends ws l' (put_down (tables_of ws l') (path_of ds (tables_of ws l').store h)) r us →
+    pub rule_put : (r : Result Lists Refusal) (us : List ℕ) → Ends ws l' (put_down (tables_of ws l') (path_of ds (tables_of ws l').store h)) r us →
         Ends ws l (searched (tables_of ws l) (at_new_transition h (record { row = i; around = path_of ds (tables_of ws l).store h }))) r us
     rule_put r us d = put (path_of ds (tables_of ws l).store h) r us (subst (λ (k : Lists). Ends ws k (put_down (tables_of ws k) (path_of ds (tables_of ws k).store h)) r us) e d)
 
 -- no place for one more
-pub rules_full : (ws : List ℕ) (l : Lists) → length l.t ≡ most_rules → l.rules ≡ most_rules → (h : ℕ) (p : Spot) (r : Stepped) → r.number ≡ 36 →
+pub rules_full : (ws : List ℕ) (l : Lists) → length l.t ≡ most_rules → l.rules ≡ most_rules → (h : ℕ) (p : Spot) (r : Result Lists Refusal) → r ≡ Err RulesShort →
     Ends ws l (searched (tables_of ws l) (at_new_transition h p)) r ws
 rules_full ws l long e h p r z =
     let x : Tables = tables_of ws l in
     let n : most_rules ≤ length x.t = omega (arith, length-take-le l.rules l.t (omega arith)) in
     let y : Tables = tables x.store x.answers x.s (x.t ++ (p.row ∷ [])) x.c h 0 false in
     ends_by (ap (λ (b : Bool). cond b (short of_transitions) (put_down y p.around)) (le-leb most_rules (length x.t) n))
-    (record { ended = (z, record { same_size = refl; same_rows = refl }) })
+    (record { ended = (ap refused_by z, record { same_size = refl; same_rows = refl }) })

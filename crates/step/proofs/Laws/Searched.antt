@@ -25,7 +25,8 @@ use Rattle.step_search.specs.declared.Found.{Found}
 use Rattle.step_search.specs.Spots.{Descended, search_by}
 use Rattle.step_search.proofs.Laws.Steps.{path_around, path_fits}
 use Rattle.step_search.proofs.Laws.Descent.{down_rows}
-use Rattle.step_settle.specs.declared.Stepped.{Stepped}
+use Rattle.std.specs.Prelude.{Result}
+use Rattle.model.specs.declared.refusal.Refusal.{Refusal}
 use Rattle.step_settle.proofs.Laws.Ends.{Ends, ends_by, handed}
 use Rattle.step.specs.InHand.{InHand}
 
@@ -98,7 +99,7 @@ module _ {ws : List ℕ} {l : Lists} {reps ds at ex : List ℕ} {f : Found} (q :
     pub held_new : (i : ℕ) → i ≡ get_or at h.0 0 → Held ws l ds h.0 i
     held_new i r = held h.0 i r (end_new (ends_as e))
 
-    pub ended_new : (i : ℕ) → i ≡ get_or at h.0 0 → (r : Stepped) (us : List ℕ) →
+    pub ended_new : (i : ℕ) → i ≡ get_or at h.0 0 → (r : Result Lists Refusal) (us : List ℕ) →
         Ends ws l (searched (tables_of ws l) (at_new_transition h.0 (record { row = i; around = path_of ds (tables_of ws l).store h.0 }))) r us →
         Ends ws l (searched (tables_of ws l) (search_by (tables_of ws l).s reps (tables_of ws l).store f)) r us
     ended_new i a r us d =
@@ -124,7 +125,7 @@ module _ {ws : List ℕ} {l : Lists} {reps ds at ex : List ℕ} {f : Found} (q :
           let k : ℕ = get_or reps (spot_of (tables_of ws l).s (tables_of ws l).store h.0).row 0 in
           omega (arith, rep_is, row_low (o.row k (o.among k (end_unknown (ends_as e)).1)))
 
-      pub ended_unknown : (r : Stepped) (us : List ℕ) → Ends ws l (opened (handed ws l h.0) (fill (tables_of ws l).store (path_of ds (tables_of ws l).store h.0) j)) r us →
+      pub ended_unknown : (r : Result Lists Refusal) (us : List ℕ) → Ends ws l (opened (handed ws l h.0) (fill (tables_of ws l).store (path_of ds (tables_of ws l).store h.0) j)) r us →
           Ends ws l (searched (tables_of ws l) (search_by (tables_of ws l).s reps (tables_of ws l).store f)) r us
       ended_unknown r us d =
           let x : Tables = tables_of ws l in
@@ -138,7 +139,7 @@ module _ {ws : List ℕ} {l : Lists} {reps ds at ex : List ℕ} {f : Found} (q :
     pub held_different : Held ws l ds h.0 (get_or at h.0 0)
     held_different = held h.0 (get_or at h.0 0) refl (end_different (ends_as e))
 
-    pub ended_different : (r : Stepped) (us : List ℕ) → Ends ws l (put_down (tables_of ws l) (path_of ds (tables_of ws l).store h.0)) r us →
+    pub ended_different : (r : Result Lists Refusal) (us : List ℕ) → Ends ws l (put_down (tables_of ws l) (path_of ds (tables_of ws l).store h.0)) r us →
         Ends ws l (searched (tables_of ws l) (search_by (tables_of ws l).s reps (tables_of ws l).store f)) r us
     ended_different r us d =
         let x : Tables = tables_of ws l in
@@ -147,5 +148,5 @@ module _ {ws : List ℕ} {l : Lists} {reps ds at ex : List ℕ} {f : Found} (q :
 -- the step with a record in hand is what the end of its search asks for
 pub ended_hand : (ws : List ℕ) (l : Lists) (reps : List ℕ) (f : Found) → (l.hand ≡ 0 → ⊥) →
     search_by (tables_of ws l).s reps (tables_of ws l).store f ≡ search (tables_of ws l).store (tables_of ws l).answers (tables_of ws l).s (tables_of ws l).t (tables_of ws l).c l.hand →
-    (r : Stepped) (us : List ℕ) → Ends ws l (searched (tables_of ws l) (search_by (tables_of ws l).s reps (tables_of ws l).store f)) r us → Ends ws l (advance (tables_of ws l)) r us
+    (r : Result Lists Refusal) (us : List ℕ) → Ends ws l (searched (tables_of ws l) (search_by (tables_of ws l).s reps (tables_of ws l).store f)) r us → Ends ws l (advance (tables_of ws l)) r us
 ended_hand ws l reps f n e r us d = ends_by (held_advance (tables_of ws l) n ∙ ap (searched (tables_of ws l)) (sym e)) d

@@ -14,14 +14,18 @@ use Rattle.model.specs.Steps.{Shortage, Ended, short, asks, proposes, Sought, no
 use Rattle.model.specs.Facts.{Fits}
 use Rattle.model.specs.Entry.{Arrays, lists_fit, tables_of, lists_of}
 use Rattle.model.specs.declared.Lists.{Lists}
+use Rattle.model.specs.declared.refusal.Refusal.{Refusal}
+use Rattle.model.specs.declared.refusal.Refusal.TheVariants.{RowsShort}
+use Rattle.model.specs.Refusals.{refused_by}
 use Rattle.model.proofs.Laws.Fill.{fill_is}
 use Rattle.model.proofs.Laws.Down.{context_fits}
 use Rattle.model.proofs.Laws.Grow.{grown}
 use Rattle.model.proofs.Laws.Settle.{Finds, all_known, first_unknown, seek_is}
 use Rattle.model.proofs.Laws.Lent.{over_take, good_four}
-use Rattle.bank_fill.specs.declared.add.Grown.{Grown}
-use Rattle.bank_fill.specs.declared.add.Grown.TheVariants.{Full, At}
-use Rattle.bank_fill.specs.Adding.{grown_row}
+use Rattle.std.specs.Prelude as std
+use Rattle.std.specs.Prelude.{Result, Ok, Err, Some, None}
+use Rattle.bank_fill.specs.declared.add.Added.{Added}
+use Rattle.bank_fill.specs.Adding.{added_row}
 use Rattle.bank_fill.specs.Left.{Left}
 use Rattle.bank_fill.proofs.Laws.Coming.{Comes, store_room}
 use Rattle.bank_fill.proofs.Laws.Filling.{reached}
@@ -30,15 +34,14 @@ use Rattle.run_lists.specs.Members.{counts_in, states_in, rules_in, contexts_in}
 use Rattle.run_lists.specs.Changes.{asking}
 use Rattle.run_lists.specs.Run.{Orderly, Run}
 use Rattle.run_lists.proofs.Laws.Arrays.{few_letters, few_states, few_rules, few_contexts, states_told, rules_told, contexts_told}
-use Rattle.step_settle.specs.declared.Stepped.{Stepped}
 use Rattle.step_settle.specs.Stepped.{EndedAs, OpenedAs}
 use Rattle.step_settle.proofs.Laws.Lists.{kept_length, kept_over}
 
 -- how a step ended, as a record: its parts are known from it
-pub record Ends (ws : List ℕ) (l : Lists) (e : Ended) (r : Stepped) (us : List ℕ) : Type 0 where
+pub record Ends (ws : List ℕ) (l : Lists) (e : Ended) (r : Result Lists Refusal) (us : List ℕ) : Type 0 where
   pub ended : EndedAs ws l e r us
 
-pub ends_by : {ws : List ℕ} {l : Lists} {e f : Ended} {r : Stepped} {us : List ℕ} → e ≡ f → Ends ws l f r us → Ends ws l e r us
+pub ends_by : {ws : List ℕ} {l : Lists} {e f : Ended} {r : Result Lists Refusal} {us : List ℕ} → e ≡ f → Ends ws l f r us → Ends ws l e r us
 ends_by {ws} {l} {e} {f} {r} {us} p t = subst (λ (d : Ended). Ends ws l d r us) (sym p) t
 
 -- A QUESTION: the lists as they were but for the rows used, the record in hand and the row asked for
@@ -65,17 +68,17 @@ abbrev pub handed : (words : List ℕ) → Lists → (hand : ℕ) → Tables
 handed ws l h = tables (tables_of ws l).store (tables_of ws l).answers (tables_of ws l).s (tables_of ws l).t (tables_of ws l).c h 0 false
 
 module _ {ws : List ℕ} {l : Lists} (run : Run ws l) (a : Arrays l) (fs : List Frame) (fits : Fits (tables_of ws l).store fs) (h i : ℕ) (low : i < l.used)
-    {us ix : List ℕ} (r : Stepped) where
-  no_rows : Comes ws (counts_in l) l.used (fill (tables_of ws l).store fs i) Grown.Full us ix → r.number ≡ 34 → Ends ws l (opened (handed ws l h) (fill (tables_of ws l).store fs i)) r us
+    {us ix : List ℕ} (r : Result Lists Refusal) where
+  no_rows : Comes ws (counts_in l) l.used (fill (tables_of ws l).store fs i) None us ix → r ≡ Err RowsShort → Ends ws l (opened (handed ws l h) (fill (tables_of ws l).store fs i)) r us
   no_rows d z = go (fill (tables_of ws l).store fs i) d
     where
-      go : (b : Built) → Comes ws (counts_in l) l.used b Grown.Full us ix → Ends ws l (opened (handed ws l h) b) r us
-      go full p = record { ended = (z, p.came.1) }
+      go : (b : Built) → Comes ws (counts_in l) l.used b None us ix → Ends ws l (opened (handed ws l h) b) r us
+      go full p = record { ended = (ap refused_by z, p.came.1) }
       go (built j y) p = absurd (let e = p.came.0 in let k : ◌≡◌ {A = ℕ} 0 1 = cc in omega arith)
 
-  asks_filled : {j n : ℕ} → Comes ws (counts_in l) l.used (fill (tables_of ws l).store fs i) (grown_row j n) us ix → r.number ≡ 0 → r.lists ≡ asking l h j n →
+  asks_filled : {j n : ℕ} → Comes ws (counts_in l) l.used (fill (tables_of ws l).store fs i) (added_row j n) us ix → r ≡ Ok (asking l h j n) →
       Ends ws l (opened (handed ws l h) (fill (tables_of ws l).store fs i)) r us
-  asks_filled {j} {n} d z e =
+  asks_filled {j} {n} d e =
       let f = reached ws (counts_in l) l.used fs i run.orderly.good fits low d in
       let y : Store = f.y in
       let w : List ℕ = blanked (tables_of ws l).store y (tables_of ws l).answers in
@@ -83,16 +86,15 @@ module _ {ws : List ℕ} {l : Lists} (run : Run ws l) (a : Arrays l) (fs : List 
       ends_by (ap (opened (handed ws l h)) f.is)
       (record {
         ended = (
-          z,
-          e ∙ asking_is l run.fit a y f.filled.ext.counts w h j n f.stands.count,
+          e ∙ ap Ok (asking_is l run.fit a y f.filled.ext.counts w h j n f.stands.count),
           subst (λ (vs : List ℕ). Left ws (counts_in l) vs y w) (sym f.stands.words) left,
         );
       })
 
-  pub question_ends : (g : Grown) → Comes ws (counts_in l) l.used (fill (tables_of ws l).store fs i) g us ix → OpenedAs l h g r →
+  pub question_ends : (g : std.Option Added) → Comes ws (counts_in l) l.used (fill (tables_of ws l).store fs i) g us ix → OpenedAs l h g r →
       Ends ws l (opened (handed ws l h) (fill (tables_of ws l).store fs i)) r us
-  question_ends Full d o = no_rows d o
-  question_ends (At j n) d o = asks_filled d o.0 o.1
+  question_ends None d o = no_rows d o
+  question_ends (Some r) d o = asks_filled d o
 
 -- WHAT SETTLING LEAVES of tables: the alphabet, T and C; rows and S may be more
 pub record Grows (x y : Tables) : Type 0 where

@@ -16,6 +16,9 @@ use Rattle.model.specs.Steps.{Ended, short, asks, proposes, blanked, settled, pu
 use Rattle.model.specs.Facts.{IsContext}
 use Rattle.model.specs.Entry.{Arrays, tables_of, lists_of, lists_fit}
 use Rattle.model.specs.declared.Lists.{Lists}
+use Rattle.model.specs.declared.refusal.Refusal.{Refusal}
+use Rattle.model.specs.declared.refusal.Refusal.TheVariants.{RowsShort}
+use Rattle.model.specs.Refusals.{refused_by}
 use Rattle.model.proofs.Laws.Lists.{in_snoc}
 use Rattle.model.proofs.Laws.Rows.{record_ext, context_ext}
 use Rattle.model.proofs.Laws.Down.{hole_has}
@@ -23,7 +26,7 @@ use Rattle.model.proofs.Laws.Settle.{past}
 use Rattle.model.proofs.Laws.Lent.{take_over, over_take, good_four, lists_fit_facts, lists_fit_true, lists_of_within}
 use Rattle.bank.specs.Bank.{Bank, Kept}
 use Rattle.bank.proofs.Laws.Words.{used_of, front_with_rows}
-use Rattle.bank_fill.specs.declared.add.Grown.{Grown}
+use Rattle.std.specs.Prelude.{Result, Ok, Err, None}
 use Rattle.bank_fill.proofs.Laws.Coming.{Comes, store_room}
 use Rattle.bank_fill.proofs.Laws.Filling.{Reached}
 use Rattle.bank_fill.specs.Left.{Left}
@@ -35,18 +38,17 @@ use Rattle.run_lists.proofs.Laws.Arrays.{few_letters, few_states, few_rules, let
 use Rattle.run_lists.proofs.Laws.Lists.{lists_twice}
 use Rattle.table.specs.Answers.{Forgotten}
 use Rattle.table.proofs.Laws.Known.{forgotten_known}
-use Rattle.step_settle.specs.declared.Stepped.{Stepped}
 use Rattle.step_settle.specs.Stepped.{KnownTable}
 use Rattle.step_settle.proofs.Laws.Lists.{kept_then, kept_length, kept_over, tables_left}
 use Rattle.step_settle.proofs.Laws.Ends.{Ends, ends_by, Grows, Settles, settles_asking, settles_proposing, settles}
 
 -- ROWS RAN OUT
-pub put_none : (ws : List ℕ) (l : Lists) (fs : List Frame) (r : Stepped) {us ix : List ℕ} → Comes ws (counts_in l) l.used (fill (tables_of ws l).store fs 0) Grown.Full us ix →
-    r.number ≡ 34 → Ends ws l (put_down (tables_of ws l) fs) r us
+pub put_none : (ws : List ℕ) (l : Lists) (fs : List Frame) (r : Result Lists Refusal) {us ix : List ℕ} → Comes ws (counts_in l) l.used (fill (tables_of ws l).store fs 0) None us ix →
+    r ≡ Err RowsShort → Ends ws l (put_down (tables_of ws l) fs) r us
 put_none ws l fs r {us} {ix} c e = go (fill (tables_of ws l).store fs 0) c
   where
-    go : (b : Built) → Comes ws (counts_in l) l.used b Grown.Full us ix → Ends ws l (put_by (tables_of ws l) b) r us
-    go full d = record { ended = (e, d.came.1) }
+    go : (b : Built) → Comes ws (counts_in l) l.used b None us ix → Ends ws l (put_by (tables_of ws l) b) r us
+    go full d = record { ended = (ap refused_by e, d.came.1) }
     go (built j y) d = let p = d.came.0 in let z : ◌≡◌ {A = ℕ} 0 1 = cc in absurd (omega arith)
 
 -- A MEMBER APPENDED to the first m of an array if it is absent
@@ -182,13 +184,13 @@ module _ {ws : List ℕ} {l : Lists} (run : Run ws l) (a : Arrays l) (room : l.c
       left_then ws (counts_in l) us vs Y.store z.store Y.answers z.answers left_after
       (subst (λ (ns : List ℕ). Left us ns vs z.store z.answers) counts_after f) g.rows
 
-  onward : (e : Ended) → Settles Y e → {r : Stepped} {vs : List ℕ} → Ends us (lists_of l Y) e r vs → Ends ws l e r vs
+  onward : (e : Ended) → Settles Y e → {r : Result Lists Refusal} {vs : List ℕ} → Ends us (lists_of l Y) e r vs → Ends ws l e r vs
   onward (short k) s {r} {vs} b =
       record { ended = (b.ended.0, kept_then ws l.used us (used d.y) vs (omega (arith, d.filled.ext.more, used_of ws (counts_in l) l.used)) kept_after b.ended.1) }
-  onward (asks z) (settles_asking g) {r} {vs} b = record { ended = (b.ended.0, b.ended.1 ∙ onward_lists z g, onward_left z vs g b.ended.2) }
-  onward (proposes z) (settles_proposing g) {r} {vs} b = record { ended = (b.ended.0, b.ended.1 ∙ onward_lists z g, onward_left z vs g b.ended.2) }
+  onward (asks z) (settles_asking g) {r} {vs} b = record { ended = (b.ended.0 ∙ ap Ok (onward_lists z g), onward_left z vs g b.ended.1) }
+  onward (proposes z) (settles_proposing g) {r} {vs} b = record { ended = (b.ended.0 ∙ ap Ok (onward_lists z g), onward_left z vs g b.ended.1) }
 
-  pub put_ends : (left : Lists) → left ≡ with_context l j n → (r : Stepped) (vs : List ℕ) → Ends us left (settled (tables_of us left)) r vs → Ends ws l (put_down (tables_of ws l) fs) r vs
+  pub put_ends : (left : Lists) → left ≡ with_context l j n → (r : Result Lists Refusal) (vs : List ℕ) → Ends us left (settled (tables_of us left)) r vs → Ends ws l (put_down (tables_of ws l) fs) r vs
   put_ends left e r vs b =
       let c : Ends us (lists_of l Y) (settled (tables_of us (lists_of l Y))) r vs = subst (λ (k : Lists). Ends us k (settled (tables_of us k)) r vs) (e ∙ lists_after) b in
       ends_by (ap (put_by X) d.is) (onward (settled Y) (settles Y orderly_after) (ends_by (ap settled (sym means_after)) c))

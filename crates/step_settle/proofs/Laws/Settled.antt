@@ -17,12 +17,16 @@ use Rattle.model.specs.Steps.{Sought, seek, grow, proposed, settled_by, settled}
 use Rattle.model.specs.Facts.{IsContext, Fits}
 use Rattle.model.specs.Entry.{Arrays, tables_of, lists_of}
 use Rattle.model.specs.declared.Lists.{Lists}
+use Rattle.model.specs.declared.refusal.Refusal.{Refusal}
+use Rattle.model.specs.Refusals.{refused_by}
 use Rattle.model.proofs.Laws.Lists.{at_place, members_in, each_from}
 use Rattle.model.proofs.Laws.Down.{context_fits}
 use Rattle.model.proofs.Laws.ReflectLists.{context_back}
 use Rattle.model.proofs.Laws.Lent.{over_take, lists_fit_facts}
 use Rattle.bank.proofs.Laws.Words.{used_of, answer_in_law}
-use Rattle.bank_fill.specs.declared.add.Grown.{Grown}
+use Rattle.std.specs.Prelude as std
+use Rattle.std.specs.Prelude.{Result, Ok}
+use Rattle.bank_fill.specs.declared.add.Added.{Added}
 use Rattle.bank_fill.proofs.Laws.Coming.{Comes}
 use Rattle.bank_fill.proofs.Laws.Left.{left_same}
 use Rattle.run_lists.specs.Members.{counts_in, states_in, rules_in, contexts_in}
@@ -34,7 +38,6 @@ use Rattle.table.specs.declared.Gap.{Gap}
 use Rattle.table.proofs.Laws.ToGap.{sought_to_gap}
 use Rattle.table_columns.specs.Columns.{Answered, Contexts, Used}
 use Rattle.table_answers.proofs.Laws.Cut.{known_cut, observed_whole}
-use Rattle.step_settle.specs.declared.Stepped.{Stepped}
 use Rattle.step_settle.specs.Stepped.{KnownTable, GrownAs, ProposedAs, OpenedAs}
 use Rattle.step_settle.proofs.Laws.Gap.{Within, gap_within}
 use Rattle.step_settle.proofs.Laws.Ends.{Ends, ends_by, handed, question_ends}
@@ -121,14 +124,14 @@ module _ {ws : List ℕ} {l : Lists} (run : Run ws l) (a : Arrays l) {tb : List 
     pub closed_sized : Sized tb l.rules l.contexts
     closed_sized = observed.sized
 
-    pub closed_ends : l.hand ≡ 0 → l.asked ≡ 0 → l.accepted ≡ 0 → (r : Stepped) → ProposedAs l tb r → Ends ws l (settled (tables_of ws l)) r ws
+    pub closed_ends : l.hand ≡ 0 → l.asked ≡ 0 → l.accepted ≡ 0 → (r : Result Lists Refusal) → ProposedAs l tb r → Ends ws l (settled (tables_of ws l)) r ws
     closed_ends h o z r f =
         let x : Tables = handed ws l 0 in
         ends_by (settled_as h o z (sought closed)) (go (grow (row_of x) x.s x.t) (f x.store x.answers observed))
       where
         go : (g : Option (List ℕ)) → GrownAs l g r → Ends ws l (proposed (handed ws l 0) g) r ws
-        go none b = record { ended = (b, record { same_size = refl; same_rows = refl }) }
-        go (some s) b = record { ended = (b.0, b.1 ∙ proposing_is s, left_same ws (counts_in l) l.used) }
+        go none b = record { ended = (ap refused_by b, record { same_size = refl; same_rows = refl }) }
+        go (some s) b = record { ended = (b ∙ ap Ok (proposing_is s), left_same ws (counts_in l) l.used) }
 
   -- ONE UNKNOWN: the context at place j filled with the transition at place k
   module _ {k j : ℕ} (gap : gap_from tb l.contexts 0 rows ≡ Gap.At k (record { 0 = j })) where
@@ -158,9 +161,9 @@ module _ {ws : List ℕ} {l : Lists} (run : Run ws l) (a : Arrays l) {tb : List 
     frames_fit : Fits (tables_of ws l).store (frames_of (tables_of ws l).store (get_or (contexts_in l) j 0))
     frames_fit = context_fits (tables_of ws l).store run.orderly.good (get_or (contexts_in l) j 0) is_context_law.within is_context_law.hole
 
-    pub open_ends : l.hand ≡ 0 → l.asked ≡ 0 → l.accepted ≡ 0 → {g : Grown} {us ix : List ℕ} →
+    pub open_ends : l.hand ≡ 0 → l.asked ≡ 0 → l.accepted ≡ 0 → {g : std.Option Added} {us ix : List ℕ} →
         Comes ws (counts_in l) l.used (fill (tables_of ws l).store (frames_of (tables_of ws l).store (get_or (contexts_in l) j 0)) (get_or (rules_in l) k 0)) g us ix →
-        (r : Stepped) → OpenedAs l 0 g r → Ends ws l (settled (tables_of ws l)) r us
+        (r : Result Lists Refusal) → OpenedAs l 0 g r → Ends ws l (settled (tables_of ws l)) r us
     open_ends h o z {g} d r e =
         ends_by (settled_as h o z (sought gap))
         (question_ends run a (frames_of (tables_of ws l).store (get_or (contexts_in l) j 0)) frames_fit 0 (get_or (rules_in l) k 0) rule_used r g d e)

@@ -13,6 +13,8 @@ use Rattle.model.specs.Limits.{most_states}
 use Rattle.model.specs.Base.{over}
 use Rattle.model.specs.Entry.{Arrays, lists_fit}
 use Rattle.model.specs.declared.Lists.{Lists}
+use Rattle.model.specs.declared.refusal.Refusal.{Refusal}
+use Rattle.model.specs.declared.refusal.Refusal.TheVariants.{StatesShort}
 use Rattle.model.proofs.Laws.Lent.{lists_fit_facts}
 use Rattle.run_lists.specs.Members.{states_in, rules_in}
 use Rattle.run_lists.specs.Changes.{proposing}
@@ -21,7 +23,7 @@ use Rattle.table.specs.Answers.{grow_at, grown_by, Placing, Placed, rows_at}
 use Rattle.table.specs.declared.Growth.{Growth}
 use Rattle.table.proofs.Laws.Tied.{grown_full, grown_rows}
 use Rattle.table.proofs.Laws.InT.{places_cut}
-use Rattle.step_settle.specs.declared.Stepped.{Stepped}
+use Rattle.std.specs.Prelude.{Result, Ok, Err}
 use Rattle.step_settle.specs.Stepped.{GrownAs, ProposedAs}
 
 -- GROWN, within its places
@@ -83,16 +85,16 @@ module _ {l : Lists} (fit : lists_fit l ≡ true) (a : Arrays l) {ps : List ℕ}
   enough : l.states ≤ length ps
   enough = omega (arith, placing.long, (lists_fit_facts l fit).states)
 
-  module _ {tb : List ℕ} (g : Growth) (grown : grown_by (grow_at tb l.contexts l.rules (take l.states ps)) g) (r : Stepped) where
-    pub proposes_none : g.ok ≡ false → r.number ≡ 35 → ProposedAs l tb r
+  module _ {tb : List ℕ} (g : Growth) (grown : grown_by (grow_at tb l.contexts l.rules (take l.states ps)) g) (r : Result Lists Refusal) where
+    pub proposes_none : g.ok ≡ false → r ≡ Err StatesShort → ProposedAs l tb r
     proposes_none f e x w o =
         let full = grown_full o l.s l.states ps found.1 (few_states fit a) enough (few_rules fit a) g grown f in
         subst (λ (k : Option (List ℕ)). GrownAs l k r) (sym full) e
 
     pub proposes_some : g.ok ≡ true → ((i : ℕ) → i < g.states → get_or g.s i 0 < l.rules) → {s : List ℕ} → s ≡ over (rows_at (rules_in l) (take g.states g.s)) l.s →
-        r.number ≡ 0 → r.lists ≡ proposing l s g.states → ProposedAs l tb r
-    proposes_some f below {s} z e d x w o =
+        r ≡ Ok (proposing l s g.states) → ProposedAs l tb r
+    proposes_some f below {s} z d x w o =
         let rows = grown_rows o l.s l.states ps found.1 (few_states fit a) enough (few_rules fit a) g grown f in
         let whole = z ∙ ap (λ (new : List ℕ). over new l.s) (rows_cut l.t l.rules g.states g.s below) in
         let count = grown_rows_count (grow_at tb l.contexts l.rules (take l.states ps)) g grown f l.t in
-        subst (λ (k : Option (List ℕ)). GrownAs l k r) (sym rows) (e, d ∙ (λ i. proposing l (whole i) (sym count i)))
+        subst (λ (k : Option (List ℕ)). GrownAs l k r) (sym rows) (d ∙ (λ i. Ok (proposing l (whole i) (sym count i))))
