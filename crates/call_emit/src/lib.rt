@@ -8,6 +8,7 @@ ghost use Rattle.model.specs.Base.{place_of};
 ghost use Rattle.model.specs.Table.{finals_of};
 ghost use Rattle.model.specs.Sound.{is_sound};
 ghost use Rattle.model.specs.Entry.{store_of, answers_in, size_fits, lists_fit, tables_of, emit_seen, emit_out};
+ghost use Rattle.model.specs.Refusals.{emitted_as};
 ghost use Rattle.bank.specs.Rows.{Within};
 ghost use Rattle.bank.specs.Bank.{Stored};
 ghost use Rattle.table_verdict.specs.Rules.{rule_by, Ruled};
@@ -17,7 +18,8 @@ ghost use Rattle.call_emit.specs.Proposal.{final_byte, Transition, Flat, SixAt, 
 
 use bank::rows;
 use model::limits::{MOST_RULES, MOST_STATES};
-use model::{Emitted, Lists, Row, State};
+use model::refusal::Refusal;
+use model::{Lists, Row, State};
 
 // 1 for a state that is final, by its representative.
 fn final_byte(words: &[u32], rep: Row) -> u8
@@ -117,43 +119,29 @@ fn write_rules(
     }
 }
 
-// A refusal: its number and nothing else.
-pub fn refuse(number: u32) -> Emitted
-    ensures { (result.number ≡ number) × (result.size ≡ 0) }
-{
-    Emitted {
-        number: number,
-        size: 0,
-    }
-}
-
-// The list of an automaton whose rules are given flat: 20 where it does not fit, or its bytes.
-fn write_listed(counts: &[u8], finals: &[u8], rules: &[u8], out: &mut [u8]) -> Emitted
+// The list of an automaton whose rules are given flat: 20 where it does not fit, or the count of its bytes.
+fn write_listed(counts: &[u8], finals: &[u8], rules: &[u8], out: &mut [u8]) -> Result<u32, Refusal>
     requires { Short counts.now finals.now rules.now }
     ensures result_value { let a = flat_sheet counts.now finals.now rules.now in
-        result ≡ listed_seen a out.old }
+        emitted_as result ≡ listed_seen a out.old }
     ensures bytes { let a = flat_sheet counts.now finals.now rules.now in
         out.new ≡ listed_out a out.old }
 {
     let size = list::list_size(counts, finals, rules);
     if out.len() < size as usize {
-        return refuse(20);
+        return Err(Refusal::ListRoom);
     }
-    let written = list::write_list(counts, finals, rules, out);
-    Emitted {
-        number: 0,
-        size: written,
-    }
+    Ok(list::write_list(counts, finals, rules, out))
 }
 
-// The list of the proposed automaton of sound tables with no question open: 20, or its bytes.
-fn emit_proposed(words: &[u32], lists: Lists, reps: &[u16], out: &mut [u8]) -> Emitted
+// The list of the proposed automaton of sound tables with no question open: 20, or the count of its bytes.
+fn emit_proposed(words: &[u32], lists: Lists, reps: &[u16], out: &mut [u8]) -> Result<u32, Refusal>
     requires { (size_fits words.now ≡ true)
         × (lists_fit lists ≡ true)
         × (is_sound (tables_of words.now lists) ≡ true)
         × (lists.asked ≡ 0)
         × Proposal words.now lists reps.now }
-    ensures value { result ≡ emit_seen words.now lists out.old }
+    ensures value { emitted_as result ≡ emit_seen words.now lists out.old }
     ensures bytes { out.new ≡ emit_out words.now lists out.old }
 {
     let letters = lists.letters as usize;
@@ -177,17 +165,17 @@ fn emit_proposed(words: &[u32], lists: Lists, reps: &[u16], out: &mut [u8]) -> E
     )
 }
 
-// Emitting from sound tables: 31, 20, then the bytes and their count.
-pub fn emit_sound(words: &[u32], lists: Lists, reps: &[u16], out: &mut [u8]) -> Emitted
+// Emitting from sound tables: 31, 20, then the count of the bytes.
+pub fn emit_sound(words: &[u32], lists: Lists, reps: &[u16], out: &mut [u8]) -> Result<u32, Refusal>
     requires { (size_fits words.now ≡ true)
         × (lists_fit lists ≡ true)
         × (is_sound (tables_of words.now lists) ≡ true)
         × (lists.asked ≡ 0 → Proposal words.now lists reps.now) }
-    ensures value { result ≡ emit_seen words.now lists out.old }
+    ensures value { emitted_as result ≡ emit_seen words.now lists out.old }
     ensures bytes { out.new ≡ emit_out words.now lists out.old }
 {
     if lists.asked != 0 {
-        return refuse(31);
+        return Err(Refusal::Phase);
     }
     emit_proposed(words, lists, reps, out)
 }
