@@ -5,6 +5,7 @@ ghost use Rattle.std.specs.Prelude.{◌≡◌, [], ◌≤◌, length};
 ghost use Rattle.model.specs.Limits.{most_listed};
 ghost use Rattle.model.specs.Base.{top};
 ghost use Rattle.model.specs.Store.{padded};
+ghost use Rattle.model.specs.Refusals.{refused_by};
 ghost use Rattle.model.specs.Terms.{record_fault, store_from, known_row};
 ghost use Rattle.model.specs.Facts.{Parses};
 ghost use Rattle.model.specs.Entry.{store_of};
@@ -17,37 +18,36 @@ use bank_fill::add;
 use bank_fill::add::Added;
 use model::Row;
 use model::limits::MOST_LISTED;
+use model::refusal::Refusal;
 
 pub mod sizes; // sizes.rt: the size of a row's unfolded record, counted up to 1,025 and never by unfolding
 
-// The fault of a listed record: 11, 12, then 13 or 14 at the first symbol at fault, 15 (§5.1); 0 for none.
-pub fn record_fault(counts: &[u8], symbols: &[u8]) -> u8
-    ensures { result ≡ record_fault counts.now symbols.now }
+// The fault of a listed record: 11, 12, then 13 or 14 at the first symbol at fault, 15 (§5.1).
+#[tactic(auto, unfolding(model::specs::Terms::symbols_fault))]
+pub fn record_fault(counts: &[u8], symbols: &[u8]) -> Result<(), Refusal>
+    ensures { refused_by result ≡ record_fault counts.now symbols.now }
 {
-    if symbols.len() == 0 {
-        return 11;
+    if symbols.is_empty() {
+        return Err(Refusal::NoSymbols);
     }
     if MOST_LISTED < symbols.len() {
-        return 12;
+        return Err(Refusal::TooManySymbols);
     }
     let mut trees: usize = 0;
-    let mut at = 0;
-    while at < symbols.len() {
-        let symbol = symbols[at] as usize;
-        if counts.len() <= symbol {
-            return 13;
-        }
-        let count = counts[symbol] as usize;
+    for &symbol in symbols {
+        let Some(&count) = counts.get(symbol as usize) else {
+            return Err(Refusal::UnknownSymbol);
+        };
+        let count = count as usize;
         if trees < count {
-            return 14;
+            return Err(Refusal::ChildrenMissing);
         }
         trees = trees - count + 1;
-        at += 1;
     }
-    if trees == 1 {
-        return 0;
+    if trees != 1 {
+        return Err(Refusal::NotOneTree);
     }
-    15
+    Ok(())
 }
 
 // The top of a stack of rows as the child places of the next row, in order.

@@ -4,11 +4,13 @@
 
 ghost use Rattle.std.specs.Prelude.{◌≡◌, true, List, ℕ};
 ghost use Rattle.model.specs.Calls.{look as look_of};
+ghost use Rattle.model.specs.Refusals.{refused_by};
 ghost use Rattle.model.specs.Entry.{lists_fit, lent_fault, tables_of, seen_of, refused};
 ghost use Rattle.call.specs.Calls.{StartAs};
 
 use bank::rows;
 use model::limits::HOLE_SYMBOL;
+use model::refusal::Refusal;
 use model::{Lists, Row, Seen};
 use run_lists::{change, fit};
 
@@ -52,17 +54,17 @@ pub fn refuse(number: u8, lists: Lists) -> Done
     }
 }
 
-// What refuses any call on a run before its tables are looked at: 18, then 30 for lists that do not fit; 0 for neither.
-pub fn lent_fault(words: &[u32], lists: Lists) -> u8
-    ensures { result ≡ lent_fault words.now lists }
+// What refuses any call on a run before its tables are looked at: 18, then 30 for lists that do not fit.
+pub fn lent_fault(words: &[u32], lists: Lists) -> Result<(), Refusal>
+    ensures { refused_by result ≡ lent_fault words.now lists }
 {
     if !rows::size_fits(words) {
-        return 18;
+        return Err(Refusal::Size);
     }
     if !fit::lists_fit(lists) {
-        return 30;
+        return Err(Refusal::Unsound);
     }
-    0
+    Ok(())
 }
 
 // What looking tells of lists that are within their arrays, whatever the words are.

@@ -8,6 +8,7 @@ ghost use Rattle.model.specs.Base.{place_of};
 ghost use Rattle.model.specs.Table.{finals_of};
 ghost use Rattle.model.specs.Sound.{is_sound};
 ghost use Rattle.model.specs.Entry.{store_of, answers_in, size_fits, lists_fit, tables_of, emit_seen, emit_out};
+ghost use Rattle.model.specs.Refusals.{emitted_as};
 ghost use Rattle.bank.specs.Rows.{Within};
 ghost use Rattle.bank.specs.Bank.{Stored};
 ghost use Rattle.table_verdict.specs.Rules.{rule_by, Ruled};
@@ -17,17 +18,15 @@ ghost use Rattle.call_emit.specs.Proposal.{final_byte, Transition, Flat, SixAt, 
 
 use bank::rows;
 use model::limits::{MOST_RULES, MOST_STATES};
-use model::{Emitted, Lists, Row, State};
+use model::refusal::Refusal;
+use model::{Lists, Row, State};
 
 // 1 for a state that is final, by its representative.
 fn final_byte(words: &[u32], rep: Row) -> u8
     requires { Within words.now rep.0 }
     ensures { result ≡ final_byte words.now rep.0 }
 {
-    if rows::answer_of(words, rep) == 2 {
-        return 1;
-    }
-    0
+    u8::from(rows::answer_of(words, rep) == 2)
 }
 
 // A final byte for each state.
@@ -41,15 +40,13 @@ fn write_finals(words: &[u32], used: u16, s: &[u16], finals: &mut [u8; MOST_STAT
         (take states finals.new ≡ finals_of answers s.now)
         × (length finals.new ≡ most_states) }
 {
-    let mut q = 0;
-    while q < s.len() {
-        let byte = final_byte(words, Row(s[q]));
-        finals[q] = byte;
-        q += 1;
+    for (q, row) in s.iter().enumerate() {
+        finals[q] = final_byte(words, Row(*row));
     }
 }
 
 // The state of a representative: its place in S.
+#[tactic(auto, using(crate::proofs::Laws::Transition::place_most))]
 fn state_of(s: &[u16], rep: Row) -> State
     requires { length s.now ≤ most_states }
     ensures { result.0 ≡ place_of rep.0 0 s.now }
@@ -79,12 +76,10 @@ fn rule_bytes(
     let count = counts[symbol as usize] as usize;
     let mut bytes = [0u8; list::RULE_WIDTH];
     bytes[0] = symbol as u8;
-    let mut i = 0;
-    while i < count {
+    for i in 0..count {
         let kid = rows::kid_of(words, row, i) as u16;
         let state = state_of(s, Row(kid));
         bytes[1 + i] = state.0 as u8;
-        i += 1;
     }
     let target = state_of(s, Row(reps[row.0 as usize]));
     bytes[5] = target.0 as u8;
@@ -96,12 +91,7 @@ fn put_six(flat: &mut [u8; list::RULE_WIDTH * MOST_RULES], at: usize, bytes: [u8
     requires { (length flat.old ≡ rule_width * most_rules) × (at + rule_width ≤ rule_width * most_rules) }
     ensures { SixAt flat.old at bytes flat.new }
 {
-    flat[at] = bytes[0];
-    flat[at + 1] = bytes[1];
-    flat[at + 2] = bytes[2];
-    flat[at + 3] = bytes[3];
-    flat[at + 4] = bytes[4];
-    flat[at + 5] = bytes[5];
+    flat[at..at + list::RULE_WIDTH].copy_from_slice(&bytes);
 }
 
 // The rules in T's order.
@@ -123,51 +113,35 @@ fn write_rules(
         let rules = length t.now in
         Flat x s.now t.now reps.now rules flat.new }
 {
-    let mut k = 0;
-    while k < t.len() {
-        let bytes = rule_bytes(words, counts, used, s, reps, Row(t[k]));
+    for (k, row) in t.iter().enumerate() {
+        let bytes = rule_bytes(words, counts, used, s, reps, Row(*row));
         put_six(flat, list::RULE_WIDTH * k, bytes);
-        k += 1;
     }
 }
 
-// A refusal: its number and nothing else.
-pub fn refuse(number: u32) -> Emitted
-    ensures { (result.number ≡ number) × (result.size ≡ 0) }
-{
-    Emitted {
-        number: number,
-        size: 0,
-    }
-}
-
-// The list of an automaton whose rules are given flat: 20 where it does not fit, or its bytes.
-fn write_listed(counts: &[u8], finals: &[u8], rules: &[u8], out: &mut [u8]) -> Emitted
+// The list of an automaton whose rules are given flat: 20 where it does not fit, or the count of its bytes.
+fn write_listed(counts: &[u8], finals: &[u8], rules: &[u8], out: &mut [u8]) -> Result<u32, Refusal>
     requires { Short counts.now finals.now rules.now }
     ensures result_value { let a = flat_sheet counts.now finals.now rules.now in
-        result ≡ listed_seen a out.old }
+        emitted_as result ≡ listed_seen a out.old }
     ensures bytes { let a = flat_sheet counts.now finals.now rules.now in
         out.new ≡ listed_out a out.old }
 {
     let size = list::list_size(counts, finals, rules);
     if out.len() < size as usize {
-        return refuse(20);
+        return Err(Refusal::ListRoom);
     }
-    let written = list::write_list(counts, finals, rules, out);
-    Emitted {
-        number: 0,
-        size: written,
-    }
+    Ok(list::write_list(counts, finals, rules, out))
 }
 
-// The list of the proposed automaton of sound tables with no question open: 20, or its bytes.
-fn emit_proposed(words: &[u32], lists: Lists, reps: &[u16], out: &mut [u8]) -> Emitted
+// The list of the proposed automaton of sound tables with no question open: 20, or the count of its bytes.
+fn emit_proposed(words: &[u32], lists: Lists, reps: &[u16], out: &mut [u8]) -> Result<u32, Refusal>
     requires { (size_fits words.now ≡ true)
         × (lists_fit lists ≡ true)
         × (is_sound (tables_of words.now lists) ≡ true)
         × (lists.asked ≡ 0)
         × Proposal words.now lists reps.now }
-    ensures value { result ≡ emit_seen words.now lists out.old }
+    ensures value { emitted_as result ≡ emit_seen words.now lists out.old }
     ensures bytes { out.new ≡ emit_out words.now lists out.old }
 {
     let letters = lists.letters as usize;
@@ -191,17 +165,17 @@ fn emit_proposed(words: &[u32], lists: Lists, reps: &[u16], out: &mut [u8]) -> E
     )
 }
 
-// Emitting from sound tables: 31, 20, then the bytes and their count.
-pub fn emit_sound(words: &[u32], lists: Lists, reps: &[u16], out: &mut [u8]) -> Emitted
+// Emitting from sound tables: 31, 20, then the count of the bytes.
+pub fn emit_sound(words: &[u32], lists: Lists, reps: &[u16], out: &mut [u8]) -> Result<u32, Refusal>
     requires { (size_fits words.now ≡ true)
         × (lists_fit lists ≡ true)
         × (is_sound (tables_of words.now lists) ≡ true)
         × (lists.asked ≡ 0 → Proposal words.now lists reps.now) }
-    ensures value { result ≡ emit_seen words.now lists out.old }
+    ensures value { emitted_as result ≡ emit_seen words.now lists out.old }
     ensures bytes { out.new ≡ emit_out words.now lists out.old }
 {
     if lists.asked != 0 {
-        return refuse(31);
+        return Err(Refusal::Phase);
     }
     emit_proposed(words, lists, reps, out)
 }

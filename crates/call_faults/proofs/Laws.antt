@@ -1,2 +1,1 @@
 pub mod OfferLines
-pub mod AnswerLines

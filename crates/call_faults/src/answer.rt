@@ -2,18 +2,20 @@
 ghost use Rattle.std.specs.Prelude.{◌≡◌, List, ℕ};
 ghost use Rattle.model.specs.Calls.{answer_fault};
 ghost use Rattle.model.specs.Entry.{tables_of};
+ghost use Rattle.model.specs.Refusals.{refused_by};
 
 use model::Lists;
+use model::refusal::Refusal;
 
-// The number of the first line that refuses an answer to sound tables, 31 or 16; 0 for none.
-pub fn answer_fault(lists: Lists, mark: u8) -> u8
-    ensures { (words : List ℕ) → result ≡ answer_fault (tables_of words lists) mark }
+// The first line that refuses an answer to sound tables: 31 or 16.
+pub fn answer_fault(lists: Lists, mark: u8) -> Result<(), Refusal>
+    ensures { (words : List ℕ) → refused_by result ≡ answer_fault (tables_of words lists) mark }
 {
     if lists.asked == 0 {
-        return 31;
+        return Err(Refusal::Phase);
     }
     if 1 < mark {
-        return 16;
+        return Err(Refusal::Mark);
     }
-    0
+    Ok(())
 }

@@ -5,6 +5,7 @@ ghost use Rattle.std.specs.Prelude.{◌≡◌, true};
 ghost use Rattle.model.specs.Automata.{is_yes};
 ghost use Rattle.model.specs.Calls.{contradicts, offer_fault, fault_of, verdict_is};
 ghost use Rattle.model.specs.Entry.{lists_fit, tables_of};
+ghost use Rattle.model.specs.Refusals.{refused_by};
 ghost use Rattle.bank.specs.Bank.{Bank};
 ghost use Rattle.run_lists.specs.Members.{counts_in};
 ghost use Rattle.sound.specs.Proposal.{Proposal};
@@ -13,32 +14,30 @@ ghost use Rattle.call_faults.specs.Lines.{InputFault, Tested};
 
 use bank::rows;
 use call::Said;
+use model::refusal::Refusal;
 use model::{Lists, Verdict};
 
 mod answer; // answer.rt: the lines that refuse an answer
 
-// The number of the first line that refuses an offer without a look at the tables, 31 or 11 to 16; 0 for none.
+// The first line that refuses an offer without a look at the tables: 31, or 11 to 16.
 #[tactic(auto, using(crate::proofs::Laws::OfferLines::line_asking, crate::proofs::Laws::OfferLines::line_accepted, crate::proofs::Laws::OfferLines::line_record, crate::proofs::Laws::OfferLines::line_mark))]
-fn input_fault(lists: Lists, symbols: &[u8], mark: u8) -> u8
+fn input_fault(lists: Lists, symbols: &[u8], mark: u8) -> Result<(), Refusal>
     requires { lists_fit lists ≡ true }
-    ensures { InputFault lists symbols.now mark result }
+    ensures { InputFault lists symbols.now mark (refused_by result) }
 {
     if lists.asked != 0 {
-        return 31;
+        return Err(Refusal::Phase);
     }
     if lists.accepted == 1 {
-        return 31;
+        return Err(Refusal::Phase);
     }
     let letters = lists.letters as usize;
     let counts = lists.counts;
-    let line = bank_listed::record_fault(&counts[..letters], symbols);
-    if line != 0 {
-        return line;
-    }
+    bank_listed::record_fault(&counts[..letters], symbols)?;
     if 1 < mark {
-        return 16;
+        return Err(Refusal::Mark);
     }
-    0
+    Ok(())
 }
 
 // Whether a verdict is yes.
@@ -95,7 +94,7 @@ fn contradicts(stored: u32, mark: u8) -> bool
     }
 }
 
-// The number of the first line that refuses an offer to sound tables; 0 for none.
+// The first line that refuses an offer to sound tables.
 fn offer_fault(
     words: &[u32],
     lists: Lists,
@@ -103,30 +102,27 @@ fn offer_fault(
     mark: u8,
     index: &[u16],
     reps: &[u16],
-) -> u8
+) -> Result<(), Refusal>
     requires { (lists_fit lists ≡ true)
         × Bank words.now (counts_in lists) lists.used index.now
         × (lists.asked ≡ 0 → Proposal words.now lists reps.now) }
-    ensures { result ≡ offer_fault (tables_of words.now lists) symbols.now mark }
+    ensures { refused_by result ≡ offer_fault (tables_of words.now lists) symbols.now mark }
 {
-    let fault = input_fault(lists, symbols, mark);
-    if fault != 0 {
-        return fault;
-    }
+    input_fault(lists, symbols, mark)?;
     let letters = lists.letters as usize;
     let counts = lists.counts;
     let row = bank_listed::known_row(words, &counts[..letters], lists.used, index, symbols);
     let answer = rows::answer_of(words, row);
     if contradicts(answer, mark) {
-        return 33;
+        return Err(Refusal::Contradicts);
     }
     if verdict_is(words, lists, symbols, mark, index, reps) {
-        return 32;
+        return Err(Refusal::Agrees);
     }
-    0
+    Ok(())
 }
 
-// The number of the first line that refuses what was said to sound tables; 0 for none.
+// The first line that refuses what was said to sound tables.
 pub fn fault_of(
     words: &[u32],
     lists: Lists,
@@ -134,11 +130,11 @@ pub fn fault_of(
     said: Said,
     index: &[u16],
     reps: &[u16],
-) -> u8
+) -> Result<(), Refusal>
     requires { (lists_fit lists ≡ true)
         × Bank words.now (counts_in lists) lists.used index.now
         × (lists.asked ≡ 0 → Proposal words.now lists reps.now) }
-    ensures { result ≡ fault_of (tables_of words.now lists) (call_of said symbols.now) }
+    ensures { refused_by result ≡ fault_of (tables_of words.now lists) (call_of said symbols.now) }
 {
     match said {
         Said::Answer(mark) => answer::answer_fault(lists, mark),

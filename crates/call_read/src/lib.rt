@@ -15,6 +15,7 @@ use call::ladder::{
     TINY_NOTES, TINY_TABLE, WIDE_INDEX, WIDE_NOTES, WIDE_TABLE, size_for,
 };
 use model::limits::ROW_WIDTH;
+use model::refusal::Refusal;
 use model::{Emitted, Judged, Lists, Seen};
 
 // A step on sound tables, in the room lent: what it makes of their index, their representatives and an output; nothing for unsound
@@ -101,14 +102,13 @@ fn words_read(used: u16, size: usize) -> usize
 pub fn look(words: &[u32], lists: Lists) -> Seen
     ensures { result ≡ call_seen words.now lists looks }
 {
-    let fault = call::lent_fault(words, lists);
-    if fault != 0 {
-        return call::refusal(fault);
+    if let Err(refusal) = call::lent_fault(words, lists) {
+        return Seen::from(refusal);
     }
     let used = &words[..words_read(lists.used, words.len())];
     match read(used, lists, &mut [], |_, _, _| ()) {
         Some(()) => call::told(lists),
-        None => call::refusal(30),
+        None => Seen::from(Refusal::Unsound),
     }
 }
 
@@ -116,9 +116,8 @@ pub fn look(words: &[u32], lists: Lists) -> Seen
 pub fn verdict(words: &[u32], lists: Lists, symbols: &[u8]) -> Judged
     ensures { result ≡ judge_seen words.now lists symbols.now }
 {
-    let fault = call::lent_fault(words, lists);
-    if fault != 0 {
-        return call_verdict::refuse(fault);
+    if let Err(refusal) = call::lent_fault(words, lists) {
+        return Judged::from(refusal);
     }
     let used = &words[..words_read(lists.used, words.len())];
     let judged = read(
@@ -130,8 +129,9 @@ pub fn verdict(words: &[u32], lists: Lists, symbols: &[u8]) -> Judged
         { call_verdict::judge_sound(used, lists, symbols, index, reps) },
     );
     match judged {
-        Some(judged) => judged,
-        None => call_verdict::refuse(30),
+        Some(Ok(verdict)) => Judged::from(verdict),
+        Some(Err(refusal)) => Judged::from(refusal),
+        None => Judged::from(Refusal::Unsound),
     }
 }
 
@@ -140,9 +140,8 @@ pub fn emit(words: &[u32], lists: Lists, out: &mut [u8]) -> Emitted
     ensures value { result ≡ emit_seen words.now lists out.old }
     ensures bytes { out.new ≡ emit_out words.now lists out.old }
 {
-    let fault = call::lent_fault(words, lists);
-    if fault != 0 {
-        return call_emit::refuse(fault as u32);
+    if let Err(refusal) = call::lent_fault(words, lists) {
+        return Emitted::from(refusal);
     }
     let emitted = read(
         words,
@@ -153,7 +152,11 @@ pub fn emit(words: &[u32], lists: Lists, out: &mut [u8]) -> Emitted
         { call_emit::emit_sound(words, lists, reps, out) },
     );
     match emitted {
-        Some(emitted) => emitted,
-        None => call_emit::refuse(30),
+        Some(Ok(size)) => Emitted {
+            number: 0,
+            size: size,
+        },
+        Some(Err(refusal)) => Emitted::from(refusal),
+        None => Emitted::from(Refusal::Unsound),
     }
 }

@@ -75,9 +75,8 @@ fn tried_more(words: &mut [u32], lists: Lists, symbols: &[u8], said: Said) -> Do
 pub fn made(words: &mut [u32], lists: Lists, symbols: &[u8], said: Said) -> Done
     ensures { CallAs words.old lists (call_of said symbols.now) result words.new }
 {
-    let fault = call::lent_fault(words, lists);
-    if fault != 0 {
-        return call::refuse(fault, lists);
+    if let Err(refusal) = call::lent_fault(words, lists) {
+        return call::refuse(u8::from(refusal), lists);
     }
     if is_short(lists.used, lists.rules, symbols.len()) {
         let mut saved = [0u32; ROW_WIDTH * SPARE_ROWS];

@@ -37,9 +37,8 @@ pub fn call_in(
         return call::refuse(30, lists);
     }
     let reps = notes::column(notes, 0);
-    let fault = call_faults::fault_of(words, lists, symbols, said, index, reps);
-    if fault != 0 {
-        return call::refuse(fault, lists);
+    if let Err(refusal) = call_faults::fault_of(words, lists, symbols, said, index, reps) {
+        return call::refuse(u8::from(refusal), lists);
     }
     take::take(words, lists, symbols, said, saved, index, table, notes)
 }

@@ -1,4 +1,4 @@
-// call: the verdict on a listed record, the same for offers and for the call that asks it of sound tables: 31, 11 to 15, then its numbers (§3.8).
+// call: the verdict on a listed record, the same for offers and for the call that asks it of sound tables: 31, 11 to 15, then the verdict (§3.8).
 #![tactic(auto)]
 
 ghost use Rattle.std.specs.Prelude.{◌≡◌, true, List, ℕ};
@@ -7,12 +7,14 @@ ghost use Rattle.model.specs.Automata.{verdict_on};
 ghost use Rattle.model.specs.Table.{automaton_of};
 ghost use Rattle.model.specs.Sound.{is_sound};
 ghost use Rattle.model.specs.Calls.{judge_fault};
-ghost use Rattle.model.specs.Entry.{size_fits, lists_fit, tables_of, judged, judged_as, judge_seen};
+ghost use Rattle.model.specs.Entry.{size_fits, lists_fit, tables_of, judge_seen};
+ghost use Rattle.model.specs.Refusals.{refused_by, verdict_as};
 ghost use Rattle.bank.specs.Bank.{Bank};
 ghost use Rattle.run_lists.specs.Members.{counts_in};
 ghost use Rattle.sound.specs.Proposal.{Proposal};
 
-use model::{Judged, Lists, Verdict};
+use model::refusal::Refusal;
+use model::{Lists, Verdict};
 
 // The verdict of the proposed automaton on a record that is listed without a fault.
 pub fn verdict_of(
@@ -33,71 +35,34 @@ pub fn verdict_of(
     table_verdict::verdict_on(words, &counts[..letters], lists.used, index, reps, symbols)
 }
 
-// The number of the first line that refuses a verdict on sound tables, 31 or 11 to 15; 0 for none.
-fn judge_fault(lists: Lists, symbols: &[u8]) -> u8
+// The first line that refuses a verdict on sound tables: 31, or 11 to 15.
+fn judge_fault(lists: Lists, symbols: &[u8]) -> Result<(), Refusal>
     requires { lists_fit lists ≡ true }
-    ensures { (words : List ℕ) → result ≡ judge_fault (tables_of words lists) symbols.now }
+    ensures { (words : List ℕ) → refused_by result ≡ judge_fault (tables_of words lists) symbols.now }
 {
     if lists.asked != 0 {
-        return 31;
+        return Err(Refusal::Phase);
     }
     let letters = lists.letters as usize;
     let counts = lists.counts;
     bank_listed::record_fault(&counts[..letters], symbols)
 }
 
-// A refusal: its number and nothing else.
-pub fn refuse(number: u8) -> Judged
-    ensures { result ≡ judged number 0 0 }
-{
-    Judged {
-        number: number,
-        outcome: 0,
-        place: 0,
-    }
-}
-
-// A verdict by its numbers.
-fn judged_as(verdict: Verdict) -> Judged
-    ensures { result ≡ judged_as verdict }
-{
-    match verdict {
-        Verdict::Accepted => Judged {
-            number: 0,
-            outcome: 1,
-            place: 0,
-        },
-        Verdict::NotFinal => Judged {
-            number: 0,
-            outcome: 2,
-            place: 0,
-        },
-        Verdict::NoRule(place) => Judged {
-            number: 0,
-            outcome: 3,
-            place: place,
-        },
-    }
-}
-
-// The verdict asked of sound tables: 31, 11 to 15, then the outcome and its place.
+// The verdict asked of sound tables: 31, 11 to 15, then the verdict.
 pub fn judge_sound(
     words: &[u32],
     lists: Lists,
     symbols: &[u8],
     index: &[u16],
     reps: &[u16],
-) -> Judged
+) -> Result<Verdict, Refusal>
     requires { (size_fits words.now ≡ true)
         × (lists_fit lists ≡ true)
         × (is_sound (tables_of words.now lists) ≡ true)
         × Bank words.now (counts_in lists) lists.used index.now
         × (lists.asked ≡ 0 → Proposal words.now lists reps.now) }
-    ensures { result ≡ judge_seen words.now lists symbols.now }
+    ensures { verdict_as result ≡ judge_seen words.now lists symbols.now }
 {
-    let fault = judge_fault(lists, symbols);
-    if fault != 0 {
-        return refuse(fault);
-    }
-    judged_as(verdict_of(words, lists, symbols, index, reps))
+    judge_fault(lists, symbols)?;
+    Ok(verdict_of(words, lists, symbols, index, reps))
 }

@@ -22,6 +22,7 @@ pub mod Trees
 pub mod Plug
 pub mod Listed
 pub mod Records
+pub mod Refused
 pub mod Verdict
 pub mod NoRule
 -- the emitted list: blocks, rule bodies, written and read

@@ -1,5 +1,9 @@
 -- The numbers of refusals (§5.3).
 use Rattle.std.specs.Prelude.{ℕ, Result, Ok, Err}
+use Rattle.model.specs.Entry.{judged, judged_as}
+use Rattle.model.specs.declared.Emitted.{Emitted}
+use Rattle.model.specs.declared.Judged.{Judged}
+use Rattle.model.specs.declared.Verdict.{Verdict}
 use Rattle.model.specs.declared.refusal.Refusal.{Refusal}
 use Rattle.model.specs.declared.refusal.Refusal.TheVariants.{NoSymbols, TooManySymbols, UnknownSymbol, ChildrenMissing, NotOneTree, Mark, Alphabet, Size, ListRoom, NoList, Unsound, Phase, Agrees, Contradicts, RowsShort, StatesShort, RulesShort}
 
@@ -27,3 +31,16 @@ number_of RulesShort = 36
 abbrev pub refused_by : {A : Type 0} → Result A Refusal → ℕ
 refused_by (Ok x) = 0
 refused_by (Err r) = number_of r
+
+-- WHAT IS TOLD of a list: its bytes, or the number of what refused it
+abbrev pub unlisted : (number : ℕ) → Emitted
+unlisted n = record { number = n; size = 0 }
+
+abbrev pub emitted_as : Result ℕ Refusal → Emitted
+emitted_as (Ok n) = record { number = 0; size = n }
+emitted_as (Err r) = unlisted (number_of r)
+
+-- and of a verdict
+abbrev pub verdict_as : Result Verdict Refusal → Judged
+verdict_as (Ok v) = judged_as v
+verdict_as (Err r) = judged (number_of r) 0 0

@@ -1,5 +1,5 @@
 // model: what a host lends and what a call returns; the definitions of the calls, the laws about them and the promises.
-// No function is here: specs/ has the definitions, proofs/ the laws and the proofs of the promises.
+// The only functions are conversions: specs/ has the definitions, proofs/ the laws and the proofs of the promises.
 #![tactic(auto)]
 
 use limits::{MOST_CONTEXTS, MOST_RULES, MOST_STATES, MOST_SYMBOLS};
@@ -7,6 +7,7 @@ use limits::{MOST_CONTEXTS, MOST_RULES, MOST_STATES, MOST_SYMBOLS};
 pub mod limits; // limits.rt: the numbers of the specification
 pub mod members; // members.rt: the members of the run's lists, each as a slice
 pub mod refusal; // refusal.rt: why a call is refused
+mod told; // told.rt: what a host is told by numbers
 
 // A row of the record table, a state of the proposal, a member of C: three sequences of numbers that are never mixed (§2.2).
 #[derive(Clone, Copy)]

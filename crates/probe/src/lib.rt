@@ -34,7 +34,10 @@ pub struct Reply {
 pub extern "C" fn probe_fault(counts: &[u8], symbols: &[u8]) -> u8
     ensures { result ≡ record_fault counts.now symbols.now }
 {
-    bank_listed::record_fault(counts, symbols)
+    match bank_listed::record_fault(counts, symbols) {
+        Ok(()) => 0,
+        Err(refusal) => u8::from(refusal),
+    }
 }
 
 // T1 behind the test of the size; where it holds, the index and the holes are ready.
@@ -162,7 +165,7 @@ fn stored(words: &mut [u32], counts: &[u8], used: u16, index: &mut [u16], symbol
     requires { Bank words.old counts.now used index.old }
     ensures { StoredReady words.old counts.now used symbols.now result words.new }
 {
-    if bank_listed::record_fault(counts, symbols) != 0 {
+    if bank_listed::record_fault(counts, symbols).is_err() {
         return refused();
     }
     reply_of(bank_listed::store(words, counts, used, index, symbols))
@@ -189,7 +192,7 @@ pub extern "C" fn probe_known(words: &[u32], counts: &[u8], used: u16, symbols: 
     if !passes(words, counts, used, &mut index) {
         return 0;
     }
-    if bank_listed::record_fault(counts, symbols) != 0 {
+    if bank_listed::record_fault(counts, symbols).is_err() {
         return 0;
     }
     bank_listed::known_row(words, counts, used, &index, symbols).0

@@ -204,14 +204,6 @@ pub fn lists_sound(
     ensures value { result ≡ is_sound (tables_of words.now lists) }
     ensures working { result ≡ true → WorkingOn words.now lists index.new table.new notes.new }
 {
-    let letters = lists.letters as usize;
-    let states = lists.states as usize;
-    let rules = lists.rules as usize;
-    let contexts = lists.contexts as usize;
-    let counts = lists.counts;
-    let s = lists.s;
-    let t = lists.t;
-    let c = lists.c;
     let standing = Standing {
         hand: Row(lists.hand),
         asked: Row(lists.asked),
@@ -219,11 +211,11 @@ pub fn lists_sound(
     };
     is_sound(
         words,
-        &counts[..letters],
+        lists.alphabet(),
         lists.used,
-        &s[..states],
-        &t[..rules],
-        &c[..contexts],
+        lists.state_rows(),
+        lists.rule_rows(),
+        lists.context_rows(),
         standing,
         index,
         table,

@@ -73,17 +73,7 @@ fn unknown(
         let found = at_unknown hand.0 (record { row = 0; around = around }) rep.0 in
         EndedAs words.old lists (searched_of x found) result words.new }
 {
-    let letters = lists.letters as usize;
-    let counts = lists.counts;
-    let added = add::fill(
-        words,
-        &counts[..letters],
-        lists.used,
-        index,
-        down,
-        hand,
-        rep,
-    );
+    let added = add::fill(words, lists.alphabet(), lists.used, index, down, hand, rep);
     opened(lists, hand, added)
 }
 

@@ -37,9 +37,7 @@ fn search(words: &[u32], lists: Lists, index: &[u16], notes: &mut [u16]) -> Foun
         let reps = reps_in notes.old in
         search_by x.s reps x.store result ≡ search_of x.store x.answers x.s x.t x.c lists.hand }
 {
-    let letters = lists.letters as usize;
-    let counts = lists.counts;
-    let bank = Terms::new(words, &counts[..letters], lists.used, index);
+    let bank = Terms::new(words, lists.alphabet(), lists.used, index);
     step_search::find(&bank, notes, Row(lists.hand))
 }
 

@@ -32,16 +32,15 @@ pub fn proposed(lists: Lists, table: &[u8]) -> Result<Lists, Refusal>
         × Sized table.now lists.rules lists.contexts }
     ensures { ProposedAs lists table.now result }
 {
-    let states = lists.states as usize;
-    let rules = lists.rules as usize;
-    let mut s = lists.s;
-    let t = lists.t;
+    let t = lists.rule_rows();
     let mut s_in_t = [0u16; MOST_STATES];
-    table::find_s_in_t(&s[..states], &t[..rules], &mut s_in_t);
+    table::find_s_in_t(lists.state_rows(), t, &mut s_in_t);
+    let rules = lists.rules as usize;
     let contexts = lists.contexts as usize;
     let Some(grown) = table::grow(table, rules, contexts, s_in_t, lists.states) else {
         return Err(Refusal::StatesShort);
     };
-    write_states(&t[..rules], &grown.s, grown.states as usize, &mut s);
+    let mut s = lists.s;
+    write_states(t, &grown.s, grown.states as usize, &mut s);
     Ok(change::proposing(lists, s, grown.states))
 }

@@ -38,12 +38,10 @@ pub fn put_down(
         let around = path_of (down_in notes.old) x.store hand.0 in
         EndedAs words.old lists (put_down x around) result words.new }
 {
-    let letters = lists.letters as usize;
-    let counts = lists.counts;
     let down = notes::column(notes, 1);
     let context = add::fill(
         words,
-        &counts[..letters],
+        lists.alphabet(),
         lists.used,
         index,
         down,

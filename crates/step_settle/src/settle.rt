@@ -32,15 +32,11 @@ pub fn settled(
     ensures { EndedAs words.old lists (settled_of (tables_of words.old lists)) result words.new }
 {
     let used = lists.used;
-    let contexts = lists.contexts as usize;
-    let counts = lists.counts;
-    let counts = &counts[..lists.letters as usize];
-    let t = lists.t;
-    let t = &t[..lists.rules as usize];
-    let c = lists.c;
-    let c = &c[..contexts];
+    let counts = lists.alphabet();
+    let t = lists.rule_rows();
+    let c = lists.context_rows();
     let n = table_answers::observe_to_gap(words, counts, used, index, t, c, table, notes);
-    let Some(gap) = table::first_unknown(table, n, contexts) else {
+    let Some(gap) = table::first_unknown(table, n, lists.contexts as usize) else {
         return propose::proposed(lists, table);
     };
     let around = Row(c[gap.context.0 as usize]);

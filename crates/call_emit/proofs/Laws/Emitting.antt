@@ -27,22 +27,6 @@ parts_short ns fs us q n k f l u m =
     let b = length-take-le (rule_width * n) us (omega (arith, u, m)) in
     record { symbols = k; states = omega (arith, a, l); rules = omega (arith, b, m) }
 
-module _ (a : Sheet) (o : List ℕ) where
-  pub listed_short : (n : ℕ) → n ≡ length (emitted a) → length o < n → (r : Emitted) → (r.number ≡ 20) × (r.size ≡ 0) → (r ≡ listed_seen a o) × (o ≡ listed_out a o)
-  listed_short n e l r p =
-      let b = lt-leb (length (emitted a)) (length o) (omega (arith, e, l)) in (
-        (λ i. record { number = p.0 i; size = p.1 i }) ∙ sym (ap (λ (z : Bool). cond z (record { number = 0; size = length (emitted a) }) (record { number = 20; size = 0 })) b),
-        sym (ap (λ (z : Bool). cond z (over (emitted a) o) o) b),
-      )
-
-  pub listed_whole : (n : ℕ) → n ≡ length (emitted a) → n ≤ length o → (m : ℕ) → m ≡ length (emitted a) → {after : List ℕ} → after ≡ over (emitted a) o →
-      (◌≡◌ {A = Emitted} (record { number = 0; size = m }) (listed_seen a o)) × (after ≡ listed_out a o)
-  listed_whole n e l m d put =
-      let b = le-leb (length (emitted a)) (length o) (omega (arith, e, l)) in (
-        (λ i. record { number = 0; size = d i }) ∙ sym (ap (λ (z : Bool). cond z (record { number = 0; size = length (emitted a) }) (record { number = 20; size = 0 })) b),
-        put ∙ sym (ap (λ (z : Bool). cond z (over (emitted a) o) o) b),
-      )
-
 -- THE LINES
 module _ (ws : List ℕ) (l : Lists) (o : List ℕ) where
   abbrev told : (fits within sound : Bool) → (fault : ℕ) → Outcome
@@ -75,9 +59,6 @@ module _ (ws : List ℕ) (l : Lists) (o : List ℕ) where
       unsound_refused e = λ i. told (s i) (f i) (e i) line
 
       module _ (g : is_sound (tables_of ws l) ≡ true) where
-        pub asking_refused : (l.asked ≡ 0 → ⊥) → call_by ws l (emits (length o)) ≡ refuses 31
-        asking_refused n = let e = ne_eqb l.asked 0 n in λ i. told (s i) (f i) (g i) (fault (e i) fits)
-
         module _ (e : l.asked ≡ 0) where
           idle : eqb l.asked 0 ≡ true
           idle = eq-eqb l.asked 0 e

@@ -8,18 +8,10 @@ use native.Mathlib.Omega.{arith}
 use lib.Dec.{eqb}
 use lib.ListN.{length, get_or, set, take}
 use lib.Seq.{take-suc, take-suc-set}
-use borrow.Author.Tests.{eq-eqb, ne_eqb}
 use Rattle.model.specs.Table.{finals_of}
 use Rattle.model.specs.Entry.{answers_in}
-use Rattle.bank.specs.Rows.{answer_in}
 use Rattle.bank.proofs.Laws.Words.{answer_in_law}
 use Rattle.call_emit.specs.Proposal.{final_byte}
-
-pub byte_yes : (ws : List ℕ) (i v : ℕ) → v ≡ answer_in ws i → v ≡ 2 → 1 ≡ final_byte ws i
-byte_yes ws i v e y = sym (rw (eq-eqb (answer_in ws i) 2 (sym e ∙ y)))
-
-pub byte_other : (ws : List ℕ) (i v : ℕ) → v ≡ answer_in ws i → (v ≡ 2 → ⊥) → 0 ≡ final_byte ws i
-byte_other ws i v e n = sym (rw (ne_eqb (answer_in ws i) 2 (λ y. n (e ∙ y))))
 
 finals_append : (w xs ys : List ℕ) → finals_of w (xs ++ ys) ≡ finals_of w xs ++ finals_of w ys
 finals_append w [] ys = refl

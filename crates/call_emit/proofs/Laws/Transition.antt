@@ -1,6 +1,7 @@
 -- A transition over lent words: its row is a used one beyond the hole, its children and its representative are states and have places below 32.
 -- By T2 and T3 as a run needs them.
 use mathlib.Core.Bool.{Bool, true, false, cond}
+use mathlib.Core.Path.{◌≡◌, ap, ◌∙◌}
 use mathlib.Core.List.{List, [], ◌∷◌}
 use Prim.Native.Nat.{ℕ, suc, ◌+◌, ◌≤◌, ◌<◌}
 use native.Mathlib.Omega.{arith}
@@ -11,11 +12,11 @@ use Rattle.model.specs.Base.{In, place_of}
 use Rattle.model.specs.Store.{Store, kids_at}
 use Rattle.model.specs.Entry.{store_of}
 use Rattle.model.proofs.Laws.Lists.{at_place, each_at, place_within}
-use Rattle.bank.specs.Rows.{symbol_in}
+use Rattle.bank.specs.Rows.{symbol_in, kid_in}
 use Rattle.bank.proofs.Laws.Words.{used_of}
 use Rattle.bank.specs.Bank.{Stored}
 use Rattle.table_verdict.specs.Rules.{Ruled}
-use Rattle.bank.proofs.Laws.Children.{row_known}
+use Rattle.bank.proofs.Laws.Children.{row_known, row_few, row_early, row_kid, count_kids}
 use Rattle.call_emit.specs.Proposal.{Transition}
 
 -- a place is within the list or just behind it
@@ -52,3 +53,17 @@ module _ {ws ns : List ℕ} {u : ℕ} (r : Stored ws ns u) {s reps : List ℕ} (
 
   pub target_place : place_of (get_or reps i 0) 0 s < most_states
   target_place = place_small (get_or reps i 0) d.target
+
+  -- as many children as the symbol has
+  pub count_is : (a : ℕ) → a ≡ symbol_in ws i → get_or ns a 0 ≡ length (kids_at (store_of ws ns u) i)
+  count_is a e = ap (λ (b : ℕ). get_or ns b 0) e ∙ count_kids r i row_used
+
+  pub count_few : length (kids_at (store_of ws ns u) i) ≤ 4
+  count_few = row_few r i row_used d.some
+
+  -- the word of a child
+  pub word_early : (j k : ℕ) → j < length (kids_at (store_of ws ns u) i) → k ≡ kid_in ws i j → k < u
+  word_early j k l e = omega (arith, row_used, row_kid r i row_used d.some j l, row_early r i row_used d.some j l)
+
+  pub word_place : (j k : ℕ) → j < length (kids_at (store_of ws ns u) i) → k ≡ kid_in ws i j → place_of k 0 s ≡ place_of (get_or (kids_at (store_of ws ns u) i) j 0) 0 s
+  word_place j k l e = ap (λ (n : ℕ). place_of n 0 s) (e ∙ row_kid r i row_used d.some j l)

@@ -18,8 +18,9 @@ use Rattle.model.specs.Entry.{store_of, answers_in, tables_of}
 use Rattle.model.specs.declared.Lists.{Lists}
 use Rattle.model.proofs.Laws.Rows.{found}
 use Rattle.model.proofs.Laws.Tests.{by_equal}
+use Rattle.bank.specs.Rows.{answer_in}
 use Rattle.bank.specs.Bank.{Bank}
-use Rattle.bank.proofs.Laws.Words.{used_of}
+use Rattle.bank.proofs.Laws.Words.{answer_in_law, used_of}
 use Rattle.run_lists.specs.Members.{counts_in}
 use Rattle.call_faults.specs.Lines.{Tested}
 
@@ -99,6 +100,12 @@ known_within x s (a ∷ xs) is h =
 
 pub known_row_within : (ws ns : List ℕ) (n : ℕ) {ix : List ℕ} → Bank ws ns n ix → (xs : List ℕ) → known_row (store_of ws ns n) xs < n
 known_row_within ws ns n r xs = omega (arith, known_within (store_of ws ns n) r.good.start xs [] r.good.start, used_of ws ns n)
+
+-- and what is stored there is the record's answer
+pub stored_answer : (ws ns : List ℕ) (n : ℕ) {ix : List ℕ} → Bank ws ns n ix → (xs : List ℕ) → (i v : ℕ) → i ≡ known_row (store_of ws ns n) xs → v ≡ answer_in ws i →
+    v ≡ answer_at (answers_in n ws) (known_row (store_of ws ns n) xs)
+stored_answer ws ns n r xs i v e p =
+    p ∙ ap (answer_in ws) e ∙ sym (answer_in_law n (known_row (store_of ws ns n) xs) ws (known_row_within ws ns n r xs))
 
 -- 32 asks whether the verdict is the mark
 pub verdict_marked : (x : Tables) (xs : List ℕ) (m : ℕ) (y : Bool) → m ≤ 1 → y ≡ is_yes (verdict_on (automaton_of x) xs) → beq y (eqb m 1) ≡ verdict_is x xs m

@@ -27,13 +27,6 @@ use Rattle.sound.specs.Proposal.{Proposal}
 
 -- THE LINES
 module _ (ws : List ℕ) (l : Lists) (xs : List ℕ) where
-  -- 31, or what is wrong with the record
-  pub line_asking : (l.asked ≡ 0 → ⊥) → 31 ≡ judge_fault (tables_of ws l) xs
-  line_asking n = sym (ap (λ (b : Bool). or_else (unless (not (not b)) 31) (record_fault (counts_in l) xs)) (ne_eqb l.asked 0 n))
-
-  pub line_record : l.asked ≡ 0 → record_fault (counts_in l) xs ≡ judge_fault (tables_of ws l) xs
-  line_record e = sym (ap (λ (b : Bool). or_else (unless (not (not b)) 31) (record_fault (counts_in l) xs)) (eq-eqb l.asked 0 e))
-
   -- no line applies: no question is open, and the record has no fault
   pub none_applies : judge_fault (tables_of ws l) xs ≡ 0 → (l.asked ≡ 0) × (record_fault (counts_in l) xs ≡ 0)
   none_applies e =

@@ -7,4 +7,4 @@ use Rattle.sound.proofs.lists_sound.Goals as goal
 pub returns-clause-working : goal.returns-clause-working
 returns-clause-working c =
     let arrays : Arrays c.args.lists = record { counts = search rules; s = search rules; t = search rules; c = search rules } in
-    λ e. working_whole (counted c.requires.1 arrays) (c.is_sound.ensures.working e)
+    λ e. working_whole (counted c.requires.1 arrays) (rw (← c.alphabet.ensures, ← c.state_rows.ensures, ← c.rule_rows.ensures, ← c.context_rows.ensures) (c.is_sound.ensures.working e))

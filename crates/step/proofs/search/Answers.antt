@@ -5,6 +5,6 @@ use Rattle.step.proofs.search.Goals as goal
 
 pub returns-clause-fact : goal.returns-clause-fact
 returns-clause-fact c =
-    let f = rw c.new-bank.ensures at c.find.ensures.fact in
+    let f = rw (c.new-bank.ensures, c.alphabet.ensures) at c.find.ensures.fact in
     let l = c.args.lists in
     (f.0, descended_rows c.args.words.now (counts_in l) l.used c.requires.0.finding.few c.requires.3.noted f.1)

@@ -10,10 +10,10 @@ use Rattle.step.proofs.found.unknown.Goals as goal
 pub fill-added-requires : goal.fill-added-requires
 fill-added-requires c =
     let r = c.requires in
-    (r.0, r.2, omega (arith, r.3.within, used_of c.args.words.now (counts_in c.args.lists) c.args.lists.used), r.4, r.5)
+    rw c.alphabet.ensures (r.0, r.2, omega (arith, r.3.within, used_of c.args.words.now (counts_in c.args.lists) c.args.lists.used), r.4, r.5)
 
 pub returns : goal.returns
 returns c =
     let a : Arrays c.args.lists = record { counts = search rules; s = search rules; t = search rules; c = search rules } in
     let r = c.requires in
-    (question_ends r.1 a _ r.5 c.args.hand.0 c.args.rep.0 r.4 c.opened.result c.fill-added.result (record { came = c.fill-added.ensures }) c.opened.ensures).ended
+    (question_ends r.1 a _ r.5 c.args.hand.0 c.args.rep.0 r.4 c.opened.result c.fill-added.result (record { came = rw c.alphabet.ensures at c.fill-added.ensures }) c.opened.ensures).ended

@@ -36,7 +36,8 @@ came ws l h ds ps {s = s} {us = us} {ix = ix} e f d =
 pub fill-requires : goal.fill-requires
 fill-requires c =
     let r = c.requires in
-    let x = (tables_of c.args.words.now c.args.lists).store in (
+    let x = (tables_of c.args.words.now c.args.lists).store in
+    rw c.alphabet.ensures (
       r.0,
       omega (arith, noted r.0 c.args.notes.now r.2, ap length c.column-down.ensures, column_long c.args.notes.now 1 (omega arith)),
       omega (arith, r.5.within, used_of c.args.words.now (counts_in c.args.lists) c.args.lists.used),
@@ -48,7 +49,7 @@ pub settled-requires : goal.settled-requires
 settled-requires c =
     let a : Arrays c.args.lists = record { counts = search rules; s = search rules; t = search rules; c = search rules } in
     let r = c.requires in
-    let d = came c.args.words.now c.args.lists c.args.hand.0 c.column-down.result.now (down_in c.args.notes.now) c.column-down.ensures c.in_ok-context.ensures.ok_part c.fill.ensures in
+    let d = came c.args.words.now c.args.lists c.args.hand.0 c.column-down.result.now (down_in c.args.notes.now) c.column-down.ensures c.in_ok-context.ensures.ok_part (rw c.alphabet.ensures at c.fill.ensures) in
     let y = reached c.args.words.now (counts_in c.args.lists) c.args.lists.used _ 0 r.0.good r.6 r.0.finding.some d in
     let left = c.with_context-left in (
       bank_after r.1 a r.4 y left.result left.ensures,
@@ -62,7 +63,7 @@ settled-requires c =
 
 pub returns-in_err-context : goal.returns-in_err-context
 returns-in_err-context c =
-    let d = came c.args.words.now c.args.lists c.args.hand.0 c.column-down.result.now (down_in c.args.notes.now) c.column-down.ensures c.in_err-context.ensures.ok_part c.fill.ensures in
+    let d = came c.args.words.now c.args.lists c.args.hand.0 c.column-down.result.now (down_in c.args.notes.now) c.column-down.ensures c.in_err-context.ensures.ok_part (rw c.alphabet.ensures at c.fill.ensures) in
     let e : c.from_residual.result ≡ Err RowsShort = grind (arith, common_steps) in
     (put_none c.args.words.now c.args.lists _ c.from_residual.result d e).ended
 
@@ -70,6 +71,6 @@ pub returns : goal.returns
 returns c =
     let a : Arrays c.args.lists = record { counts = search rules; s = search rules; t = search rules; c = search rules } in
     let r = c.requires in
-    let d = came c.args.words.now c.args.lists c.args.hand.0 c.column-down.result.now (down_in c.args.notes.now) c.column-down.ensures c.in_ok-context.ensures.ok_part c.fill.ensures in
+    let d = came c.args.words.now c.args.lists c.args.hand.0 c.column-down.result.now (down_in c.args.notes.now) c.column-down.ensures c.in_ok-context.ensures.ok_part (rw c.alphabet.ensures at c.fill.ensures) in
     let y = reached c.args.words.now (counts_in c.args.lists) c.args.lists.used _ 0 r.0.good r.6 r.0.finding.some d in
     (put_ends r.1 a r.4 y c.with_context-left.result c.with_context-left.ensures c.settled.result c.settled.new.words (record { ended = c.settled.ensures })).ended
