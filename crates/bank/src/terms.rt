@@ -131,10 +131,11 @@ impl<'a> Terms<'a> {
     // The place of the child of a used row that has the hole, where one has.
     fn hole_place(&self, row: Row) -> usize
         requires { (row.0 < self.now.used) × (get_or self.now.index (hole_of row.0) 0 ≡ 0 → ⊥) }
-        ensures { let x = store_of self.now.words self.now.counts self.now.used in
+        ensures place { let x = store_of self.now.words self.now.counts self.now.used in
             (result ≡ get_or self.now.index (hole_of row.0) 0 - 1)
             × (result < length (kids_at x row.0))
             × (0 < row.0) }
+        ensures ready { Bank self.now.words self.now.counts self.now.used self.now.index }
     {
         let mark = index::hole_of(self.index, row);
         mark as usize - 1
@@ -143,9 +144,10 @@ impl<'a> Terms<'a> {
     // The child of a used row that has the hole, where one has: an earlier row.
     pub fn hole_kid(&self, row: Row) -> Row
         requires { (row.0 < self.now.used) × (get_or self.now.index (hole_of row.0) 0 ≡ 0 → ⊥) }
-        ensures { let x = store_of self.now.words self.now.counts self.now.used in
+        ensures kid { let x = store_of self.now.words self.now.counts self.now.used in
             let place = get_or self.now.index (hole_of row.0) 0 - 1 in
             (result.0 ≡ get_or (kids_at x row.0) place 0) × (result.0 < row.0) }
+        ensures ready { Bank self.now.words self.now.counts self.now.used self.now.index }
     {
         let kid = rows::kid_of(self.words, row, self.hole_place(row));
         Row(kid as u16)
@@ -154,11 +156,13 @@ impl<'a> Terms<'a> {
     // The row that is `row` but for its hole child, which is `with`; row 0 where that is not stored.
     pub fn refilled(&self, row: Row, with: Row) -> Row
         requires { (row.0 < self.now.used) × (get_or self.now.index (hole_of row.0) 0 ≡ 0 → ⊥) }
-        ensures { let x = store_of self.now.words self.now.counts self.now.used in
+        ensures row { let x = store_of self.now.words self.now.counts self.now.used in
             let place = get_or self.now.index (hole_of row.0) 0 - 1 in
             (result.0 ≡ next_row x (frame_at x row.0 place) with.0)
             × (result.0 < self.now.used) }
+        ensures ready { Bank self.now.words self.now.counts self.now.used self.now.index }
     {
-        self.exchanged(row, self.hole_place(row), with)
+        let place = self.hole_place(row);
+        self.exchanged(row, place, with)
     }
 }

@@ -8,4 +8,4 @@ returns c =
     let q = rw (← c.self.view_is) at c.requires in
     let s = hole_step c.self.invariant c.args.row.0 q.0 q.1 in
     let e = ap (λ (k : ℕ). k - 1) c.hole_of-mark.ensures in
-    rw (← c.self.view_is) (e, omega (arith, e, s.within), omega (arith, s.before))
+    rw (← c.self.view_is) (record { place = (e, omega (arith, e, s.within), omega (arith, s.before)); ready = c.self.invariant })

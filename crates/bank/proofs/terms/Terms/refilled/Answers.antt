@@ -2,4 +2,4 @@
 use Rattle.bank.proofs.terms.Terms.refilled.Goals as goal
 
 pub exchanged-requires : goal.exchanged-requires
-exchanged-requires c = (c.hole_place.ensures.2, c.requires.0, c.hole_place.ensures.1)
+exchanged-requires c = (c.hole_place-place.ensures.place.2, c.requires.0, c.hole_place-place.ensures.place.1)
