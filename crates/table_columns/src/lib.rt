@@ -5,11 +5,8 @@
 ghost use Rattle.std.specs.Prelude.{◌≡◌, ◌+◌, ◌*◌, ◌-◌, ◌<◌, ◌≤◌, length, get_or};
 ghost use Rattle.std.proofs.lemmas.List.Edits.{sets};
 ghost use Rattle.model.specs.Limits.{most_contexts, row_width};
-ghost use Rattle.model.specs.Store.{next_row};
 ghost use Rattle.model.specs.Entry.{store_of};
-ghost use Rattle.bank.specs.Bank.{Bank, frame_at};
-ghost use Rattle.bank.specs.Index.{hole_of};
-ghost use Rattle.table_columns.specs.Columns.{hole_kid, Answered};
+ghost use Rattle.table_columns.specs.Columns.{Answered};
 ghost use Rattle.bank.specs.Notes.{room_in};
 ghost use Rattle.table_columns.specs.Notes.{filled_note, SameNotes, Cleared, NeededRows, Runs, AllBelow, UsedAt, Column, column_answers};
 
@@ -34,12 +31,7 @@ fn clear_run(from: usize, end: usize, notes: &mut [u16])
 
 // Fills the needed row at a position, from what its hole child fills to: the next position to fill.
 // Where that is not stored, no row of its run is either, and the next position is behind the run.
-fn fill_next(
-    bank: &Terms<'_>,
-    n: usize,
-    p: usize,
-    notes: &mut [u16],
-) -> usize
+fn fill_next(bank: &Terms<'_>, n: usize, p: usize, notes: &mut [u16]) -> usize
     requires { let x = store_of bank.now.words bank.now.counts bank.now.used in
         let z = room_in notes.old in
         NeededRows x bank.now.index bank.now.used z notes.old n
@@ -70,12 +62,7 @@ fn fill_next(
 }
 
 // The column of a record: one loop over the needed rows, each from its hole child.
-pub fn fill_column(
-    bank: &Terms<'_>,
-    n: usize,
-    with: Row,
-    notes: &mut [u16],
-)
+pub fn fill_column(bank: &Terms<'_>, n: usize, with: Row, notes: &mut [u16])
     requires { let x = store_of bank.now.words bank.now.counts bank.now.used in
         let z = room_in notes.old in
         NeededRows x bank.now.index bank.now.used z notes.old n
@@ -87,6 +74,8 @@ pub fn fill_column(
         Column x with.0 z notes.new (n + 1)
         × SameNotes 3 z notes.old notes.new }
 {
+    // What `bank` is, `used` says: in row 0 nothing is below the hole.
+    let _ = bank.used();
     notes[3 * (notes.len() / NOTE_WIDTH)] = with.0;
     let mut p = 1;
     while p <= n {

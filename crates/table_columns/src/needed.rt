@@ -1,13 +1,12 @@
 // The needed rows: the members of C and the rows with a hole that they lead down to, in ascending order (§1.5).
 // From each member the way down is marked, up to a row that is marked already; the marked rows get positions upwards.
-ghost use Rattle.std.specs.Prelude.{◌≡◌, ◌<◌, ◌≤◌, length, get_or};
+ghost use Rattle.std.specs.Prelude.{◌≡◌, ℕ, ◌<◌, ◌≤◌, length, get_or};
 ghost use Rattle.model.specs.Limits.{most_rows};
 ghost use Rattle.model.specs.Entry.{store_of};
 ghost use Rattle.bank.specs.Index.{hole_of};
-ghost use Rattle.bank.specs.Bank.{Bank};
-ghost use Rattle.table_columns.specs.Columns.{Contexts};
+ghost use Rattle.table_columns.specs.Columns.{Contexts, Used};
 ghost use Rattle.bank.specs.Notes.{room_in};
-ghost use Rattle.table_columns.specs.Notes.{row_note, mark_note, SameNotes, MembersMarked, HoledMarks, KidsMarked, StayMarked, NeedMarks, NeededRows, AllSeated, hole_first, needed_more, Runs, Tops, AllBelow, TopsRead};
+ghost use Rattle.table_columns.specs.Notes.{row_note, mark_note, SameNotes, MembersMarked, HoledMarks, KidsMarked, StayMarked, NeededRows, AllSeated, hole_first, needed_more, Runs, Tops, AllBelow, TopsRead};
 
 use crate::clear_run;
 use bank::notes::NOTE_WIDTH;
@@ -43,16 +42,14 @@ fn mark_from(bank: &Terms<'_>, row: Row, notes: &mut [u16])
 }
 
 // Marks the members of C and all rows that they lead down to, where no row is marked yet.
-fn mark_members(
-    bank: &Terms<'_>,
-    c: &[u16],
-    notes: &mut [u16],
-)
+fn mark_members(bank: &Terms<'_>, c: &[u16], notes: &mut [u16])
     requires { let x = store_of bank.now.words bank.now.counts bank.now.used in
         let z = room_in notes.old in
         HoledMarks bank.now.index z bank.now.used notes.old
         × KidsMarked x bank.now.index z bank.now.used 1 notes.old
-        × Contexts x c.now (length c.now)
+        × Used bank.now.used c.now (length c.now)
+        × ((j : ℕ) → j < length c.now → 0 < get_or c.now j 0
+        → get_or bank.now.index (hole_of (get_or c.now j 0)) 0 ≡ 0 → ⊥)
         × (bank.now.used ≤ z) }
     ensures { let x = store_of bank.now.words bank.now.counts bank.now.used in
         let z = room_in notes.old in
@@ -73,20 +70,6 @@ fn put_hole(notes: &mut [u16])
     let last = 3 * (notes.len() / NOTE_WIDTH);
     notes[0] = 0;
     notes[last] = 0;
-}
-
-// Marks the members of C and all rows that they lead down to, and puts row 0 at position 0.
-fn mark_needed(bank: &Terms<'_>, c: &[u16], notes: &mut [u16])
-    requires { let x = store_of bank.now.words bank.now.counts bank.now.used in
-        Contexts x c.now (length c.now)
-        × (bank.now.used ≤ room_in notes.old) }
-    ensures { let x = store_of bank.now.words bank.now.counts bank.now.used in
-        let z = room_in notes.old in
-        NeedMarks x bank.now.index z bank.now.used c.now notes.new }
-{
-    clear_run(0, usize::from(bank.used()), notes);
-    mark_members(bank, c, notes);
-    put_hole(notes);
 }
 
 // Puts a row behind the needed rows, at position n, with the position of its hole child.
@@ -164,12 +147,7 @@ fn find_tops(c: &[u16], notes: &[u16], tops: &mut [u16])
 }
 
 // The needed rows of C with their runs, into the notes, and the positions of its members: how many needed rows there are.
-pub fn needed_rows(
-    bank: &Terms<'_>,
-    c: &[u16],
-    notes: &mut [u16],
-    tops: &mut [u16],
-) -> usize
+pub fn needed_rows(bank: &Terms<'_>, c: &[u16], notes: &mut [u16], tops: &mut [u16]) -> usize
     requires { let x = store_of bank.now.words bank.now.counts bank.now.used in
         Contexts x c.now (length c.now)
         × (bank.now.used ≤ room_in notes.old)
@@ -180,7 +158,9 @@ pub fn needed_rows(
         × Runs z notes.new 1 result
         × Tops c.now notes.new result tops.new }
 {
-    mark_needed(bank, c, notes);
+    clear_run(0, usize::from(bank.used()), notes);
+    mark_members(bank, c, notes);
+    put_hole(notes);
     let n = list_marked(bank, notes);
     find_tops(c, notes, tops);
     find_runs(n, notes);
