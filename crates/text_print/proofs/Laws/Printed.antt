@@ -10,7 +10,8 @@ use Rattle.bank.specs.Rows.{symbol_in, kid_in}
 use Rattle.bank.specs.Bank.{Stored}
 use Rattle.text.specs.Bytes.{comma, opening, closing}
 use Rattle.text.specs.Written.{letter_of, others, row_text}
-use Rattle.text_print.proofs.Laws.Runs.{Run, run_as, run_one, run_then, run_byte}
+use Rattle.text_print.specs.Writing.{Run}
+use Rattle.text_print.proofs.Laws.Runs.{run_as, run_one, run_then, run_byte}
 use Rattle.text_print.proofs.Laws.Printing.{texts, text_leaf, text_node, list_end, list_more}
 
 module _ {ws ns : List ℕ} {n : ℕ} (s : Stored ws ns n) (i : ℕ) (l : i < n) (ls : List ℕ) where

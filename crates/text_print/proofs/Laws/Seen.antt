@@ -1,24 +1,22 @@
 -- What the line for a question and the line for a call are, case by case: a record of at most 1,024 symbols is written out, a larger one is told by its row;
--- a call is told by its number, where that is 0 by its phase, and an offer that got 32 by the verdict. Each test picks its line, and a cut size tells what the size itself would.
-use mathlib.Core.Path.{◌≡◌, ap, ◌∙◌}
+-- a call is told by its number, or where that is 0 by its phase. Each test picks its line, and a cut size tells what the size itself would.
+use mathlib.Core.Path.{◌≡◌}
 use mathlib.Core.List.{List}
 use Prim.Native.Nat.{ℕ, ◌≤◌, ◌<◌}
 use native.Mathlib.Omega.{arith}
 use lib.ListN.{length}
-use borrow.Author.Tests.{le-leb, lt-leb, eq-eqb, ne_eqb}
+use borrow.Author.Tests.{lt-leb, eq-eqb, ne_eqb}
 use Rattle.model.specs.Limits.{most_listed}
-use Rattle.model.specs.Base.{over}
 use Rattle.model.specs.Store.{Store}
 use Rattle.model.specs.Entry.{store_of}
 use Rattle.model.specs.declared.Seen.{Seen}
-use Rattle.model.specs.declared.Judged.{Judged}
 use Rattle.model.specs.Terms.{size_of, cut}
 use Rattle.bank.specs.Bank.{Stored}
 use Rattle.bank.proofs.Laws.Children.{row_used}
 use Rattle.bank_listed.proofs.Laws.Cut.{cut_most, cut_tells, larger_cut}
 use Rattle.text.specs.Bytes.{row_word, record_room}
 use Rattle.text.specs.Written.{row_text}
-use Rattle.text.specs.Lines.{numbered, refused_text, place_text, agreed_text, accepted_text, ask_text, propose_text, question_text, seen_text}
+use Rattle.text.specs.Lines.{numbered, refused_text, accepted_text, ask_text, propose_text, question_text, seen_text}
 use Rattle.text_print.proofs.Laws.Printing.{text_short}
 
 -- A QUESTION, by the cut size of its row
@@ -26,9 +24,6 @@ module _ {ws ns : List ℕ} {n : ℕ} (s : Stored ws ns n) (i : ℕ) (l : i < n)
   module _ (h : r ≤ most_listed) where
     small : size_of (store_of ws ns n) i ≤ most_listed
     small = omega (arith, cut_tells (size_of (store_of ws ns n) i) (omega arith))
-
-    pub question_written : row_text ls (store_of ws ns n) i ≡ question_text ls (store_of ws ns n) i
-    question_written = rw (le-leb (size_of (store_of ws ns n) i) most_listed small)
 
     pub question_short : length (row_text ls (store_of ws ns n) i) ≤ record_room
     question_short = omega (arith, small, text_short ls (store_of ws ns n) s.good i (row_used s i l))
@@ -53,15 +48,3 @@ module _ (ls : List ℕ) (x : Store) (v : Seen) where
 
     pub seen_proposal : (v.phase ≡ 2 → ⊥) → (v.phase ≡ 1 → ⊥) → propose_text v.states v.rules v.contexts ≡ seen_text ls x v
     seen_proposal q p = rw (eq-eqb v.number 0 none, ne_eqb v.phase 2 q, ne_eqb v.phase 1 p)
-
--- 32, by the verdict
-module _ (v : Judged) where
-  pub agreed_place : v.outcome ≡ 3 → place_text v.place ≡ agreed_text v
-  agreed_place e = rw (eq-eqb v.outcome 3 e)
-
-  pub agreed_alone : (v.outcome ≡ 3 → ⊥) → refused_text 32 ≡ agreed_text v
-  agreed_alone n = rw (ne_eqb v.outcome 3 n)
-
--- a line told under another name
-pub told_as : (o : List ℕ) {q : ℕ} {a b o₁ : List ℕ} → a ≡ b → (q ≡ length a) × (o₁ ≡ over a o) → (q ≡ length b) × (o₁ ≡ over b o)
-told_as o e t = (t.0 ∙ ap length e, t.1 ∙ ap (λ (u : List ℕ). over u o) e)

@@ -13,7 +13,8 @@ use Rattle.model.specs.Entry.{store_of}
 use Rattle.bank.specs.Rows.{symbol_in, kid_in}
 use Rattle.text.specs.Bytes.{comma, opening}
 use Rattle.text.specs.Written.{letter_of, others, row_text}
-use Rattle.text_print.proofs.Laws.Runs.{Run, run_of, run_long}
+use Rattle.text_print.specs.Writing.{Run}
+use Rattle.text_print.proofs.Laws.Runs.{run_of, run_long}
 use Rattle.text_print.proofs.Laws.Printing.{texts, count_is, kid_early, text_some, list_end, more_long, node_long}
 use Rattle.text_print.proofs.Laws.Printed.{prints_end, prints_more, prints_leaf, prints_node}
 use Rattle.text_print.proofs.print.print_list.Reads as print-list
