@@ -7,6 +7,7 @@ use native.Mathlib.Numerals.{add-one}
 use native.Mathlib.Omega.{arith}
 use lib.ListN.{length, get_or, take, drop, set, replicate, length-drop}
 use lib.Seq.{length-take-le, take-suc, take-suc-set, take-add, set_at}
+use Rattle.model.specs.Limits.{most_listed}
 use Rattle.model.specs.Base.{backwards, top}
 use Rattle.model.specs.Store.{padded}
 use Rattle.model.proofs.Laws.Stack.{length_backwards}
@@ -38,6 +39,10 @@ module _ (st : List ℕ) (height count : ℕ) (high : height ≤ length st) (eno
 
 pub stack_length : (st : List ℕ) (height : ℕ) → height ≤ length st → length (stack_of st height) ≡ height
 stack_length st height h = let r = length_backwards (take height st) [] in let l = length-take-le height st h in omega arith
+
+-- a value of `Stack` is as long as the array's stack is high
+pub stack_high : (st : List ℕ) (height : ℕ) {is : List ℕ} → stack_of st height ≡ is → length st ≡ most_listed → height ≤ most_listed → length is ≡ height
+stack_high st height e l h = sym (ap length e) ∙ stack_length st height (omega (arith, l, h))
 
 -- one row stands there: the first
 pub stack_one : (st : List ℕ) → 1 ≤ length st → stack_of st 1 ≡ get_or st 0 0 ∷ []
