@@ -29,6 +29,7 @@ impl Model for Stack {
 
 impl Stack {
     // No rows.
+    #[tactic(auto, unfolding(model::specs::Base::backwards))]
     pub fn new() -> Stack
         ensures { result ≡ [] }
     {
@@ -51,6 +52,7 @@ impl Stack {
     }
 
     // A row put on, in the place of the top rows, so many.
+    #[tactic(auto, using(crate::proofs::Laws::ArrayStack::stack_high, crate::proofs::Laws::ArrayStack::stack_put))]
     pub fn put(&mut self, count: usize, row: Row)
         requires { (count ≤ length self.old) × (length self.old - count < most_listed) }
         ensures { self.new ≡ row.0 ∷ drop count self.old }

@@ -40,15 +40,25 @@ module _ (st : List ℕ) (height count : ℕ) (high : height ≤ length st) (eno
 pub stack_length : (st : List ℕ) (height : ℕ) → height ≤ length st → length (stack_of st height) ≡ height
 stack_length st height h = let r = length_backwards (take height st) [] in let l = length-take-le height st h in omega arith
 
--- a value of `Stack` is as long as the array's stack is high
-pub stack_high : (st : List ℕ) (height : ℕ) {is : List ℕ} → stack_of st height ≡ is → length st ≡ most_listed → height ≤ most_listed → length is ≡ height
-stack_high st height e l h = sym (ap length e) ∙ stack_length st height (omega (arith, l, h))
-
 -- one row stands there: the first
 pub stack_one : (st : List ℕ) → 1 ≤ length st → stack_of st 1 ≡ get_or st 0 0 ∷ []
 unfolding backwards
 stack_one [] h = absurd (omega arith)
 stack_one (i ∷ st) h = refl
+
+-- what the methods of `Stack` say, by its value
+module _ (st : List ℕ) (height : ℕ) {is : List ℕ} (e : stack_of st height ≡ is) (l : length st ≡ most_listed) (h : height ≤ most_listed) where
+  pub stack_high : length is ≡ height
+  stack_high = sym (ap length e) ∙ stack_length st height (omega (arith, l, h))
+
+  pub stack_put : (count row : ℕ) → count ≤ length is → length is - count < most_listed → stack_of (set st (height - count) row) (height - count + 1) ≡ row ∷ drop count is
+  stack_put count row c r =
+      stack_push st height count (omega (arith, l, h)) (omega (arith, stack_high, c)) row (omega (arith, stack_high, l, r)) ∙ ap (λ (js : List ℕ). row ∷ drop count js) e
+
+  pub stack_root : length is ≡ 1 → is ≡ get_or st 0 0 ∷ []
+  stack_root o =
+      let one : height ≡ 1 = omega (arith, stack_high, o) in
+      sym e ∙ ap (stack_of st) one ∙ stack_one st (omega (arith, l))
 
 -- CHILD PLACES, one after the other
 pub places_more : (ks : List ℕ) (k : ℕ) → k < length ks → k < 4 → set (padded (take k ks)) k (get_or ks k 0) ≡ padded (take (k + 1) ks)
