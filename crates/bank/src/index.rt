@@ -19,6 +19,7 @@ pub const INDEX_WIDTH: usize = 5;
 const BASE: u64 = MOST_ROWS as u64;
 
 // The bucket of a symbol and four places, among `size` of them.
+#[tactic(auto, unfolding(crate::specs::Index::bucket_for))]
 fn bucket(size: usize, symbol: u32, places: [u32; 4]) -> usize
     requires { (0 < size) × (size ≤ most_buckets) }
     ensures { (result ≡ bucket_for size symbol places) × (result < size) }
@@ -36,10 +37,10 @@ fn times(a: u32, by: u32) -> u64
     requires { by < 536870912 }
     ensures { (result ≡ a * by) × (result < 2305843009213693952) }
 {
-    a as u64 * by as u64
+    u64::from(a) * u64::from(by)
 }
 
-// A number below 2^31 scaled to one below `size`.
+// A number below 2^31 scaled to one below `size`. By `as`: no From leads from u64 to usize or back.
 fn scaled(x: u64, size: usize) -> usize
     requires { (x < 2147483648) × (0 < size) × (size ≤ most_buckets) }
     ensures { (result ≡ x * size / 2147483648) × (result < size) }
@@ -47,7 +48,9 @@ fn scaled(x: u64, size: usize) -> usize
     (x * size as u64 / 2147483648) as usize
 }
 
-// The key of a symbol and four places. Rows that fit T1 have different keys.
+// The key of a symbol and four places. Rows that fit T1 have different keys. Digit by digit, as key_for has it: in a fold over the places
+// the bound of each sum would be an invariant.
+#[tactic(auto, unfolding(crate::specs::Index::key_for))]
 fn key(symbol: u32, places: [u32; 4]) -> u64
     ensures { result ≡ key_for symbol places }
 {
@@ -62,24 +65,11 @@ pub fn row_is(words: &[u32], row: Row, symbol: u32, places: [u32; 4]) -> bool
     requires { Within words.now row.0 }
     ensures { result ≡ is_node symbol places (node_in words.now row.0) }
 {
-    let a = rows::symbol_of(words, row);
-    if a != symbol {
-        return false;
-    }
-    let ps = rows::places_of(words, row);
-    if ps[0] != places[0] {
-        return false;
-    }
-    if ps[1] != places[1] {
-        return false;
-    }
-    if ps[2] != places[2] {
-        return false;
-    }
-    ps[3] == places[3]
+    rows::symbol_of(words, row) == symbol && rows::places_of(words, row) == places
 }
 
-// The slot of a symbol and four places: it holds the row that has them, or 0 where none has and one may be entered.
+// The slot of a symbol and four places: it holds the row that has them, or 0 where none has and one may be entered. The index is numbers
+// in one slice, for there is no heap: in a slot, 0 is none.
 // Most rows are alone in their bucket; the others are looked for below.
 pub fn seek(words: &[u32], used: u16, index: &[u16], symbol: u32, places: [u32; 4]) -> usize
     requires { Finding words.now used index.now }
@@ -89,10 +79,7 @@ pub fn seek(words: &[u32], used: u16, index: &[u16], symbol: u32, places: [u32; 
     let size = index.len() / INDEX_WIDTH;
     let head = LINKS * size + bucket(2 * size, symbol, places);
     let at = index[head];
-    if at == 0 {
-        return head;
-    }
-    if row_is(words, Row(at), symbol, places) {
+    if at == 0 || row_is(words, Row(at), symbol, places) {
         return head;
     }
     below(words, used, index, symbol, places, Row(at))
@@ -136,7 +123,7 @@ fn below(
     }
 }
 
-// What a slot holds.
+// What a slot holds: a row, or row 0 for none, as `find_in` has it.
 pub fn row_at(index: &[u16], slot: usize) -> Row
     requires { slot < length index.now }
     ensures { result.0 ≡ get_or index.now slot 0 }
@@ -144,24 +131,16 @@ pub fn row_at(index: &[u16], slot: usize) -> Row
     Row(index[slot])
 }
 
-// The row with that symbol and those places among the used ones; row 0 for none.
+// The row with that symbol and those places among the used ones; row 0 for none, as `find_in` has it: representatives and columns
+// have an entry for it, which table_verdict and table_columns read.
 pub fn find(words: &[u32], used: u16, index: &[u16], symbol: u32, places: [u32; 4]) -> Row
     requires { Finding words.now used index.now }
     ensures { result.0 ≡ find_in words.now used symbol places }
 {
-    let size = index.len() / INDEX_WIDTH;
-    let at = index[LINKS * size + bucket(2 * size, symbol, places)];
-    if at == 0 {
-        return Row(0);
-    }
-    if row_is(words, Row(at), symbol, places) {
-        return Row(at);
-    }
-    let slot = below(words, used, index, symbol, places, Row(at));
-    row_at(index, slot)
+    row_at(index, seek(words, used, index, symbol, places))
 }
 
-// Puts a row into its slot, with the place of its hole and nothing below it.
+// Puts a row into its slot, with the mark of its hole and nothing below it. A mark is a number in that slice: the place plus one, or 0.
 pub fn enter(index: &mut [u16], slot: usize, row: Row, hole: u8)
     requires { (slot < length index.old) × (row.0 < size_in index.old) }
     ensures { index.new ≡ entered index.old slot row.0 hole }
@@ -173,7 +152,7 @@ pub fn enter(index: &mut [u16], slot: usize, row: Row, hole: u8)
     index[slot] = row.0;
 }
 
-// The place, plus one, of the child of a row that has the hole; 0 where none has.
+// The mark of a row: the place, plus one, of the child that has the hole; 0 where none has, as `place_code` has it.
 pub fn hole_of(index: &[u16], row: Row) -> u16
     requires { row.0 < size_in index.now }
     ensures { result ≡ get_or index.now (hole_of row.0) 0 }

@@ -1,6 +1,6 @@
 -- T1 in one pass over the used rows (§2.3): what the helpers of the pass say of a row, what holds before it begins, how it ends.
 --
-use Rattle.std.specs.Prelude.{◌≡◌, Bool, true, ◌&&◌, ◌||◌, not, cond, List, [], ◌∷◌, ℕ, suc, ◌*◌, ◌-◌, ◌≤◌, ◌<◌, ltb, eqb, length, get_or, take, drop}
+use Rattle.std.specs.Prelude.{◌≡◌, Bool, true, ◌&&◌, ◌||◌, not, cond, List, [], ◌∷◌, ℕ, suc, ◌*◌, ◌-◌, ◌≤◌, ◌<◌, ltb, eqb, length, get_or, take, drop, Option, Some, None}
 use Rattle.model.specs.Limits.{row_width, most_rows, most_children}
 use Rattle.model.specs.Base.{Below, all}
 use Rattle.model.specs.Store.{kids_at, has_hole}
@@ -9,7 +9,6 @@ use Rattle.model.specs.Sound.{alphabet_fits, is_hole, node_fits, answer_fits, ro
 use Rattle.bank.specs.Rows.{answer_in, places_in, node_in}
 use Rattle.bank.specs.Index.{size_in, head_of, hole_of, Finding}
 use Rattle.bank.specs.Bank.{place_code, Holed}
-use Rattle.bank_t1.specs.declared.Kids.{Kids}
 
 -- an index with no row in it yet: all heads empty, and no hole among row 0's children
 pub record Cleared (index : List ℕ) : Type 0 where
@@ -25,21 +24,21 @@ abbrev pub unused_zero : (words : List ℕ) → (row count : ℕ) → Bool
 unused_zero ws i n = all (λ (v : ℕ). eqb v 0) (drop n (places_in ws i))
 
 -- children one after the other, from a place on: each an earlier row, at most one with a hole; `hole` is its place, plus one, so far
-unfoldable pub kids_say : (ℕ → Bool) → (row place hole : ℕ) → (kids : List ℕ) → Kids
-kids_say p i k h [] = Kids.Hole h
+unfoldable pub kids_say : (ℕ → Bool) → (row place hole : ℕ) → (kids : List ℕ) → Option ℕ
+kids_say p i k h [] = Some h
 kids_say p i k h (j ∷ js) =
-    cond (ltb j i) (cond (p j) (cond (eqb h 0) (kids_say p i (suc k) (suc k) js) Kids.Broken) (kids_say p i (suc k) h js)) Kids.Broken
+    cond (ltb j i) (cond (p j) (cond (eqb h 0) (kids_say p i (suc k) (suc k) js) None) (kids_say p i (suc k) h js)) None
 
 -- the children of a row of the words, of which its symbol has `count`
-abbrev pub kids_in : (words index : List ℕ) → (row count : ℕ) → Kids
-kids_in ws xs i n = cond (unused_zero ws i n) (kids_say (hole_by xs) i 0 0 (take n (places_in ws i))) Kids.Broken
+abbrev pub kids_in : (words index : List ℕ) → (row count : ℕ) → Option ℕ
+kids_in ws xs i n = cond (unused_zero ws i n) (kids_say (hole_by xs) i 0 0 (take n (places_in ws i))) None
 
 -- a row but for its twins: as T1 has it, and then the place of its hole
-abbrev pub row_says : (words counts : List ℕ) → (n row : ℕ) → Kids
+abbrev pub row_says : (words counts : List ℕ) → (n row : ℕ) → Option ℕ
 row_says ws ns n i =
     cond (node_fits (store_of ws ns n) i && answer_fits (store_of ws ns n) (answers_in n ws) i)
-    (Kids.Hole (place_code (has_hole (store_of ws ns n)) (kids_at (store_of ws ns n) i)))
-    Kids.Broken
+    (Some (place_code (has_hole (store_of ws ns n)) (kids_at (store_of ws ns n) i)))
+    None
 
 -- BEFORE ROW i of n: the rows are lent, counts are small, the earlier rows have earlier children and their holes are known
 pub record Reached (words counts : List ℕ) (n : ℕ) (index : List ℕ) (i : ℕ) : Type 0 where

@@ -23,17 +23,7 @@ fn is_hole(words: &[u32]) -> bool
     requires { Within words.now 0 }
     ensures { result ≡ is_hole (node_in words.now 0) (answer_in words.now 0) }
 {
-    if !index::row_is(words, Row(0), HOLE_SYMBOL, [0, 0, 0, 0]) {
-        return false;
-    }
-    rows::answer_of(words, Row(0)) == 0
-}
-
-// What a row's children say: they do not fit, or the place, plus one, of the one with a hole, or 0.
-#[derive(Clone, Copy)]
-enum Kids {
-    Broken,
-    Hole(u8),
+    index::row_is(words, Row(0), HOLE_SYMBOL, [0; 4]) && rows::answer_of(words, Row(0)) == 0
 }
 
 // Whether the child places of a row past the first `count` are 0.
@@ -41,14 +31,10 @@ fn unused_zero(words: &[u32], row: Row, count: u8) -> bool
     requires { Within words.now row.0 }
     ensures { result ≡ unused_zero words.now row.0 count }
 {
-    let mut k = count as usize;
-    while k < 4 {
-        if rows::kid_of(words, row, k) != 0 {
-            return false;
-        }
-        k += 1;
-    }
-    true
+    rows::places_of(words, row)
+        .iter()
+        .skip(count as usize)
+        .all(|kid| *kid == 0)
 }
 
 // Whether a row has a hole: it is row 0, or a child of it has one.
@@ -56,14 +42,12 @@ pub fn has_hole(index: &[u16], row: Row) -> bool
     requires { row.0 < size_in index.now }
     ensures { result ≡ hole_by index.now row.0 }
 {
-    if row.0 == 0 {
-        return true;
-    }
-    index::hole_of(index, row) != 0
+    row.0 == 0 || index::hole_of(index, row) != 0
 }
 
-// The children of a row: earlier rows, then 0, at most one hole.
-fn kids_of(words: &[u32], index: &[u16], row: Row, count: u8) -> Kids
+// The children of a row: earlier rows, then 0, at most one hole. None where they do not fit; otherwise the mark of their hole, as the
+// index stores it: its place plus one, or 0.
+fn kids_of(words: &[u32], index: &[u16], row: Row, count: u8) -> Option<u8>
     requires { Within words.now row.0
         × (row.0 < most_rows)
         × (count ≤ 4)
@@ -71,54 +55,42 @@ fn kids_of(words: &[u32], index: &[u16], row: Row, count: u8) -> Kids
     ensures { result ≡ kids_in words.now index.now row.0 count }
 {
     if !unused_zero(words, row, count) {
-        return Kids::Broken;
+        return None;
     }
-    let i = row.0;
-    let mut hole: u8 = 0;
-    let mut k: u8 = 0;
-    while k < count {
+    let mut hole = 0;
+    for k in 0..count {
         let kid = rows::kid_of(words, row, k as usize);
-        if i as u32 <= kid {
-            return Kids::Broken;
+        if row.0 as u32 <= kid {
+            return None;
         }
         if has_hole(index, Row(kid as u16)) {
             if hole != 0 {
-                return Kids::Broken;
+                return None;
             }
             hole = k + 1;
         }
-        k += 1;
     }
-    Kids::Hole(hole)
+    Some(hole)
 }
 
-// A row by itself: known symbol, children that fit, an answer of its kind.
-fn row_fits(words: &[u32], counts: &[u8], used: u16, index: &[u16], row: Row) -> Kids
+// A row by itself: known symbol, children that fit, an answer of its kind. The mark of its hole, or None.
+fn row_fits(words: &[u32], counts: &[u8], used: u16, index: &[u16], row: Row) -> Option<u8>
     requires { Reached words.now counts.now used index.now row.0 × (row.0 < used) }
     ensures { result ≡ row_says words.now counts.now used row.0 }
 {
-    let symbol = rows::symbol_of(words, row);
-    if counts.len() <= symbol as usize {
-        return Kids::Broken;
-    }
+    let count = *counts.get(rows::symbol_of(words, row) as usize)?;
     let answer = rows::answer_of(words, row);
     if 2 < answer {
-        return Kids::Broken;
+        return None;
     }
-    match kids_of(words, index, row, counts[symbol as usize]) {
-        Kids::Broken => Kids::Broken,
-        Kids::Hole(h) => {
-            if h != 0 {
-                if answer != 0 {
-                    return Kids::Broken;
-                }
-            }
-            Kids::Hole(h)
-        }
+    let hole = kids_of(words, index, row, count)?;
+    if hole != 0 && answer != 0 {
+        return None;
     }
+    Some(hole)
 }
 
-// The slot of a row among the earlier ones: it holds the one that is equal to it, if there is one.
+// The slot of a row among the earlier ones: it holds the one that is equal to it, or 0 for none, as `find_in` has it.
 fn seat_of(words: &[u32], index: &[u16], row: Row) -> usize
     requires { Within words.now row.0 × Finding words.now row.0 index.now }
     ensures { let symbol = symbol_in words.now row.0 in
@@ -137,11 +109,7 @@ fn clear(index: &mut [u16])
     ensures { Cleared index.new }
 {
     let size = index.len() / INDEX_WIDTH;
-    let mut h = 0;
-    while h < 2 * size {
-        index[3 * size + h] = 0;
-        h += 1;
-    }
+    index[3 * size..5 * size].fill(0);
     index[2] = 0;
 }
 
@@ -152,10 +120,8 @@ fn rows_pass(words: &[u32], counts: &[u8], used: u16, index: &mut [u16]) -> bool
     ensures marked { result ≡ true → Marked words.now counts.now used index.new }
 {
     clear(index);
-    let mut i: u16 = 1;
-    while i < used {
-        let kids = row_fits(words, counts, used, index, Row(i));
-        let Kids::Hole(hole) = kids else {
+    for i in 1..used {
+        let Some(hole) = row_fits(words, counts, used, index, Row(i)) else {
             return false;
         };
         let slot = seat_of(words, index, Row(i));
@@ -164,7 +130,6 @@ fn rows_pass(words: &[u32], counts: &[u8], used: u16, index: &mut [u16]) -> bool
             return false;
         }
         index::enter(index, slot, Row(i), hole);
-        i += 1;
     }
     true
 }
@@ -176,17 +141,9 @@ pub fn t1(words: &[u32], counts: &[u8], used: u16, index: &mut [u16]) -> bool
         result ≡ is_t1 (tables x (answers_in used words.now) [] [] [] 0 0 false) }
     ensures bank { result ≡ true → Bank words.now counts.now used index.new }
 {
-    if !fit::alphabet_fits(counts) {
-        return false;
-    }
-    if used == 0 {
-        return false;
-    }
-    if words.len() < ROW_WIDTH * used as usize {
-        return false;
-    }
-    if !is_hole(words) {
-        return false;
-    }
-    rows_pass(words, counts, used, index)
+    fit::alphabet_fits(counts)
+        && used != 0
+        && ROW_WIDTH * used as usize <= words.len()
+        && is_hole(words)
+        && rows_pass(words, counts, used, index)
 }

@@ -2,132 +2,89 @@
 // 18, 30, then what the call wants of sound tables.
 #![tactic(auto)]
 
-ghost use Rattle.std.specs.Prelude.{◌≡◌, true, ◌*◌, ◌<◌, ◌≤◌, length};
-ghost use Rattle.model.specs.Limits.{row_width};
+ghost use Rattle.std.specs.Prelude.{◌≡◌, true};
 ghost use Rattle.model.specs.Calls.{looks};
-ghost use Rattle.model.specs.Entry.{size_fits, lent_fits, call_seen, emit_seen, emit_out, judged, judge_seen};
+ghost use Rattle.model.specs.Entry.{size_fits, lent_fits, call_seen, emit_seen, emit_out, judge_seen};
 ghost use Rattle.sound.specs.Working.{Room};
-ghost use Rattle.call.specs.Ladder.{small_rows, small_rules};
-ghost use Rattle.call_read.specs.Read.{ReadAs, UsedAs, ReadTo};
+ghost use Rattle.call.specs.Ladder.{Enough};
+ghost use Rattle.call_read.specs.Read.{Read, ReadAs, ReadTo, TakesRead};
 
-use bank::index::INDEX_WIDTH;
 use bank::notes;
-use bank::notes::NOTE_WIDTH;
-use call::ladder;
-use call::ladder::{SMALL_ROWS, SMALL_RULES};
-use model::limits::{MOST_CONTEXTS, MOST_ROWS, MOST_RULES, ROW_WIDTH};
+use call::ladder::{
+    MID_INDEX, MID_NOTES, MID_TABLE, SMALL_INDEX, SMALL_NOTES, SMALL_TABLE, Size, TINY_INDEX,
+    TINY_NOTES, TINY_TABLE, WIDE_INDEX, WIDE_NOTES, WIDE_TABLE, size_for,
+};
+use model::limits::ROW_WIDTH;
 use model::{Emitted, Judged, Lists, Seen};
 
-// What a call that reads wants: whether the tables are sound, the list of the proposed automaton, or its verdict on a listed record.
-#[derive(Clone, Copy)]
-pub enum Wants {
-    Look,
-    Emit,
-    Judge,
-}
-
-// What it gets. Each call reads its own part: looking reads the number that emitting would tell.
-#[derive(Clone, Copy)]
-pub struct Got {
-    pub emitted: Emitted,
-    pub judged: Judged,
-}
-
-// A number and nothing else.
-fn numbered(number: u8) -> Got
-    ensures { (result.emitted.number ≡ number) × (result.emitted.size ≡ 0) × (result.judged ≡ judged number 0 0) }
-{
-    Got {
-        emitted: call_emit::refuse(number as u32),
-        judged: call_verdict::refuse(number),
-    }
-}
-
-// What emitting gets.
-fn wrote(emitted: Emitted) -> Got
-    ensures { result.emitted ≡ emitted }
-{
-    Got {
-        emitted: emitted,
-        judged: call_verdict::refuse(0),
-    }
-}
-
-// What a verdict gets.
-fn judges(judged: Judged) -> Got
-    ensures { result.judged ≡ judged }
-{
-    Got {
-        emitted: call_emit::refuse(0),
-        judged: judged,
-    }
-}
-
-// Reading tables of a size that fits, in lists that fit, in the room lent.
-fn read_in(
+// A step on sound tables, in the room lent: what it makes of their index, their representatives and an output; nothing for unsound
+// tables. The output is an argument of the step: a caller learns nothing of what a closure captures by `&mut` and changes.
+fn read_in<R, F: FnOnce(&[u16], &[u16], &mut [u8]) -> R + Drop>(
     words: &[u32],
     lists: Lists,
-    wants: Wants,
-    symbols: &[u8],
-    out: &mut [u8],
     index: &mut [u16],
     table: &mut [u8],
     notes: &mut [u16],
-) -> Got
+    out: &mut [u8],
+    step: F,
+) -> Option<R>
     requires { (size_fits words.now ≡ true)
         × (lent_fits words.now lists ≡ true)
-        × Room words.now lists.rules index.old table.old notes.old }
-    ensures { ReadAs words.now lists wants symbols.now out.old result out.new }
+        × Room words.now lists.rules index.old table.old notes.old
+        × TakesRead words.now lists (F.pre step) }
+    ensures { ReadAs words.now lists (F.post step) out.old result out.new }
 {
     if !sound::lists_sound(words, lists, index, table, notes) {
-        return numbered(30);
+        return None;
     }
-    let reps = notes::column(notes, 0);
-    match wants {
-        Wants::Look => numbered(0),
-        Wants::Emit => wrote(call_emit::emit_sound(words, lists, reps, out)),
-        Wants::Judge => judges(call_verdict::judge_sound(words, lists, symbols, index, reps)),
-    }
+    Some(step(index, notes::column(notes, 0), out))
 }
 
-// In small room: few rows, and few transitions.
-fn read_small(words: &[u32], lists: Lists, wants: Wants, symbols: &[u8], out: &mut [u8]) -> Got
+// The same in arrays of these lengths. Each size has a frame of its own: a small call touches no page of wide arrays.
+#[inline(never)]
+fn read_room<
+    const INDEX: usize,
+    const TABLE: usize,
+    const NOTES: usize,
+    R,
+    F: FnOnce(&[u16], &[u16], &mut [u8]) -> R + Drop,
+>(words: &[u32], lists: Lists, out: &mut [u8], step: F) -> Option<R>
     requires { (size_fits words.now ≡ true)
         × (lent_fits words.now lists ≡ true)
-        × (length words.now ≤ row_width * small_rows)
-        × (lists.rules < small_rules) }
-    ensures { ReadAs words.now lists wants symbols.now out.old result out.new }
+        × Enough words.now lists.rules INDEX TABLE NOTES
+        × TakesRead words.now lists (F.pre step) }
+    ensures { ReadAs words.now lists (F.post step) out.old result out.new }
 {
-    let mut index = [0u16; INDEX_WIDTH * SMALL_ROWS];
-    let mut table = [0u8; MOST_CONTEXTS * SMALL_RULES];
-    let mut notes = [0u16; NOTE_WIDTH * SMALL_ROWS];
-    read_in(
-        words, lists, wants, symbols, out, &mut index, &mut table, &mut notes,
-    )
+    let mut index = [0u16; INDEX];
+    let mut table = [0u8; TABLE];
+    let mut notes = [0u16; NOTES];
+    read_in(words, lists, &mut index, &mut table, &mut notes, out, step)
 }
 
-// In room for all that may be lent.
-fn read_wide(words: &[u32], lists: Lists, wants: Wants, symbols: &[u8], out: &mut [u8]) -> Got
-    requires { (size_fits words.now ≡ true) × (lent_fits words.now lists ≡ true) }
-    ensures { ReadAs words.now lists wants symbols.now out.old result out.new }
+// In the smallest room that is enough for the rows lent.
+fn read<R, F: FnOnce(&[u16], &[u16], &mut [u8]) -> R + Drop>(
+    words: &[u32],
+    lists: Lists,
+    out: &mut [u8],
+    step: F,
+) -> Option<R>
+    requires { (size_fits words.now ≡ true)
+        × (lent_fits words.now lists ≡ true)
+        × TakesRead words.now lists (F.pre step) }
+    ensures { ReadAs words.now lists (F.post step) out.old result out.new }
 {
-    let mut index = [0u16; INDEX_WIDTH * MOST_ROWS];
-    let mut table = [0u8; MOST_CONTEXTS * MOST_RULES];
-    let mut notes = [0u16; NOTE_WIDTH * MOST_ROWS];
-    read_in(
-        words, lists, wants, symbols, out, &mut index, &mut table, &mut notes,
-    )
-}
-
-// In the smaller room where it is enough for the rows lent.
-fn read(words: &[u32], lists: Lists, wants: Wants, symbols: &[u8], out: &mut [u8]) -> Got
-    requires { (size_fits words.now ≡ true) × (lent_fits words.now lists ≡ true) }
-    ensures { ReadAs words.now lists wants symbols.now out.old result out.new }
-{
-    if ladder::is_small(words.len() / ROW_WIDTH, lists.rules) {
-        return read_small(words, lists, wants, symbols, out);
+    match size_for(words.len() / ROW_WIDTH, lists.rules) {
+        Size::Tiny => read_room::<TINY_INDEX, TINY_TABLE, TINY_NOTES, R, F>(
+            words, lists, out, step,
+        ),
+        Size::Small => read_room::<SMALL_INDEX, SMALL_TABLE, SMALL_NOTES, R, F>(
+            words, lists, out, step,
+        ),
+        Size::Mid => read_room::<MID_INDEX, MID_TABLE, MID_NOTES, R, F>(words, lists, out, step),
+        Size::Wide => read_room::<WIDE_INDEX, WIDE_TABLE, WIDE_NOTES, R, F>(
+            words, lists, out, step,
+        ),
     }
-    read_wide(words, lists, wants, symbols, out)
 }
 
 // How many words a call reads that adds no row: those of the used rows where they are some, and lent; else all.
@@ -137,24 +94,7 @@ fn words_read(used: u16, size: usize) -> usize
     if used == 0 {
         return size;
     }
-    let most = ROW_WIDTH * used as usize;
-    if size < most {
-        return size;
-    }
-    most
-}
-
-// Reading the used rows alone, where nothing is written. Few rows are read in a frame that has no room for more.
-fn read_used(words: &[u32], lists: Lists, wants: Wants, symbols: &[u8]) -> Got
-    requires { (size_fits words.now ≡ true) × (lent_fits words.now lists ≡ true) }
-    ensures { UsedAs words.now lists wants symbols.now result }
-{
-    let mut none = [0u8; 1];
-    let most = words_read(lists.used, words.len());
-    if ladder::is_small(most / ROW_WIDTH, lists.rules) {
-        return read_small(&words[..most], lists, wants, symbols, &mut none[..0]);
-    }
-    read(&words[..most], lists, wants, symbols, &mut none[..0])
+    size.min(ROW_WIDTH * used as usize)
 }
 
 // Looking: 18, 30, then what looking tells.
@@ -165,13 +105,11 @@ pub fn look(words: &[u32], lists: Lists) -> Seen
     if fault != 0 {
         return call::refusal(fault);
     }
-    let none = [0u8; 1];
-    let got = read_used(words, lists, Wants::Look, &none);
-    let emitted = got.emitted;
-    if emitted.number != 0 {
-        return call::refusal(30);
+    let used = &words[..words_read(lists.used, words.len())];
+    match read(used, lists, &mut [], |_, _, _| ()) {
+        Some(()) => call::told(lists),
+        None => call::refusal(30),
     }
-    call::told(lists)
 }
 
 // The verdict on a listed record: 18, 30, 31, 11 to 15, then the outcome and its place.
@@ -182,8 +120,19 @@ pub fn verdict(words: &[u32], lists: Lists, symbols: &[u8]) -> Judged
     if fault != 0 {
         return call_verdict::refuse(fault);
     }
-    let got = read_used(words, lists, Wants::Judge, symbols);
-    got.judged
+    let used = &words[..words_read(lists.used, words.len())];
+    let judged = read(
+        used,
+        lists,
+        &mut [],
+        |index, reps, _|
+            requires { Read used.now lists index.now reps.now }
+        { call_verdict::judge_sound(used, lists, symbols, index, reps) },
+    );
+    match judged {
+        Some(judged) => judged,
+        None => call_verdict::refuse(30),
+    }
 }
 
 // Emitting: 18, 30, 31, 20, then the bytes and their count.
@@ -195,7 +144,16 @@ pub fn emit(words: &[u32], lists: Lists, out: &mut [u8]) -> Emitted
     if fault != 0 {
         return call_emit::refuse(fault as u32);
     }
-    let none = [0u8; 1];
-    let got = read(words, lists, Wants::Emit, &none, out);
-    got.emitted
+    let emitted = read(
+        words,
+        lists,
+        out,
+        |index, reps, out|
+            requires { Read words.now lists index.now reps.now }
+        { call_emit::emit_sound(words, lists, reps, out) },
+    );
+    match emitted {
+        Some(emitted) => emitted,
+        None => call_emit::refuse(30),
+    }
 }

@@ -1,14 +1,13 @@
 // A call in as much room as its tables want: arrays of one of four sizes, and few rows past the used ones, which are saved.
 // Where these rows are too few the call is refused with 34 and leaves all as it was; then it is made with more, and at last with all.
-ghost use Rattle.std.specs.Prelude.{◌≡◌, true, ◌<◌, ◌+◌, ◌*◌, ◌≤◌, length};
+ghost use Rattle.std.specs.Prelude.{◌≡◌, true, ◌<◌, ◌+◌, ◌≤◌, length};
 ghost use Rattle.call.specs.Ladder.{small_rows, small_rules};
-ghost use Rattle.model.specs.Limits.{row_width};
+ghost use Rattle.model.specs.Limits.{most_words, row_width};
 ghost use Rattle.model.specs.Entry.{size_fits, lent_fits};
 ghost use Rattle.call.specs.Calls.{CallAs};
 ghost use Rattle.call.specs.Said.{call_of};
-ghost use Rattle.call_room.specs.Tried.{FirstAs, more_spare_rows, spare_rows};
+ghost use Rattle.call_room.specs.Tried.{TriedAs, spare_rows};
 
-use call::ladder::{MID_ROWS, MID_RULES, TINY_ROWS, TINY_RULES};
 use call::{Done, Said, ladder};
 use model::Lists;
 use model::limits::ROW_WIDTH;
@@ -24,79 +23,49 @@ const DEEP: u16 = 4096;
 // A longer record is not tried with few rows.
 const SHORT: usize = 64;
 
-// The smaller of two lengths.
-fn least(a: usize, b: usize) -> usize
-    ensures { (a ≤ b → result ≡ a) × (b < a → result ≡ b) }
-{
-    if a <= b {
-        return a;
-    }
-    b
-}
-
 // Whether a call is tried with few rows: a short record, on a small table.
 fn is_short(used: u16, rules: u16, length: usize) -> bool
     ensures { result ≡ true → (used + spare_rows ≤ small_rows) × (rules < small_rules) }
 {
-    if SHORT < length {
-        return false;
-    }
-    ladder::is_small(used as usize + SPARE_ROWS, rules)
+    length <= SHORT && ladder::is_small(used as usize + SPARE_ROWS, rules)
 }
 
-// Tried with few rows past the used ones, on a small table: 34 where they are not enough.
-fn first_few(words: &mut [u32], lists: Lists, symbols: &[u8], said: Said) -> Done
+// Tried with as many rows past the used ones as can be saved; nothing, and the words as they were, where they are not enough and
+// more are lent.
+fn first(
+    words: &mut [u32],
+    lists: Lists,
+    symbols: &[u8],
+    said: Said,
+    saved: &mut [u32],
+) -> Option<Done>
     requires { (size_fits words.old ≡ true)
         × (lent_fits words.old lists ≡ true)
-        × (lists.used + spare_rows ≤ small_rows)
-        × (lists.rules < small_rules) }
-    ensures { let made = call_of said symbols.now in
-        FirstAs words.old (row_width * (lists.used + spare_rows)) lists made result words.new }
+        × (row_width ≤ length saved.old)
+        × (length saved.old ≤ most_words) }
+    ensures { TriedAs words.old lists (call_of said symbols.now) result words.new }
 {
-    let n = least(words.len(), ROW_WIDTH * (lists.used as usize + SPARE_ROWS));
-    let mut saved = [0u32; ROW_WIDTH * SPARE_ROWS];
-    if n <= ROW_WIDTH * TINY_ROWS {
-        if (lists.rules as usize) < TINY_RULES {
-            return call_sizes::in_tiny(&mut words[..n], lists, symbols, said, &mut saved);
-        }
+    let spare = saved.len() / ROW_WIDTH;
+    let n = words.len().min(ROW_WIDTH * (lists.used as usize + spare));
+    let done = call_sizes::in_smallest(&mut words[..n], lists, symbols, said, saved);
+    let seen = done.seen;
+    if seen.number == 34 && n < words.len() {
+        return None;
     }
-    call_sizes::in_small(&mut words[..n], lists, symbols, said, &mut saved)
-}
-
-// Tried with more rows: 34 where they are not enough.
-fn first_more(words: &mut [u32], lists: Lists, symbols: &[u8], said: Said) -> Done
-    requires { (size_fits words.old ≡ true) × (lent_fits words.old lists ≡ true) }
-    ensures { let made = call_of said symbols.now in
-        FirstAs words.old (row_width * (lists.used + more_spare_rows)) lists made result words.new }
-{
-    let n = least(
-        words.len(),
-        ROW_WIDTH * (lists.used as usize + MORE_SPARE_ROWS),
-    );
-    let mut saved = [0u32; ROW_WIDTH * MORE_SPARE_ROWS];
-    if n <= ROW_WIDTH * MID_ROWS {
-        if (lists.rules as usize) < MID_RULES {
-            return call_sizes::in_mid(&mut words[..n], lists, symbols, said, &mut saved);
-        }
-    }
-    call_sizes::in_wide(&mut words[..n], lists, symbols, said, &mut saved)
+    Some(done)
 }
 
 // Tried with more rows, and where they are not enough and more are lent, made with all.
+#[inline(never)]
 fn tried_more(words: &mut [u32], lists: Lists, symbols: &[u8], said: Said) -> Done
     requires { (size_fits words.old ≡ true) × (lent_fits words.old lists ≡ true) }
     ensures { CallAs words.old lists (call_of said symbols.now) result words.new }
 {
-    if DEEP < lists.used {
-        return call_sizes::with_all(words, lists, symbols, said);
-    }
-    let done = first_more(words, lists, symbols, said);
-    let seen = done.seen;
-    if seen.number != 34 {
-        return done;
-    }
-    if words.len() <= ROW_WIDTH * (lists.used as usize + MORE_SPARE_ROWS) {
-        return done;
+    if lists.used <= DEEP {
+        let mut saved = [0u32; ROW_WIDTH * MORE_SPARE_ROWS];
+        if let Some(done) = first(words, lists, symbols, said, &mut saved) {
+            return done;
+        }
     }
     call_sizes::with_all(words, lists, symbols, said)
 }
@@ -110,16 +79,11 @@ pub fn made(words: &mut [u32], lists: Lists, symbols: &[u8], said: Said) -> Done
     if fault != 0 {
         return call::refuse(fault, lists);
     }
-    if !is_short(lists.used, lists.rules, symbols.len()) {
-        return tried_more(words, lists, symbols, said);
-    }
-    let done = first_few(words, lists, symbols, said);
-    let seen = done.seen;
-    if seen.number != 34 {
-        return done;
-    }
-    if words.len() <= ROW_WIDTH * (lists.used as usize + SPARE_ROWS) {
-        return done;
+    if is_short(lists.used, lists.rules, symbols.len()) {
+        let mut saved = [0u32; ROW_WIDTH * SPARE_ROWS];
+        if let Some(done) = first(words, lists, symbols, said, &mut saved) {
+            return done;
+        }
     }
     tried_more(words, lists, symbols, said)
 }

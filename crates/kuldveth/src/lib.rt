@@ -9,6 +9,7 @@ ghost use Rattle.model.specs.Entry.{start_seen, start_words, start_lists, call_s
 ghost use Rattle.model.specs.View.{sizes_seen, children_seen, final_seen, rule_seen, target_seen};
 
 use model::limits::VERSION;
+use model::refusal::Refusal;
 use model::{Emitted, Found, Judged, ListRule, ListSizes, Lists, Seen};
 
 // The version of the layouts and of the calls (§11): a host compares it with the one that its header has.
@@ -102,7 +103,16 @@ pub extern "C" fn kuldveth_verdict(words: &[u32], lists: &Lists, symbols: &[u8])
 pub extern "C" fn kuldveth_load(bytes: &[u8]) -> Emitted
     ensures { result ≡ load_seen bytes.now }
 {
-    list::load(bytes)
+    match list::load(bytes) {
+        Some(rules) => Emitted {
+            number: 0,
+            size: rules as u32,
+        },
+        None => Emitted {
+            number: u8::from(Refusal::NoList) as u32,
+            size: 0,
+        },
+    }
 }
 
 // How many symbols, states and rules a list has (§6.3).

@@ -132,15 +132,13 @@ module _ (ns : List ℕ) (n : ℕ) (alphabet : alphabet_fits ns ≡ true) (state
       go true f =
           ap not (among_keys (rule_in (body_at bs)) (both_true (leb 2 (length (body_at bs))) (rule_fits ns n (rule_in (body_at bs))) f).1 rs fs)
 
--- A KEY from its bytes
-pub key_sum : (b qs : List ℕ) {v₀ v₁ v₂ v₃ v₄ : ℕ} → qs ≡ (rule_in b).states → v₀ ≡ get_or b 0 0 → v₁ ≡ get_or qs 0 0 → v₂ ≡ get_or qs 1 0 → v₃ ≡ get_or qs 2 0 → v₄ ≡ get_or qs 3 0 →
-    v₀ + 64 * v₁ + 2048 * v₂ + 65536 * v₃ + 2097152 * v₄ ≡ key_of (rule_in b)
-key_sum b qs states e₀ e₁ e₂ e₃ e₄ =
-    let f₁ = e₁ ∙ ap (λ (us : List ℕ). get_or us 0 0) states in
-    let f₂ = e₂ ∙ ap (λ (us : List ℕ). get_or us 1 0) states in
-    let f₃ = e₃ ∙ ap (λ (us : List ℕ). get_or us 2 0) states in
-    let f₄ = e₄ ∙ ap (λ (us : List ℕ). get_or us 3 0) states in
-    omega arith
+-- the test by its answers: b is the body at the head, k its number, r whether the number is among the others
+pub new_among : (ns : List ℕ) (n : ℕ) (ks at : List ℕ) (b : List ℕ) (k : ℕ) (r : Bool) → b ≡ body_at at → rule_body_fits ns n b ≡ true → k ≡ key_of (rule_in b) → r ≡ among k ks →
+    not r ≡ is_new ns n ks at
+new_among ns n ks at b k r is fits key found =
+    let f : rule_body_fits ns n (body_at at) ≡ true = ap (rule_body_fits ns n) (sym is) ∙ fits in
+    let e : k ≡ key_of (rule_in (body_at at)) = key ∙ ap (λ (us : List ℕ). key_of (rule_in us)) is in
+    rw f (ap not (found ∙ ap (λ (j : ℕ). among j ks) e))
 
 -- KEYS KEPT: those of the rules so far, each of which fits
 pub record Keyed (counts : List ℕ) (states : ℕ) (bytes keys : List ℕ) (count : ℕ) : Type 0 where

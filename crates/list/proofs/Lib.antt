@@ -1,4 +1,3 @@
-pub mod Cut
 pub mod Fits
 pub mod Walk
 pub mod Keys

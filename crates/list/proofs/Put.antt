@@ -1,16 +1,13 @@
--- Bytes put at places: one run behind another is the two as one, a copy is a run, and at the beginning it is what stands over the rest.
+-- Bytes put at places: one run behind another is the two as one, and at the beginning it is what stands over the rest.
 -- By the seams of take and drop.
 use mathlib.Core.Path.{◌≡◌, sym, ap, ◌∙◌}
 use mathlib.Core.List.{List, ◌++◌, append_assoc}
 use Prim.Native.Nat.{ℕ, ◌+◌, ◌≤◌}
 use native.Mathlib.Omega.{arith}
 use lib.ListN.{length, take, drop, length-append, length-drop}
-use lib.Seq.{length-take-le, take-length, take_at, drop_at, drop-drop, paste}
+use lib.Seq.{length-take-le, take_at, drop_at, drop-drop}
 use Rattle.model.specs.Base.{over}
 use Rattle.list.specs.Put.{put_at}
-
-pub put_paste : (p : ℕ) (new old : List ℕ) → paste old p new (length new) ≡ put_at p new old
-put_paste p new old = ap (λ (us : List ℕ). take p old ++ us ++ drop (p + length new) old) (take-length new)
 
 pub put_over : (new old : List ℕ) → put_at 0 new old ≡ over new old
 put_over new old = let e : 0 + length new ≡ length new = omega arith in ap (λ (n : ℕ). new ++ drop n old) e

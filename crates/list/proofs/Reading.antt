@@ -7,12 +7,10 @@ use Prim.Native.Nat.{ℕ, ◌+◌, ◌≤◌, ◌<◌}
 use native.Mathlib.Numerals.{add-one}
 use native.Mathlib.Omega.{arith}
 use lib.ListN.{length, length-append, length-drop}
-use borrow.Author.Tests.{le-leb, eq-eqb, ne_eqb}
+use borrow.Author.Tests.{ne_eqb}
 use Rattle.model.specs.Limits.{most_rules}
 use Rattle.model.specs.Automata.{Rule}
-use Rattle.model.specs.Sound.{alphabet_fits}
-use Rattle.model.specs.Listing.{size_at, body_at, behind, is_block, rule_in, broken, behind_rules, rules_from, finals_fit, read_finals, read_list}
-use Rattle.model.specs.Entry.{loaded_by}
+use Rattle.model.specs.Listing.{size_at, body_at, behind, is_block, rule_in, broken, behind_rules, rules_from, finals_fit, read_finals}
 use Rattle.model.proofs.Laws.RulesRead.{behind_less, rules_end, rules_next, rules_stop, rules_fuel, rules_many}
 use Rattle.list.specs.Blocks.{rules_in, after, is_rule, read_rules}
 use Rattle.list.proofs.Walk.{length_rules_in, after_next, rules_in_next}
@@ -62,33 +60,19 @@ module _ {ns fs bs at : List ℕ} {n : ℕ} (r : Reading ns fs bs at n) where
         }
 
 -- WHAT IS BEHIND the rules
-module _ (ns fs : List ℕ) (rs : List Rule) (bs : List ℕ) where
-  pub behind_some : 0 < length bs → behind_rules ns fs rs bs ≡ broken
-  behind_some l = rw (ne_eqb (length bs) 0 (λ e. omega arith))
+behind_some : (ns fs : List ℕ) (rs : List Rule) (bs : List ℕ) → 0 < length bs → behind_rules ns fs rs bs ≡ broken
+behind_some ns fs rs bs l = rw (ne_eqb (length bs) 0 (λ e. omega arith))
 
-  pub behind_none : length bs ≡ 0 → (n : ℕ) → length rs ≡ n → n ≤ most_rules → loaded_by (behind_rules ns fs rs bs) ≡ record { number = 0; size = n }
-  behind_none e n l few = rw (eq-eqb (length bs) 0 e, le-leb (length rs) most_rules (omega arith), l)
+-- after as many rules as a list may have: nothing, or what was to be read is no list
+pub reading_full : {ns fs bs at : List ℕ} {n : ℕ} → Reading ns fs bs at n → most_rules ≤ n → read_rules ns fs bs ≡ behind_rules ns fs (rules_in n bs) at
+reading_full {ns} {fs} {bs} {at} {n} r l = go (is_block 3 at) refl
+  where
+    go : (t : Bool) → is_block 3 at ≡ t → read_rules ns fs bs ≡ behind_rules ns fs (rules_in n bs) at
+    go false e = reading_end r e
+    go true e = let b = behind_less 3 at e in reading_many r e l ∙ sym (behind_some ns fs (rules_in n bs) at (omega arith))
 
 -- THE STATES, then the rules
-module _ (ns us : List ℕ) where
-  pub finals_none : is_block 2 us ≡ false → read_finals ns us ≡ broken
-  finals_none e = rw e
-
-  pub finals_unfit : is_block 2 us ≡ true → finals_fit (body_at us) ≡ false → read_finals ns us ≡ broken
-  finals_unfit e f = rw (e, f)
-
-  pub finals_read : is_block 2 us ≡ true → finals_fit (body_at us) ≡ true → read_finals ns us ≡ read_rules ns (body_at us) (behind us)
-  finals_read e f =
-      let l = length-drop (6 + size_at us) us in
-      rw (e, f) (rules_fuel (length us + 1) (length (behind us) + 1) ns (body_at us) [] (behind us) (omega arith) (omega arith))
-
--- THE ALPHABET, then the states
-module _ (bs : List ℕ) where
-  pub alphabet_missing : is_block 1 bs ≡ false → read_list bs ≡ broken
-  alphabet_missing e = rw e
-
-  pub alphabet_unfit : is_block 1 bs ≡ true → alphabet_fits (body_at bs) ≡ false → read_list bs ≡ broken
-  alphabet_unfit e f = rw (e, f)
-
-  pub alphabet_read : is_block 1 bs ≡ true → alphabet_fits (body_at bs) ≡ true → read_list bs ≡ read_finals (body_at bs) (behind bs)
-  alphabet_read e f = rw (e, f)
+pub finals_read : (ns us : List ℕ) → is_block 2 us ≡ true → finals_fit (body_at us) ≡ true → read_finals ns us ≡ read_rules ns (body_at us) (behind us)
+finals_read ns us e f =
+    let l = length-drop (6 + size_at us) us in
+    rw (e, f) (rules_fuel (length us + 1) (length (behind us) + 1) ns (body_at us) [] (behind us) (omega arith) (omega arith))

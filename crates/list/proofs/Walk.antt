@@ -1,14 +1,13 @@
 -- Blocks in a row: one more rule is the next one behind those before, and a left side is sought among the first rules block by block.
 -- By induction on the count of blocks.
 use mathlib.Core.Path.{◌≡◌, refl, ap}
-use mathlib.Core.Bool.{Bool, true, false, ◌&&◌}
 use mathlib.Core.List.{List, [], ◌∷◌, ◌++◌}
 use Prim.Native.Nat.{ℕ, zero, suc, ◌+◌, ◌-◌, ◌<◌}
 use native.Mathlib.Numerals.{add-one}
 use native.Mathlib.Omega.{arith}
 use lib.ListN.{length}
 use Rattle.model.specs.Automata.{Rule}
-use Rattle.model.specs.Listing.{body_at, behind, rule_in, rule_body_fits}
+use Rattle.model.specs.Listing.{body_at, behind, rule_in}
 use Rattle.list.specs.Blocks.{rules_in, after}
 
 pub length_rules_in : (n : ℕ) (bs : List ℕ) → length (rules_in n bs) ≡ n
@@ -38,11 +37,3 @@ pub rules_in_head : (n : ℕ) (bs : List ℕ) → 0 < n → rules_in n bs ≡ ru
 unfolding rules_in
 rules_in_head zero bs l = absurd (omega arith)
 rules_in_head (suc n) bs l = let e : suc n - 1 ≡ n = omega arith in rw e
-
--- THE NEXT RULE, test by test; t is the test of its left side
-module _ (ns : List ℕ) (n : ℕ) (bs : List ℕ) (t : Bool) where
-  pub next_unfit : rule_body_fits ns n (body_at bs) ≡ false → rule_body_fits ns n (body_at bs) && t ≡ false
-  next_unfit e = rw e
-
-  pub next_left : rule_body_fits ns n (body_at bs) ≡ true → rule_body_fits ns n (body_at bs) && t ≡ t
-  next_left e = rw e

@@ -1,10 +1,10 @@
 -- The loop that writes rules (§6.1): what is still to be put behind the place is what was to be put at the start.
 -- A rule more is one run put in front of the others.
-use mathlib.Core.Path.{◌≡◌, refl, sym, ap, ◌∙◌}
-use mathlib.Core.List.{List, []}
-use Prim.Native.Nat.{ℕ, ◌+◌, ◌-◌, ◌≤◌, ◌<◌}
+use mathlib.Core.Path.{◌≡◌, sym, ap, ◌∙◌}
+use mathlib.Core.List.{List, [], ◌++◌}
+use Prim.Native.Nat.{ℕ, ◌+◌, ◌≤◌, ◌<◌}
 use native.Mathlib.Omega.{arith}
-use lib.ListN.{length, take, drop}
+use lib.ListN.{length}
 use lib.Seq.{paste-zero}
 use Rattle.model.specs.Base.{over}
 use Rattle.model.specs.Listing.{block_of, rule_body, rule_blocks, emitted}
@@ -13,7 +13,7 @@ use Rattle.model.proofs.Laws.Listing.{length_emitted}
 use Rattle.list.specs.Flat.{flat_rule, flat_rules, flat_sheet}
 use Rattle.list.specs.Put.{put_at}
 use Rattle.list.proofs.Put.{put_put, put_length, put_three, put_over}
-use Rattle.list.proofs.Flat.{others, flat_states, blocks_none, blocks_more, length_rule, length_more}
+use Rattle.list.proofs.Flat.{flat_states, blocks_none, blocks_first, length_rule, length_first}
 
 abbrev pub blocks : (counts flat : List ℕ) → List ℕ
 blocks ns us = rule_blocks (flat_rules ns us)
@@ -23,35 +23,27 @@ pub record Writing (counts flat out : List ℕ) (start : ℕ) (now left : List �
   pub ends : at + length (blocks counts left) ≡ start + length (blocks counts flat)
   pub bytes : put_at at (blocks counts left) now ≡ put_at start (blocks counts flat) out
 
-pub writing_first : (ns us o : List ℕ) (start : ℕ) → Writing ns us o start o us start
-writing_first ns us o start = record { long = refl; ends = refl; bytes = refl }
-
 module _ {ns us o : List ℕ} {start : ℕ} {now left : List ℕ} {at : ℕ} (w : Writing ns us o start now left at) (fits : start + length (blocks ns us) ≤ length o) where
-  module _ (some : 6 ≤ length left) where
-    rest : List ℕ
-    rest = blocks ns (drop 6 left)
-
-    pub room : at + (8 + length (flat_rule ns left).states) ≤ length now
+  -- x is the first rule of what is left, later the others
+  module _ (x later : List ℕ) (is : left ≡ x ++ later) (six : length x ≡ 6) where
+    pub room : at + (8 + length (flat_rule ns x).states) ≤ length now
     room =
-        let l = length_more ns left some in
-        let s = flat_states ns left some in
+        let l = length_first ns left x later is six in
+        let s = flat_states ns x (omega arith) in
         omega (arith, w.ends, w.long)
 
-    pub writing_next : (new later : List ℕ) (next : ℕ) → next ≡ at + (8 + length (flat_rule ns left).states) → new ≡ put_at at (block_of 3 (rule_body (flat_rule ns left))) now →
-        later ≡ take (length left - 6) (drop 6 left) → Writing ns us o start new later next
-    writing_next new later next place put part =
-        let l = length_more ns left some in
-        let s = flat_states ns left some in
-        let r = length_rule ns left in
-        let b : later ≡ drop 6 left = part ∙ others left some in
-        let e = ap (λ (vs : List ℕ). length (blocks ns vs)) b in
-        let in_room : at + length (block_of 3 (rule_body (flat_rule ns left))) ≤ length now = omega (arith, room) in
+    pub writing_next : (new : List ℕ) (next : ℕ) → next ≡ at + (8 + length (flat_rule ns x).states) → new ≡ put_at at (block_of 3 (rule_body (flat_rule ns x))) now →
+        Writing ns us o start new later next
+    writing_next new next place put =
+        let l = length_first ns left x later is six in
+        let s = flat_states ns x (omega arith) in
+        let r = length_rule ns x in
+        let in_room : at + length (block_of 3 (rule_body (flat_rule ns x))) ≤ length now = omega (arith, room) in
         record {
-          long = ap length put ∙ put_length at (block_of 3 (rule_body (flat_rule ns left))) now in_room ∙ w.long;
+          long = ap length put ∙ put_length at (block_of 3 (rule_body (flat_rule ns x))) now in_room ∙ w.long;
           ends = omega (arith, w.ends);
-          bytes = ap (λ (vs : List ℕ). put_at next (blocks ns vs) new) b ∙ ap (put_at next (blocks ns (drop 6 left))) put ∙
-              put_put at (block_of 3 (rule_body (flat_rule ns left))) now in_room (blocks ns (drop 6 left)) next (omega arith) ∙
-              ap (λ (c : List ℕ). put_at at c now) (sym (blocks_more ns left some)) ∙ w.bytes;
+          bytes = ap (put_at next (blocks ns later)) put ∙ put_put at (block_of 3 (rule_body (flat_rule ns x))) now in_room (blocks ns later) next (omega arith) ∙
+              ap (λ (c : List ℕ). put_at at c now) (sym (blocks_first ns left x later is six)) ∙ w.bytes;
         }
 
   pub writing_end : length left < 6 → (at ≡ start + length (blocks ns us)) × (now ≡ put_at start (blocks ns us) o)

@@ -1,3 +1,4 @@
 pub mod Blocks
 pub mod Flat
 pub mod Put
+pub mod Loaded

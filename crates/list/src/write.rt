@@ -14,8 +14,7 @@ pub const RULE_WIDTH: usize = 6;
 pub fn width(counts: &[u8], symbol: usize) -> usize
     ensures { result ≡ flat_width counts.now symbol }
 {
-    let n = byte_at(counts, symbol);
-    if n < 4 { n } else { 4 }
+    usize::from(byte_at(counts, symbol)).min(4)
 }
 
 // New bytes over those that stand at a place.
@@ -24,12 +23,9 @@ pub fn put_bytes(out: &mut [u8], at: usize, new: &[u8]) -> usize
     ensures value { result ≡ at + length new.now }
     ensures bytes { out.new ≡ put_at at new.now out.old }
 {
-    let mut i = 0;
-    while i < new.len() {
-        out[at + i] = new[i];
-        i += 1;
-    }
-    at + i
+    let end = at + new.len();
+    out[at..end].copy_from_slice(new);
+    end
 }
 
 // The head of a block: the size of its body, and its kind.
@@ -38,8 +34,8 @@ fn put_head(out: &mut [u8], at: usize, size: usize, kind: u8) -> usize
     ensures value { result ≡ at + 6 }
     ensures bytes { out.new ≡ put_at at (little 4 size ++ little 2 kind) out.old }
 {
-    let head = [size as u8, 0, 0, 0, kind, 0];
-    put_bytes(out, at, &head)
+    let after = put_bytes(out, at, &(size as u32).to_le_bytes());
+    put_bytes(out, after, &(kind as u16).to_le_bytes())
 }
 
 // A block whose body is given in one piece.
@@ -60,10 +56,9 @@ fn put_rule(counts: &[u8], rules: &[u8], out: &mut [u8], at: usize) -> usize
     ensures bytes { let rule = flat_rule counts.now rules.now in
         out.new ≡ put_at at (block_of 3 (rule_body rule)) out.old }
 {
-    let n = width(counts, byte_at(rules, 0));
+    let n = width(counts, rules[0] as usize);
     let after = put_head(out, at, n + 2, 3);
-    let end = n + 1;
-    let last = put_bytes(out, after, &rules[0..end]);
+    let last = put_bytes(out, after, &rules[..n + 1]);
     put_bytes(out, last, &rules[5..RULE_WIDTH])
 }
 
@@ -74,11 +69,9 @@ fn put_rules(counts: &[u8], rules: &[u8], out: &mut [u8], start: usize) -> usize
     ensures bytes { let all = flat_rules counts.now rules.now in
         out.new ≡ put_at start (rule_blocks all) out.old }
 {
-    let mut left = rules;
     let mut at = start;
-    while RULE_WIDTH <= left.len() {
-        at = put_rule(counts, left, out, at);
-        left = &left[RULE_WIDTH..];
+    for rule in rules.chunks_exact(RULE_WIDTH) {
+        at = put_rule(counts, rule, out, at);
     }
     at
 }
@@ -89,10 +82,8 @@ pub fn list_size(counts: &[u8], finals: &[u8], rules: &[u8]) -> u32
     ensures { result ≡ length (emitted (flat_sheet counts.now finals.now rules.now)) }
 {
     let mut size: usize = 12 + counts.len() + finals.len();
-    let mut left = rules;
-    while RULE_WIDTH <= left.len() {
-        size += 8 + width(counts, byte_at(left, 0));
-        left = &left[RULE_WIDTH..];
+    for rule in rules.chunks_exact(RULE_WIDTH) {
+        size += 8 + width(counts, rule[0] as usize);
     }
     size as u32
 }

@@ -1,16 +1,15 @@
 -- What the view shows (§6.3): lookups of any bytes, block by block; of bytes that are no list it shows none.
-use Rattle.std.specs.Prelude.{◌≡◌, cond, List, [], ℕ, eqb, length, get_or, take}
-use Rattle.std.proofs.Math.Option.{Option, some}
+use Rattle.std.specs.Prelude.{◌≡◌, cond, List, [], ℕ, eqb, length, get_or, take, Option, Some, None}
+use Rattle.std.proofs.Math.Option.{some}
+use Rattle.std.proofs.Math.Option as math
 use Rattle.model.specs.Automata.{Rule, Automaton, is_final, target_in}
 use Rattle.model.specs.Listing.{Sheet, body_at, behind, rule_in, Read, broken, loaded, read_list}
 use Rattle.model.specs.Entry.{load_seen}
-use Rattle.model.specs.View.{target_found, four_places, no_rule}
+use Rattle.model.specs.View.{present, absent, target_found, four_places, no_rule}
 use Rattle.model.specs.declared.State.{State}
 use Rattle.model.specs.declared.Found.{Found}
 use Rattle.list_view.specs.declared.Sizes.{Sizes}
 use Rattle.list_view.specs.declared.ShownRule.{ShownRule}
-use Rattle.list_view.specs.declared.Target.{Target}
-use Rattle.list_view.specs.declared.Target.TheVariants.{To, Missing}
 use Rattle.list.specs.Blocks.{rules_in, after}
 use Rattle.list.specs.Flat.{flat_width}
 
@@ -32,13 +31,18 @@ rule_shown r =
       target = state r.target;
     }
 
-abbrev pub target_of : Found → Target
-target_of f = cond (eqb f.found 1) (To (state f.value)) Missing
+-- what is found, as a host gets it
+abbrev pub found_as : Option ℕ → Found
+found_as None = absent 0
+found_as (Some v) = present v
 
-abbrev pub as_target : Option ℕ → Target
+abbrev pub target_of : Found → Option State
+target_of f = cond (eqb f.found 1) (Some (state f.value)) None
+
+abbrev pub as_target : math.Option ℕ → Option State
 as_target o = target_of (target_found o)
 
-abbrev pub target_at : (bytes : List ℕ) → (rules symbol : ℕ) → (states : List ℕ) → Target
+abbrev pub target_at : (bytes : List ℕ) → (rules symbol : ℕ) → (states : List ℕ) → Option State
 target_at bs n a qs = as_target (target_in a (take (flat_width (body_at bs) a) qs) (rules_in n (behind (behind bs))))
 
 -- the bytes that are shown, and the sheet that they are

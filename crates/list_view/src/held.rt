@@ -1,4 +1,5 @@
 // The view over the host's bytes (§6.3): each function takes the struct apart and calls one on bytes and numbers.
+// Both stay (DECISIONS): the view shows a struct, and the calls of a C host have bytes alone.
 ghost use Rattle.std.specs.Prelude.{◌≡◌, get_or};
 ghost use Rattle.std.proofs.Math.Option.{some};
 ghost use Rattle.model.specs.Automata.{is_final};
@@ -7,22 +8,18 @@ ghost use Rattle.model.specs.Entry.{load_seen};
 ghost use Rattle.list_view.specs.Shown.{sizes_in, rule_at, rule_shown, target_at, shown_bytes};
 
 use crate::lookup::{count_in, final_in, rule_in, rules_shown, shown_bytes, sizes_in, target_in};
-use crate::{LoadedList, ShownRule, Sizes, Target};
+use crate::{LoadedList, ShownRule, Sizes};
 use model::State;
-
-// A list is made of bytes and a count.
-fn made<'a>(bytes: &'a [u8], rules: u16) -> LoadedList<'a>
-    ensures { (result.bytes ≡ bytes.entry) × (result.rules ≡ rules) }
-{
-    LoadedList { bytes, rules }
-}
 
 // The view of bytes: of those that load, and of none where they do not.
 pub fn view<'a>(bytes: &'a [u8]) -> LoadedList<'a>
     ensures { (result.bytes.now ≡ shown_bytes bytes.now)
         × (result.rules ≡ (load_seen bytes.now).size) }
 {
-    made(shown_bytes(bytes), rules_shown(bytes))
+    LoadedList {
+        bytes: shown_bytes(bytes),
+        rules: rules_shown(bytes),
+    }
 }
 
 // How many symbols, states and rules the list has.
@@ -53,8 +50,8 @@ pub fn rule<'a>(list: LoadedList<'a>, k: u16) -> ShownRule
     rule_in(list.bytes, k)
 }
 
-// The target of the rule with a left side.
-pub fn target_of<'a>(list: LoadedList<'a>, symbol: u8, states: [u8; 4]) -> Target
+// The target of the rule with a left side, none where no rule has it.
+pub fn target_of<'a>(list: LoadedList<'a>, symbol: u8, states: [u8; 4]) -> Option<State>
     ensures { result ≡ target_at list.entry.bytes.now list.entry.rules symbol states }
 {
     target_in(list.bytes, list.rules, symbol, states)

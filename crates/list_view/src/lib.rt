@@ -27,13 +27,6 @@ pub struct ShownRule {
     pub target: State,
 }
 
-// What a left side leads to.
-#[derive(Clone, Copy)]
-pub enum Target {
-    To(State),
-    Missing,
-}
-
 // A list in a host's bytes (§6.3): it refers to them and holds no copy of any part. `rules` is what load counts.
 #[derive(Clone, Copy)]
 pub struct LoadedList<'a> {

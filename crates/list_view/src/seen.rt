@@ -1,32 +1,42 @@
 // What each call about a list returns, from any bytes (§6.3): they are read whole, then the one part is looked up.
-ghost use Rattle.std.specs.Prelude.{◌≡◌, cond, ltb, length, get_or};
+ghost use Rattle.std.specs.Prelude.{◌≡◌, cond, ltb, length};
 ghost use Rattle.std.proofs.Math.Option.{some};
 ghost use Rattle.model.specs.Automata.{is_final};
 ghost use Rattle.model.specs.View.{present, absent, rule_absent, sizes_seen, children_seen, final_seen, rule_seen, target_seen};
+ghost use Rattle.list_view.specs.Shown.{found_as};
 
-use crate::lookup::{count_in, find_target, rule_in};
+use crate::ShownRule;
+use crate::lookup::{count_in, find_target, rule_in, sizes_in};
 use list::{body, load, rest};
+use model::refusal::Refusal;
 use model::{Found, ListRule, ListSizes};
 
-// A value that is not there, with 21 where the bytes are no list.
-fn absent(number: u16) -> Found
-    ensures { result ≡ absent number }
+// A value or none, as C gets it.
+fn found(value: Option<u8>) -> Found
+    ensures { result ≡ found_as value }
 {
-    Found {
-        number,
-        found: 0,
-        value: 0,
+    match value {
+        Some(value) => Found {
+            number: 0,
+            found: 1,
+            value,
+        },
+        None => Found {
+            number: 0,
+            found: 0,
+            value: 0,
+        },
     }
 }
 
-// A value that is there.
-fn present(value: u8) -> Found
-    ensures { result ≡ present value }
+// No value, for the bytes are no list.
+fn no_list() -> Found
+    ensures { result ≡ absent 21 }
 {
     Found {
-        number: 0,
-        found: 1,
-        value,
+        number: u8::from(Refusal::NoList) as u16,
+        found: 0,
+        value: 0,
     }
 }
 
@@ -34,69 +44,50 @@ fn present(value: u8) -> Found
 pub fn sizes_seen(bytes: &[u8]) -> ListSizes
     ensures { result ≡ sizes_seen bytes.now }
 {
-    let loaded = load(bytes);
-    if loaded.number != 0 {
+    let Some(rules) = load(bytes) else {
         return ListSizes {
-            number: 21,
+            number: u8::from(Refusal::NoList) as u16,
             symbols: 0,
             states: 0,
             rules: 0,
         };
-    }
-    let counts = body(bytes);
-    let finals = body(rest(bytes));
+    };
+    let sizes = sizes_in(bytes, rules);
     ListSizes {
         number: 0,
-        symbols: counts.len() as u16,
-        states: finals.len() as u16,
-        rules: loaded.size as u16,
+        symbols: sizes.letters as u16,
+        states: sizes.states as u16,
+        rules,
     }
 }
 
-// A child count, if the alphabet has the symbol.
-fn count_at(counts: &[u8], symbol: usize) -> Found
-    ensures { result ≡ cond (ltb symbol (length counts.now)) (present (get_or counts.now symbol 0)) (absent 0) }
-{
-    if symbol < counts.len() {
-        return present(counts[symbol]);
-    }
-    absent(0)
-}
-
-// The child count of a symbol.
+// The child count of a symbol, if the alphabet has it.
 pub fn children_seen(bytes: &[u8], symbol: u8) -> Found
     ensures { result ≡ children_seen bytes.now symbol }
 {
-    let loaded = load(bytes);
-    if loaded.number != 0 {
-        return absent(21);
-    }
-    count_at(body(bytes), symbol as usize)
+    let Some(_) = load(bytes) else {
+        return no_list();
+    };
+    found(body(bytes).get(symbol as usize).copied())
 }
 
-// Whether a state is final, if it is there.
-fn final_at(finals: &[u8], q: usize) -> Found
+// Whether a state is final, 1 or 0, if it is there.
+fn final_at(finals: &[u8], q: usize) -> Option<u8>
     ensures { let fs = finals.now in
-        result ≡ cond (ltb q (length fs)) (present (cond (is_final fs (some q)) 1 0)) (absent 0) }
+        found_as result ≡ cond (ltb q (length fs)) (present (cond (is_final fs (some q)) 1 0)) (absent 0) }
 {
-    if finals.len() <= q {
-        return absent(0);
-    }
-    if finals[q] == 1 {
-        return present(1);
-    }
-    present(0)
+    let byte = *finals.get(q)?;
+    Some((byte == 1) as u8)
 }
 
 // Whether a state is final.
 pub fn final_seen(bytes: &[u8], state: u8) -> Found
     ensures { result ≡ final_seen bytes.now state }
 {
-    let loaded = load(bytes);
-    if loaded.number != 0 {
-        return absent(21);
-    }
-    final_at(body(rest(bytes)), state as usize)
+    let Some(_) = load(bytes) else {
+        return no_list();
+    };
+    found(final_at(body(rest(bytes)), state as usize))
 }
 
 // No rule, with 21 where the bytes are no list.
@@ -117,22 +108,24 @@ fn no_rule(number: u8) -> ListRule
 pub fn rule_seen(bytes: &[u8], k: u16) -> ListRule
     ensures { result ≡ rule_seen bytes.now k }
 {
-    let loaded = load(bytes);
-    if loaded.number != 0 {
-        return no_rule(21);
-    }
-    if loaded.size <= k as u32 {
+    let Some(rules) = load(bytes) else {
+        return no_rule(u8::from(Refusal::NoList));
+    };
+    if rules <= k {
         return no_rule(0);
     }
-    let shown = rule_in(bytes, k);
-    let states = shown.states;
+    let ShownRule {
+        symbol,
+        states,
+        target,
+    } = rule_in(bytes, k);
     ListRule {
         number: 0,
         found: 1,
-        symbol: shown.symbol,
-        children: count_in(bytes, shown.symbol),
+        symbol,
+        children: count_in(bytes, symbol),
         states,
-        target: shown.target.0 as u8,
+        target: target.0 as u8,
     }
 }
 
@@ -140,14 +133,8 @@ pub fn rule_seen(bytes: &[u8], k: u16) -> ListRule
 pub fn target_seen(bytes: &[u8], symbol: u8, states: &[u8]) -> Found
     ensures { result ≡ target_seen bytes.now symbol states.now }
 {
-    let loaded = load(bytes);
-    if loaded.number != 0 {
-        return absent(21);
-    }
-    find_target(
-        rest(rest(bytes)),
-        loaded.size as u16,
-        symbol as usize,
-        states,
-    )
+    let Some(rules) = load(bytes) else {
+        return no_list();
+    };
+    found(find_target(rest(rest(bytes)), rules, symbol as usize, states))
 }

@@ -5,6 +5,7 @@
 use limits::{MOST_CONTEXTS, MOST_RULES, MOST_STATES, MOST_SYMBOLS};
 
 pub mod limits; // limits.rt: the numbers of the specification
+pub mod members; // members.rt: the members of the run's lists, each as a slice
 pub mod refusal; // refusal.rt: why a call is refused
 
 // A row of the record table, a state of the proposal, a member of C: three sequences of numbers that are never mixed (§2.2).

@@ -5,7 +5,7 @@ use Rattle.model.specs.Table.{tables}
 use Rattle.model.specs.Sound.{is_t1}
 use Rattle.model.specs.Terms.{record_fault, store_from, known_row}
 use Rattle.model.specs.Entry.{store_of, answers_in, size_fits}
-use Rattle.bank.specs.Index.{hole_of, find_in}
+use Rattle.bank.specs.Index.{find_in}
 use Rattle.bank.specs.Bank.{place_code, Kept, with_rows}
 use Rattle.bank_fill.specs.declared.add.Added.{Added}
 use Rattle.probe.specs.declared.Reply.{Reply}
@@ -13,10 +13,6 @@ use Rattle.probe.specs.declared.Reply.{Reply}
 -- 18's test of the size, then T1
 abbrev pub is_passed : (words counts : List ℕ) → (used : ℕ) → Bool
 is_passed ws ns n = size_fits ws && is_t1 (tables (store_of ws ns n) (answers_in n ws) [] [] [] 0 0 false)
-
--- the first n entries of a list are the places of holes in an index
-pub record Shown (index : List ℕ) (n : ℕ) (out : List ℕ) : Type 0 where
-  pub same : (i : ℕ) → i < n → get_or out i 0 ≡ get_or index (hole_of i) 0
 
 -- WHERE T1 HOLDS, the places of holes, if there is room for all
 abbrev pub Marks : (words counts : List ℕ) → (used : ℕ) → (passed : Bool) → (out : List ℕ) → Type 0

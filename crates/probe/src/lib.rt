@@ -10,8 +10,8 @@ ghost use Rattle.model.specs.Limits.{most_rows};
 ghost use Rattle.model.specs.Terms.{record_fault};
 ghost use Rattle.model.specs.Entry.{size_fits};
 ghost use Rattle.bank.specs.Bank.{Bank};
-ghost use Rattle.bank.specs.Index.{index_width, size_in};
-ghost use Rattle.probe.specs.Probed.{is_passed, Shown, Marks, said, said_of, found, FilledReady, Filled, StoredReady, Stored, known};
+ghost use Rattle.bank.specs.Index.{index_width};
+ghost use Rattle.probe.specs.Probed.{is_passed, Marks, said, said_of, found, FilledReady, Filled, StoredReady, Stored, known};
 
 use bank::index::INDEX_WIDTH;
 use bank::{index, rows};
@@ -43,23 +43,7 @@ fn passes(words: &[u32], counts: &[u8], used: u16, index: &mut [u16]) -> bool
     ensures value { result ≡ is_passed words.now counts.now used }
     ensures bank { result ≡ true → Bank words.now counts.now used index.new }
 {
-    if !rows::size_fits(words) {
-        return false;
-    }
-    bank_t1::t1(words, counts, used, index)
-}
-
-// The first marks of holes, copied.
-fn show(index: &[u16], used: u16, marks: &mut [u16])
-    requires { (used ≤ size_in index.now) × (used ≤ length marks.old) }
-    ensures { Shown index.now used marks.new }
-{
-    let mut i: u16 = 0;
-    while i < used {
-        let mark = index::hole_of(index, Row(i));
-        marks[i as usize] = mark;
-        i += 1;
-    }
+    rows::size_fits(words) && bank_t1::t1(words, counts, used, index)
 }
 
 // T1, and the places of holes where there is room for all.
@@ -72,10 +56,9 @@ pub extern "C" fn probe_pass(words: &[u32], counts: &[u8], used: u16, marks: &mu
     if !passes(words, counts, used, &mut index) {
         return false;
     }
-    if marks.len() < used as usize {
-        return true;
+    if used as usize <= marks.len() {
+        index::copy_marks(&index, used, marks);
     }
-    show(&index, used, marks);
     true
 }
 

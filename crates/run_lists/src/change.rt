@@ -1,6 +1,6 @@
 // The ways in which a run's lists change (§3, §4), by value. Zeros and the lists of a start are model's `zero_lists` and `started`;
 // each other way has its definition in specs/Changes.antt.
-// Where a call does not name a field, it stays.
+// Where a call does not name a field, it stays. Row 0 is none in hand and none asked, and accepted is 0 or 1: C reads and writes `Lists`.
 ghost use Rattle.std.specs.Prelude.{◌≡◌, ◌≤◌, ◌<◌, length};
 ghost use Rattle.model.specs.Limits.{most_symbols, most_rules, most_contexts};
 ghost use Rattle.model.specs.Base.{over};
@@ -18,12 +18,8 @@ fn spread(counts: &[u8]) -> [u8; MOST_SYMBOLS]
     requires { length counts.now ≤ most_symbols }
     ensures { result ≡ over counts.now zero_lists.counts }
 {
-    let mut wide = [0u8; MOST_SYMBOLS];
-    let mut a = 0;
-    while a < counts.len() {
-        wide[a] = counts[a];
-        a += 1;
-    }
+    let mut wide = [0; MOST_SYMBOLS];
+    wide[..counts.len()].copy_from_slice(counts);
     wide
 }
 
@@ -52,25 +48,26 @@ pub fn fresh(counts: &[u8]) -> Lists
     requires { length counts.now ≤ most_symbols }
     ensures { result ≡ lists_of zero_lists (started 1 counts.now) }
 {
-    let wide = spread(counts);
-    let mut left = zeros();
-    left.letters = counts.len() as u8;
-    left.counts = wide;
-    left.used = 1;
-    left.contexts = 1;
-    left
+    Lists {
+        letters: counts.len() as u8,
+        counts: spread(counts),
+        used: 1,
+        contexts: 1,
+        ..zeros()
+    }
 }
 
 // A question is open.
 pub fn asking(lists: Lists, hand: Row, row: Row, used: u16) -> Lists
     ensures { result ≡ asking_of lists hand.0 row.0 used }
 {
-    let mut left = lists;
-    left.used = used;
-    left.hand = hand.0;
-    left.asked = row.0;
-    left.accepted = 0;
-    left
+    Lists {
+        accepted: 0,
+        used,
+        hand: hand.0,
+        asked: row.0,
+        ..lists
+    }
 }
 
 // The question is closed.
@@ -91,22 +88,24 @@ pub fn taken_up(lists: Lists, row: Row, used: u16) -> Lists
 pub fn proposing(lists: Lists, s: [u16; MOST_STATES], states: u16) -> Lists
     ensures { result ≡ proposing_of lists s states }
 {
-    let mut left = lists;
-    left.states = states;
-    left.s = s;
-    left.hand = 0;
-    left.asked = 0;
-    left.accepted = 0;
-    left
+    Lists {
+        accepted: 0,
+        states,
+        s,
+        hand: 0,
+        asked: 0,
+        ..lists
+    }
 }
 
 // It is accepted.
 pub fn accepting(lists: Lists) -> Lists
     ensures { result ≡ accepting_of lists }
 {
-    let mut left = lists;
-    left.accepted = 1;
-    left
+    Lists {
+        accepted: 1,
+        ..lists
+    }
 }
 
 // A transition is appended.
@@ -115,9 +114,8 @@ pub fn with_rule(lists: Lists, row: Row) -> Lists
     ensures { result ≡ with_rule lists row.0 }
 {
     let mut left = lists;
-    let n = lists.rules;
-    left.t[n as usize] = row.0;
-    left.rules = n + 1;
+    left.t[lists.rules as usize] = row.0;
+    left.rules += 1;
     left
 }
 
@@ -126,16 +124,11 @@ pub fn with_context(lists: Lists, context: Row, used: u16) -> Lists
     requires { lists.contexts < most_contexts }
     ensures { result ≡ with_context lists context.0 used }
 {
-    let mut left = lists;
-    left.used = used;
-    left.hand = 0;
-    left.asked = 0;
-    left.accepted = 0;
-    let c = lists.c;
-    let n = lists.contexts;
-    if !is_among(&c[..n as usize], context) {
-        left.c[n as usize] = context.0;
-        left.contexts = n + 1;
+    let mut left = asking(lists, Row(0), Row(0), used);
+    let n = lists.contexts as usize;
+    if !is_among(&lists.c[..n], context) {
+        left.c[n] = context.0;
+        left.contexts += 1;
     }
     left
 }

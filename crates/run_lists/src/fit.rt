@@ -10,37 +10,16 @@ use model::limits::{MOST_CONTEXTS, MOST_RULES, MOST_STATES, MOST_SYMBOLS};
 pub fn alphabet_fits(counts: &[u8]) -> bool
     ensures { result ≡ alphabet_fits counts.now }
 {
-    if counts.len() == 0 {
-        return false;
-    }
-    if MOST_SYMBOLS < counts.len() {
-        return false;
-    }
-    let mut a = 0;
-    while a < counts.len() {
-        if 4 < counts[a] {
-            return false;
-        }
-        a += 1;
-    }
-    true
+    !counts.is_empty() && counts.len() <= MOST_SYMBOLS && counts.iter().all(|n| *n <= 4)
 }
 
 // Whether every length is within its array and the flag is 0 or 1.
 pub fn lists_fit(lists: Lists) -> bool
     ensures { result ≡ lists_fit lists }
 {
-    if MOST_SYMBOLS < lists.letters as usize {
-        return false;
-    }
-    if MOST_STATES < lists.states as usize {
-        return false;
-    }
-    if MOST_RULES < lists.rules as usize {
-        return false;
-    }
-    if MOST_CONTEXTS < lists.contexts as usize {
-        return false;
-    }
-    lists.accepted <= 1
+    lists.letters as usize <= MOST_SYMBOLS
+        && lists.states as usize <= MOST_STATES
+        && lists.rules as usize <= MOST_RULES
+        && lists.contexts as usize <= MOST_CONTEXTS
+        && lists.accepted <= 1
 }

@@ -10,45 +10,30 @@ use model::Row;
 pub mod change; // change.rt: the ways in which lists change
 pub mod fit; // fit.rt: lengths within their arrays, an alphabet within its limits
 
-// Whether a row is in a list. The loop goes on past it: without a way out the compiler compares many at once.
+// Whether a row is in a list.
 pub fn is_among(xs: &[u16], row: Row) -> bool
     ensures { result ≡ among row.0 xs.now }
 {
-    let mut found = false;
-    let mut i = 0;
-    while i < xs.len() {
-        if xs[i] == row.0 {
-            found = true;
-        }
-        i += 1;
-    }
-    found
+    xs.contains(&row.0)
 }
 
-// The place of a row in a list; the length of the list for none.
+// The place of a row in a list; the length of the list for none, as model's place_of has it: call_emit's `state_of` promises that of any row.
 pub fn place_of(xs: &[u16], row: Row) -> usize
     ensures { result ≡ place_of row.0 0 xs.now }
 {
-    let mut i = 0;
-    while i < xs.len() {
-        if xs[i] == row.0 {
-            return i;
-        }
-        i += 1;
-    }
-    xs.len()
+    xs.iter().position(|x| *x == row.0).unwrap_or(xs.len())
 }
 
 // Whether the rows of a list are all different.
 pub fn no_repeats(xs: &[u16]) -> bool
     ensures { result ≡ no_repeats xs.now }
 {
-    let mut i = 0;
-    while i < xs.len() {
-        if is_among(&xs[i + 1..], Row(xs[i])) {
+    let mut rest = xs;
+    while let Some((x, behind)) = rest.split_first() {
+        if is_among(behind, Row(*x)) {
             return false;
         }
-        i += 1;
+        rest = behind;
     }
     true
 }
@@ -57,12 +42,5 @@ pub fn no_repeats(xs: &[u16]) -> bool
 pub fn all_among(xs: &[u16], ys: &[u16]) -> bool
     ensures { result ≡ all_among xs.now ys.now }
 {
-    let mut i = 0;
-    while i < xs.len() {
-        if !is_among(ys, Row(xs[i])) {
-            return false;
-        }
-        i += 1;
-    }
-    true
+    xs.iter().all(|x| is_among(ys, Row(*x)))
 }

@@ -1,7 +1,6 @@
 -- The laws, in reading order: a file uses those above it.
 pub mod Parts
 pub mod Prepared
-pub mod Hand
 pub mod Judged
 pub mod Members
 pub mod Working

@@ -30,13 +30,9 @@ pub fn roles_fit(
         let answers = answers_in used words.now in
         result ≡ roles_fit (tables store answers s.now t.now c.now 0 0 false) }
 {
-    if !sound_roles::transitions::t2(words, counts, used, index, t, s) {
-        return false;
-    }
-    if !sound_roles::t3(s, t) {
-        return false;
-    }
-    sound_roles::contexts_fit(used, index, s.len() + t.len(), c)
+    sound_roles::transitions::t2(words, counts, used, index, t, s)
+        && sound_roles::t3(s, t)
+        && sound_roles::contexts_fit(used, index, s.len() + t.len(), c)
 }
 
 // T4's last clause: how many contexts there may be.
@@ -44,13 +40,8 @@ fn few_fit(states: usize, rules: usize, contexts: usize, missing: bool) -> bool
     requires { (states ≤ most_states) × (rules ≤ most_rules) }
     ensures { result ≡ few_fit states rules contexts missing }
 {
-    if missing {
-        return true;
-    }
-    if states + rules == 0 {
-        return contexts <= 1;
-    }
-    contexts <= states + rules
+    let members = states + rules;
+    missing || contexts <= if members == 0 { 1 } else { members }
 }
 
 // T4's last clause, T5 and T6.
@@ -65,19 +56,10 @@ pub fn table_fits(
     requires { Sized table.now rules contexts × Placing s_in_t.now states rules }
     ensures { result ≡ table_fits table.now s_in_t.now states rules contexts missing }
 {
-    if !few_fit(states, rules, contexts, missing) {
-        return false;
-    }
-    if !judge::all_differ(table, rules, contexts, s_in_t, states) {
-        return false;
-    }
-    if !judge::all_yes(table, rules, contexts) {
-        return false;
-    }
-    if missing {
-        return true;
-    }
-    judge::all_once(table, rules, contexts, s_in_t, states)
+    few_fit(states, rules, contexts, missing)
+        && judge::all_differ(table, rules, contexts, s_in_t, states)
+        && judge::all_yes(table, rules, contexts)
+        && (missing || judge::all_once(table, rules, contexts, s_in_t, states))
 }
 
 // T8: the open question, or none.
@@ -94,16 +76,9 @@ pub fn question_fits(
     ensures { result ≡ question_fits words.now index.now used hand.0 asked.0 accepted missing }
 {
     if asked.0 == 0 {
-        if hand.0 != 0 {
-            return false;
-        }
-        return !missing;
+        return hand.0 == 0 && !missing;
     }
-    if !sound_roles::is_record(used, index, asked) {
-        return false;
-    }
-    if rows::answer_of(words, asked) != 0 {
-        return false;
-    }
-    accepted != 1
+    sound_roles::is_record(used, index, asked)
+        && rows::answer_of(words, asked) == 0
+        && accepted != 1
 }

@@ -110,17 +110,11 @@ fn hand_fits(
     if hand.0 == 0 {
         return true;
     }
-    if !sound_roles::is_record(used, index, hand) {
+    if missing || !sound_roles::is_record(used, index, hand) {
         return false;
     }
-    if missing {
-        return false;
-    }
-    let answer = rows::answer_of(words, hand);
-    if table_verdict::accepts_row(words, counts, used, index, notes, hand) {
-        return answer == 1;
-    }
-    answer == 2
+    let accepts = table_verdict::accepts_row(words, counts, used, index, notes, hand);
+    rows::answer_of(words, hand) == if accepts { 1 } else { 2 }
 }
 
 // How a run stands: the record in hand, the open question, whether it is accepted.
@@ -148,18 +142,16 @@ fn standing_fits(
         result ≡ standing_fits words.now counts.now used reps index.now standing missing }
     ensures reps { reps_in notes.new ≡ reps_in notes.old }
 {
-    if !hand_fits(words, counts, used, index, notes, standing.hand, missing) {
-        return false;
-    }
-    judge::question_fits(
-        words,
-        used,
-        index,
-        standing.hand,
-        standing.asked,
-        standing.accepted,
-        missing,
-    )
+    hand_fits(words, counts, used, index, notes, standing.hand, missing)
+        && judge::question_fits(
+            words,
+            used,
+            index,
+            standing.hand,
+            standing.asked,
+            standing.accepted,
+            missing,
+        )
 }
 
 // T1 to T8; where they hold, what a step works with is ready.
@@ -194,10 +186,8 @@ fn is_sound(
     }
     let mut s_in_t = [0u16; MOST_STATES];
     let missing = represent(table, c.len(), s, t, &mut s_in_t, notes);
-    if !judge::table_fits(table, &s_in_t, s.len(), t.len(), c.len(), missing) {
-        return false;
-    }
-    standing_fits(words, counts, used, index, notes, standing, missing)
+    judge::table_fits(table, &s_in_t, s.len(), t.len(), c.len(), missing)
+        && standing_fits(words, counts, used, index, notes, standing, missing)
 }
 
 // The same of lists as they are lent.

@@ -1,4 +1,2 @@
 pub mod Scan
 pub mod Marked
-pub mod Fit
-pub mod Children

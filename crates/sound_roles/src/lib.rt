@@ -17,11 +17,7 @@ pub fn is_record(used: u16, index: &[u16], row: Row) -> bool
     requires { used ≤ size_in index.now }
     ensures { result ≡ record_by index.now used row.0 }
 {
-    let i = row.0;
-    if used <= i {
-        return false;
-    }
-    !bank_t1::has_hole(index, row)
+    row.0 < used && !bank_t1::has_hole(index, row)
 }
 
 // Whether a number is that of a used row with a hole.
@@ -29,11 +25,7 @@ pub fn is_context(used: u16, index: &[u16], row: Row) -> bool
     requires { used ≤ size_in index.now }
     ensures { result ≡ context_by index.now used row.0 }
 {
-    let i = row.0;
-    if used <= i {
-        return false;
-    }
-    bank_t1::has_hole(index, row)
+    row.0 < used && bank_t1::has_hole(index, row)
 }
 
 // Whether the numbers of a list are all those of records.
@@ -41,15 +33,7 @@ pub fn all_records(used: u16, index: &[u16], xs: &[u16]) -> bool
     requires { used ≤ size_in index.now }
     ensures { result ≡ records_by index.now used xs.now }
 {
-    let mut i = 0;
-    while i < xs.len() {
-        let row = Row(xs[i]);
-        if !is_record(used, index, row) {
-            return false;
-        }
-        i += 1;
-    }
-    true
+    xs.iter().all(|x| is_record(used, index, Row(*x)))
 }
 
 // Whether the numbers of a list are all those of contexts.
@@ -57,15 +41,7 @@ pub fn all_contexts(used: u16, index: &[u16], xs: &[u16]) -> bool
     requires { used ≤ size_in index.now }
     ensures { result ≡ contexts_by index.now used xs.now }
 {
-    let mut i = 0;
-    while i < xs.len() {
-        let row = Row(xs[i]);
-        if !is_context(used, index, row) {
-            return false;
-        }
-        i += 1;
-    }
-    true
+    xs.iter().all(|x| is_context(used, index, Row(*x)))
 }
 
 // T3 but for the length of S: none twice, all of them transitions.
@@ -73,10 +49,7 @@ pub fn t3(s: &[u16], t: &[u16]) -> bool
     ensures { let states = s.now in
         result ≡ no_repeats states && all_among states t.now }
 {
-    if !run_lists::no_repeats(s) {
-        return false;
-    }
-    run_lists::all_among(s, t)
+    run_lists::no_repeats(s) && run_lists::all_among(s, t)
 }
 
 // T4 but for its last clause: row 0 first, contexts, none twice, at most one more than S and T have members.
@@ -84,17 +57,8 @@ pub fn contexts_fit(used: u16, index: &[u16], size: usize, c: &[u16]) -> bool
     requires { (used ≤ size_in index.now) × (size ≤ most_states + most_rules) }
     ensures { result ≡ contexts_fit_by index.now used size c.now }
 {
-    if c.len() == 0 {
-        return false;
-    }
-    if c[0] != 0 {
-        return false;
-    }
-    if !all_contexts(used, index, c) {
-        return false;
-    }
-    if !run_lists::no_repeats(c) {
-        return false;
-    }
-    c.len() <= 1 + size
+    c.first() == Some(&0)
+        && all_contexts(used, index, c)
+        && run_lists::no_repeats(c)
+        && c.len() <= 1 + size
 }

@@ -18,15 +18,10 @@ fn kids_in(words: &[u32], counts: &[u8], used: u16, row: Row, s: &[u16]) -> bool
 {
     let symbol = rows::symbol_of(words, row);
     let count = counts[symbol as usize] as usize;
-    let mut k = 0;
-    while k < count {
-        let kid = rows::kid_of(words, row, k);
-        if !run_lists::is_among(s, Row(kid as u16)) {
-            return false;
-        }
-        k += 1;
-    }
-    true
+    let places = rows::places_of(words, row);
+    places[..count]
+        .iter()
+        .all(|kid| run_lists::is_among(s, Row(*kid as u16)))
 }
 
 // Whether the children of each transition are representatives.
@@ -38,15 +33,7 @@ fn all_kids_in(words: &[u32], counts: &[u8], used: u16, t: &[u16], s: &[u16]) ->
     ensures { let store = store_of words.now counts.now used in
         result ≡ all (λ (i : ℕ). all_among (kids_at store i) s.now) t.now }
 {
-    let mut k = 0;
-    while k < t.len() {
-        let row = Row(t[k]);
-        if !kids_in(words, counts, used, row, s) {
-            return false;
-        }
-        k += 1;
-    }
-    true
+    t.iter().all(|i| kids_in(words, counts, used, Row(*i), s))
 }
 
 // T2 but for the length of T.
@@ -56,11 +43,7 @@ pub fn t2(words: &[u32], counts: &[u8], used: u16, index: &[u16], t: &[u16], s: 
         let rules = t.now in
         result ≡ no_repeats rules && (all (is_record store) rules && all (λ (i : ℕ). all_among (kids_at store i) s.now) rules) }
 {
-    if !run_lists::no_repeats(t) {
-        return false;
-    }
-    if !crate::all_records(used, index, t) {
-        return false;
-    }
-    all_kids_in(words, counts, used, t, s)
+    run_lists::no_repeats(t)
+        && crate::all_records(used, index, t)
+        && all_kids_in(words, counts, used, t, s)
 }

@@ -14,6 +14,7 @@ ghost use Rattle.step_search.specs.Spots.{Descended, search_by};
 ghost use Rattle.step_settle.specs.Stepped.{KnownTable, EndedAs};
 ghost use Rattle.step.specs.InHand.{InHand};
 
+use bank::terms::Terms;
 use model::refusal::Refusal;
 use model::{Lists, Row};
 use step_search::Found;
@@ -38,14 +39,8 @@ fn search(words: &[u32], lists: Lists, index: &[u16], notes: &mut [u16]) -> Foun
 {
     let letters = lists.letters as usize;
     let counts = lists.counts;
-    step_search::find(
-        words,
-        &counts[..letters],
-        lists.used,
-        index,
-        notes,
-        Row(lists.hand),
-    )
+    let bank = Terms::new(words, &counts[..letters], lists.used, index);
+    step_search::find(&bank, notes, Row(lists.hand))
 }
 
 // A step. With nothing in hand, rows of the table without an unknown answer are right; there is room in it for one transition more.

@@ -2,8 +2,6 @@ pub mod Place
 pub mod Steps
 pub mod Reps
 pub mod Among
-pub mod Children
-pub mod Scan
 pub mod Descent
 pub mod Search
 pub mod Turns

@@ -1,5 +1,5 @@
 -- The record in hand (§4.1): for each row the way down to its leftmost innermost row outside S, and the row after the exchange.
-use Rattle.std.specs.Prelude.{◌≡◌, Bool, ◌&&◌, not, List, ℕ, ◌≤◌, ◌<◌, eqb, length, get_or}
+use Rattle.std.specs.Prelude.{◌≡◌, Bool, ◌&&◌, not, List, ℕ, ◌≤◌, ◌<◌, eqb, length, get_or, Option, None, Some, ◌+◌}
 use Rattle.model.specs.Limits.{most_rows}
 use Rattle.model.specs.Base.{In, among}
 use Rattle.model.specs.Store.{Store, Spot, used, kids_at, filled_row, down, spot_of}
@@ -39,7 +39,12 @@ own_rep reps i = not (eqb i 0) && eqb (get_or reps i 0) i
 abbrev pub not_own : (reps : List ℕ) → (row : ℕ) → Bool
 not_own reps i = not (own_rep reps i)
 
--- the place, plus one, of a row's first such child; 0 for none
+-- a place as the notes have it: plus one, and 0 for none
+abbrev pub code_of : Option ℕ → ℕ
+code_of None = 0
+code_of (Some k) = k + 1
+
+-- of a row's first such child
 abbrev pub outside_by : (reps : List ℕ) → Store → (row : ℕ) → ℕ
 outside_by reps x i = place_code (not_own reps) (kids_at x i)
 

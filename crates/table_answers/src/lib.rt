@@ -40,11 +40,9 @@ pub fn observe(
     let mut tops = [0u16; MOST_CONTEXTS];
     let n = table_columns::needed::needed_rows(words, counts, used, index, c, notes, &mut tops);
     let contexts = c.len();
-    let mut k = 0;
-    while k < t.len() {
-        table_columns::fill_column(words, counts, used, index, n, Row(t[k]), notes);
+    for (k, row) in t.iter().enumerate() {
+        table_columns::fill_column(words, counts, used, index, n, Row(*row), notes);
         table_columns::read_column(words, used, &tops[..contexts], notes, k, table);
-        k += 1;
     }
 }
 
@@ -76,18 +74,15 @@ pub fn observe_to_gap(
     let mut tops = [0u16; MOST_CONTEXTS];
     let n = table_columns::needed::needed_rows(words, counts, used, index, c, notes, &mut tops);
     let contexts = c.len();
-    let mut k = 0;
-    while k < t.len() {
+    for (k, row) in t.iter().enumerate() {
         if !table::has_answer(table, contexts, k, 0) {
-            k += 1;
             continue;
         }
-        table_columns::fill_column(words, counts, used, index, n, Row(t[k]), notes);
+        table_columns::fill_column(words, counts, used, index, n, Row(*row), notes);
         table_columns::read_column(words, used, &tops[..contexts], notes, k, table);
         if table::has_answer(table, contexts, k, 0) {
             return k + 1;
         }
-        k += 1;
     }
-    k
+    t.len()
 }

@@ -59,10 +59,8 @@ fn clear_run(from: usize, end: usize, notes: &mut [u16])
     ensures { Cleared (room_in notes.old) notes.old from end notes.new }
 {
     let last = 3 * (notes.len() / NOTE_WIDTH);
-    let mut q = from;
-    while q < end {
-        notes[last + q] = 0;
-        q += 1;
+    if from < end {
+        notes[last + from..last + end].fill(0);
     }
 }
 
@@ -156,10 +154,8 @@ pub fn read_column(
         table.new ≡ sets table.old (most_contexts * k) a }
 {
     let last = 3 * (notes.len() / NOTE_WIDTH);
-    let mut j = 0;
-    while j < tops.len() {
-        let row = Row(notes[last + tops[j] as usize]);
+    for (j, top) in tops.iter().enumerate() {
+        let row = Row(notes[last + *top as usize]);
         table[MOST_CONTEXTS * k + j] = rows::answer_of(words, row) as u8;
-        j += 1;
     }
 }

@@ -64,10 +64,8 @@ fn mark_members(
         × KidsMarked x index.now z used 1 notes.new
         × MembersMarked z c.now (length c.now) notes.new }
 {
-    let mut j = 0;
-    while j < c.len() {
-        mark_from(words, counts, used, index, Row(c[j]), notes);
-        j += 1;
+    for row in c {
+        mark_from(words, counts, used, index, Row(*row), notes);
     }
 }
 
@@ -130,9 +128,7 @@ fn list_marked(words: &[u32], counts: &[u8], used: u16, index: &[u16], notes: &m
 {
     let last = 3 * (notes.len() / NOTE_WIDTH);
     let mut n = 0;
-    let mut i: u16 = 0;
-    while i + 1 < used {
-        i += 1;
+    for i in 1..used {
         if notes[last + i as usize] != 0 {
             let kid = hole_kid(words, counts, used, index, Row(i));
             n += 1;
@@ -151,9 +147,7 @@ fn find_runs(n: usize, notes: &mut [u16])
 {
     let z = notes.len() / NOTE_WIDTH;
     let mut end = n + 1;
-    let mut p = n + 1;
-    while p > 1 {
-        p -= 1;
+    for p in (1..=n).rev() {
         notes[2 * z + p] = end as u16;
         if notes[z + p] != (p - 1) as u16 {
             end = p;
@@ -170,10 +164,8 @@ fn find_tops(c: &[u16], notes: &[u16], tops: &mut [u16])
         TopsRead z c.now notes.now tops.new }
 {
     let last = 3 * (notes.len() / NOTE_WIDTH);
-    let mut j = 0;
-    while j < c.len() {
-        tops[j] = notes[last + c[j] as usize];
-        j += 1;
+    for (j, row) in c.iter().enumerate() {
+        tops[j] = notes[last + *row as usize];
     }
 }
 

@@ -1,6 +1,6 @@
 -- The hypothesis by its representatives: a state is told by the row of its representative, and 0 is none.
 -- Runs and verdicts are defined over the representatives alone; where they are those of rules (Ruled), the laws say that these are model's.
-use Rattle.std.specs.Prelude.{◌≡◌, Bool, ◌&&◌, ◌||◌, not, cond, List, [], ◌∷◌, map, ℕ, suc, ◌≤◌, ◌<◌, eqb, length, get_or, take, drop}
+use Rattle.std.specs.Prelude.{◌≡◌, Bool, ◌&&◌, ◌||◌, not, cond, List, [], ◌∷◌, map, ℕ, suc, ◌≤◌, ◌<◌, eqb, length, get_or, take, drop, Result, Ok, Err}
 use Rattle.std.proofs.Math.Option.{Option, none, some}
 use Rattle.model.specs.Limits.{most_rows, most_states}
 use Rattle.model.specs.Base.{In, Each, Distinct, among, place_of, top}
@@ -10,7 +10,7 @@ use Rattle.model.specs.Table.{answer_at, finals_of}
 use Rattle.model.specs.Entry.{store_of, answers_in}
 use Rattle.model.specs.declared.Verdict.{Verdict}
 use Rattle.table.specs.Answers.{state_at}
-use Rattle.table_verdict.specs.declared.Led.{Led}
+use Rattle.model.specs.declared.Row.{Row}
 
 -- THE REPRESENTATIVE of each transition, by the table of answers: of the first state with its row, 0 for none; rows that are no transition have 0
 pub record RepsBy (table : List ℕ) (m : ℕ) (places s t reps : List ℕ) : Type 0 where
@@ -29,25 +29,25 @@ abbrev pub rep_row : Store → (reps : List ℕ) → (row : ℕ) → ℕ
 rep_row x reps i = fold (rep_over x reps) 0 x i
 
 -- A RUN on a listed record, by a stack of representatives; it stops at the first symbol that finds none, and says its place
-abbrev pub go_on_by : (place rep : ℕ) → (ℕ → Led) → Led
-go_on_by p r next = cond (eqb r 0) (Led.Stuck p) (next r)
+abbrev pub go_on_by : (place rep : ℕ) → (ℕ → Result Row ℕ) → Result Row ℕ
+go_on_by p r next = cond (eqb r 0) (Err p) (next r)
 
-unfoldable pub run_by : Store → (reps : List ℕ) → (place : ℕ) → (symbols stack : List ℕ) → Led
-run_by x reps p [] [] = Led.Stuck p
-run_by x reps p [] (k ∷ ks) = Led.To (record { 0 = k })
+unfoldable pub run_by : Store → (reps : List ℕ) → (place : ℕ) → (symbols stack : List ℕ) → Result Row ℕ
+run_by x reps p [] [] = Err p
+run_by x reps p [] (k ∷ ks) = Ok (record { 0 = k })
 run_by x reps p (a ∷ xs) ks =
     go_on_by p (get_or reps (find_row x a (top (count_of x a) ks)) 0) (λ (r : ℕ). run_by x reps (suc p) xs (r ∷ drop (count_of x a) ks))
 
-abbrev pub led_list : Store → (reps symbols : List ℕ) → Led
+abbrev pub led_list : Store → (reps symbols : List ℕ) → Result Row ℕ
 led_list x reps xs = run_by x reps 0 xs []
 
 -- VERDICTS: by the answer of the representative, which is yes at a final state
 abbrev pub accepts_by : Store → (answers reps : List ℕ) → (row : ℕ) → Bool
 accepts_by x w reps i = not (eqb (rep_row x reps i) 0) && eqb (answer_at w (rep_row x reps i)) 2
 
-abbrev pub led_verdict : (answers : List ℕ) → Led → Verdict
-led_verdict w (Led.To k) = cond (eqb (answer_at w k.0) 2) Verdict.Accepted Verdict.NotFinal
-led_verdict w (Led.Stuck p) = Verdict.NoRule p
+abbrev pub led_verdict : (answers : List ℕ) → Result Row ℕ → Verdict
+led_verdict w (Ok k) = cond (eqb (answer_at w k.0) 2) Verdict.Accepted Verdict.NotFinal
+led_verdict w (Err p) = Verdict.NoRule p
 
 abbrev pub verdict_list_by : Store → (answers reps symbols : List ℕ) → Verdict
 verdict_list_by x w reps xs = led_verdict w (led_list x reps xs)
@@ -82,6 +82,6 @@ rep_of s none = 0
 rep_of s (some q) = get_or s q 0
 
 -- a run on a listed record: the representative of its state, or the place of the first symbol without a rule
-abbrev pub led_by : (s : List ℕ) → RunEnd → Led
-led_by s (gives q) = Led.To (record { 0 = get_or s q 0 })
-led_by s (stuck p) = Led.Stuck p
+abbrev pub led_by : (s : List ℕ) → RunEnd → Result Row ℕ
+led_by s (gives q) = Ok (record { 0 = get_or s q 0 })
+led_by s (stuck p) = Err p

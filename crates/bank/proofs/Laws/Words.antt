@@ -4,10 +4,10 @@ use mathlib.Core.Path.{◌≡◌, refl, sym, ap, ◌∙◌}
 use mathlib.Core.List.{List, [], ◌∷◌, ◌++◌, append_assoc, append-nil}
 use Prim.Native.Nat.{ℕ, zero, suc, ◌+◌, ◌*◌, ◌-◌, ◌/◌, ◌≤◌, ◌<◌}
 use native.Mathlib.Omega.{arith}
-use lib.ListN.{length, get_or, set, take, drop, replicate, length-append, length-drop, length-replicate, take-append-drop}
+use lib.ListN.{length, get_or, take, drop, replicate, length-append, length-drop, length-replicate, take-append-drop}
+use borrow.Rule.Slice.PartMut.{put_mid}
 use lib.Seq.{get_or-drop, get_or-take, drop-drop, get_or-append-add, sets-eq, length-sets, take_at, drop_at, length-take-le, ext_get_or, drop-append-le}
 use Rattle.model.specs.Limits.{row_width, most_children}
-use Rattle.model.specs.Base.{over}
 use Rattle.model.specs.Store.{Node, Store, Extends, hole_node, node, padded, used, node_at, symbol_at, kids_at, added}
 use Rattle.model.specs.Table.{answer_at}
 use Rattle.model.specs.Entry.{nodes_in, answers_in, row_words, store_of}
@@ -67,19 +67,14 @@ answer_in_law (suc n) (suc i) ws h =
     let e : row_width + (row_width * i + 1) ≡ row_width * suc i + 1 = omega arith in
     answer_in_law n i (drop row_width ws) (omega arith) ∙ get_or-drop row_width ws (row_width * i + 1) 0 ∙ ap (λ (k : ℕ). get_or ws k 0) e
 
--- a row's six words stored one after the other
-pub row_stored : {us vs xs ys zs rs : List ℕ} (ws : List ℕ) (i a : ℕ) (ps : List ℕ) → us ≡ set ws (row_width * i + 0) a → vs ≡ set us (row_width * i + 1) 0 →
-    xs ≡ set vs (row_width * i + 2) (get_or ps 0 0) → ys ≡ set xs (row_width * i + 3) (get_or ps 1 0) → zs ≡ set ys (row_width * i + 4) (get_or ps 2 0) →
-    rs ≡ set zs (row_width * i + 5) (get_or ps 3 0) → rs ≡ with_row ws i a ps
-row_stored ws i a ps h₀ h₁ h₂ h₃ h₄ h₅ =
+-- a row's six words stored in their part of the words
+pub row_stored : (ws : List ℕ) (i a : ℕ) (ps : List ℕ) → Within ws i →
+    put_mid (row_width * i) (row_width * i + row_width - row_width * i) ws (a ∷ 0 ∷ get_or ps 0 0 ∷ get_or ps 1 0 ∷ get_or ps 2 0 ∷ get_or ps 3 0 ∷ []) ≡ with_row ws i a ps
+row_stored ws i a ps within =
     let m : ℕ = row_width * i in
-    let e₀ : m + 0 ≡ m = omega arith in
-    let e₁ : m + 1 ≡ suc m = omega arith in
-    let e₂ : m + 2 ≡ suc (suc m) = omega arith in
-    let e₃ : m + 3 ≡ suc (suc (suc m)) = omega arith in
-    let e₄ : m + 4 ≡ suc (suc (suc (suc m))) = omega arith in
-    let e₅ : m + 5 ≡ suc (suc (suc (suc (suc m)))) = omega arith in
-    cc
+    let vs : List ℕ = a ∷ 0 ∷ get_or ps 0 0 ∷ get_or ps 1 0 ∷ get_or ps 2 0 ∷ get_or ps 3 0 ∷ [] in
+    let e : m + row_width - m ≡ row_width = omega arith in
+    ap (λ (k : ℕ). put_mid m k ws vs) e ∙ ap (λ (l : List ℕ). take m ws ++ (vs ++ l)) (drop-drop row_width m ws) ∙ sym (append_assoc (take m ws) vs (drop (m + row_width) ws)) ∙ sym (sets-eq vs ws m within)
 
 -- THE FIRST n ROWS, as they were
 abbrev pub SameRows : (words : List ℕ) → (n : ℕ) → (after : List ℕ) → Type 0
@@ -116,9 +111,6 @@ module _ (ws vs : List ℕ) (n : ℕ) (same : SameRows ws n vs) where
     nodes_kept =
         ext_get_or hole_node (nodes_in n vs) (nodes_in n ws) (length_nodes_in n vs ∙ sym (length_nodes_in n ws))
         (λ i u. node_kept [] i (omega (arith, length_nodes_in n vs)))
-
-    pub store_kept : (ns : List ℕ) → store_of vs ns n ≡ store_of ws ns n
-    store_kept ns = λ t. record { counts = ns; room = long t / row_width; nodes = nodes_kept t }
 
 -- ROWS WRITTEN behind the first n
 row_words_zeros : (ms : List Node) (k : ℕ) → row_words ms [] ≡ row_words ms (replicate k 0)
@@ -186,11 +178,6 @@ module _ (ws ns : List ℕ) (n : ℕ) (y : Store) (ext : Extends (store_of ws ns
 
   long_answers : length (answers_more ws n (used y)) ≡ used y
   long_answers = simp (length-append, length_answers_in, length-replicate) (omega (arith, more))
-
-  pub with_rows_over : with_rows ws n y ≡ over (row_words y.nodes (answers_more ws n (used y))) ws
-  with_rows_over =
-      let l = length_row_words y.nodes (answers_more ws n (used y)) four in
-      λ t. rows_answered t ++ drop (sym l t) ws
 
   pub length_with_rows : length (with_rows ws n y) ≡ length ws
   length_with_rows = simp (length-append, length-drop) (omega (arith, long_front, long_rest, more))
@@ -279,9 +266,6 @@ module _ (ws : List ℕ) (n a : ℕ) (ps : List ℕ) (within : Within ws n) wher
 
   pub symbol_written : symbol_in (with_row ws n a ps) n ≡ a
   symbol_written = at_word 0 (row_width * n) (omega arith)
-
-  pub answer_written : answer_in (with_row ws n a ps) n ≡ 0
-  answer_written = at_word 1 (row_width * n + 1) (omega arith)
 
   pub places_written : length ps ≡ 4 → places_in (with_row ws n a ps) n ≡ ps
   places_written l =

@@ -13,32 +13,15 @@ use lib.ListN.{length, get_or, take, drop, drop_of_length-le}
 use lib.Seq.{drop-cons, get_or-take, length-take-le}
 use Rattle.model.specs.Base.{all, same, count_true}
 use Rattle.model.specs.Store.{padded}
-use Rattle.model.proofs.Laws.Members.{all_fails, all_passes, all_ends}
 use Rattle.bank.specs.Rows.{kid_in, places_in}
 use Rattle.bank.specs.Bank.{one_further, place_code}
 use Rattle.bank.proofs.Laws.Children.{place_at}
-use Rattle.bank_t1.specs.Pass.{hole_by, unused_zero, kids_say, kids_in}
-use Rattle.bank_t1.specs.declared.Kids.{Kids}
+use Rattle.bank_t1.specs.Pass.{unused_zero, kids_say}
+use Rattle.std.proofs.Common.{Option, Some, None}
 
 -- UNUSED PLACES, from k on
 abbrev pub is_zero : ℕ → Bool
 is_zero v = eqb v 0
-
-module _ (ws : List ℕ) (i n k : ℕ) (left : all is_zero (drop k (places_in ws i)) ≡ unused_zero ws i n) where
-  pub zero_fails : k < 4 → (kid_in ws i k ≡ 0 → ⊥) → false ≡ unused_zero ws i n
-  zero_fails l z = all_fails is_zero (places_in ws i) k (unused_zero ws i n) left l (ap is_zero (place_at ws i k l) ∙ ne_eqb (kid_in ws i k) 0 z)
-
-  pub zero_passes : k < 4 → kid_in ws i k ≡ 0 → all is_zero (drop (k + 1) (places_in ws i)) ≡ unused_zero ws i n
-  zero_passes l z = all_passes is_zero (places_in ws i) k (unused_zero ws i n) left l (ap is_zero (place_at ws i k l) ∙ eq-eqb (kid_in ws i k) 0 z)
-
-  pub zero_ends : 4 ≤ k → true ≡ unused_zero ws i n
-  zero_ends l = all_ends is_zero (places_in ws i) k (unused_zero ws i n) left l
-
-pub unused_breaks : (ws hs : List ℕ) (i n : ℕ) → unused_zero ws i n ≡ false → Kids.Broken ≡ kids_in ws hs i n
-unused_breaks ws hs i n e = sym (rw e)
-
-pub unused_passes : (ws hs : List ℕ) (i n : ℕ) → unused_zero ws i n ≡ true → kids_say (hole_by hs) i 0 0 (take n (places_in ws i)) ≡ kids_in ws hs i n
-unused_passes ws hs i n e = sym (rw e)
 
 -- they are 0 exactly where the four places are the used ones padded
 self : (ws : List ℕ) (i k : ℕ) → eqb (kid_in ws i k) (kid_in ws i k) ≡ true
@@ -55,7 +38,7 @@ pads ws i (suc (suc (suc (suc (suc n))))) l = absurd (omega arith)
 
 -- CHILDREN: at place k of the first n, after a hole at h or none
 module _ (p : ℕ → Bool) (ws : List ℕ) (i n : ℕ) (few : n ≤ 4) (k h : ℕ) where
-  abbrev left : (place hole : ℕ) → Kids
+  abbrev left : (place hole : ℕ) → Option ℕ
   left m g = kids_say p i m g (drop m (take n (places_in ws i)))
 
   long : length (take n (places_in ws i)) ≡ n
@@ -65,18 +48,18 @@ module _ (p : ℕ → Bool) (ws : List ℕ) (i n : ℕ) (few : n ≤ 4) (k h : �
   kid_at l = get_or-take n (places_in ws i) k 0 l ∙ place_at ws i k (omega arith)
 
   step : k < n → left k h ≡
-      cond (ltb (kid_in ws i k) i) (cond (p (kid_in ws i k)) (cond (eqb h 0) (left (k + 1) (k + 1)) Kids.Broken) (left (k + 1) h)) Kids.Broken
+      cond (ltb (kid_in ws i k) i) (cond (p (kid_in ws i k)) (cond (eqb h 0) (left (k + 1) (k + 1)) None) (left (k + 1) h)) None
   unfolding kids_say
   step l =
       let e = add-one k in
       let f = kid_at l in
       ap (kids_say p i k h) (drop-cons (take n (places_in ws i)) k 0 (omega (arith, long))) ∙
-      (λ t. cond (ltb (f t) i) (cond (p (f t)) (cond (eqb h 0) (left (sym e t) (sym e t)) Kids.Broken) (left (sym e t) h)) Kids.Broken)
+      (λ t. cond (ltb (f t) i) (cond (p (f t)) (cond (eqb h 0) (left (sym e t) (sym e t)) None) (left (sym e t) h)) None)
 
-  pub late : k < n → i ≤ kid_in ws i k → left k h ≡ Kids.Broken
+  pub late : k < n → i ≤ kid_in ws i k → left k h ≡ None
   late l b = step l ∙ rw (le-ltb (kid_in ws i k) i b)
 
-  pub second : k < n → kid_in ws i k < i → p (kid_in ws i k) ≡ true → (h ≡ 0 → ⊥) → left k h ≡ Kids.Broken
+  pub second : k < n → kid_in ws i k < i → p (kid_in ws i k) ≡ true → (h ≡ 0 → ⊥) → left k h ≡ None
   second l b e z = step l ∙ rw (lt-ltb (kid_in ws i k) i b, e, ne_eqb h 0 z)
 
   pub hole_here : k < n → kid_in ws i k < i → p (kid_in ws i k) ≡ true → h ≡ 0 → left k h ≡ left (k + 1) (k + 1)
@@ -85,7 +68,7 @@ module _ (p : ℕ → Bool) (ws : List ℕ) (i n : ℕ) (few : n ≤ 4) (k h : �
   pub none_here : k < n → kid_in ws i k < i → p (kid_in ws i k) ≡ false → left k h ≡ left (k + 1) h
   none_here l b e = step l ∙ rw (lt-ltb (kid_in ws i k) i b, e)
 
-  pub said : n ≤ k → left k h ≡ Kids.Hole h
+  pub said : n ≤ k → left k h ≡ Some h
   unfolding kids_say
   said l = ap (kids_say p i k h) (drop_of_length-le (take n (places_in ws i)) {i = k} (omega (arith, long)))
 
@@ -121,31 +104,31 @@ module _ (p : ℕ → Bool) (i : ℕ) where
   holes ks = count_true (map p ks)
 
   -- after a child with a hole no second one
-  after_hole : (k g : ℕ) (ks : List ℕ) → kids_say p i k (suc g) ks ≡ cond (early ks && leb (holes ks) 0) (Kids.Hole (suc g)) Kids.Broken
+  after_hole : (k g : ℕ) (ks : List ℕ) → kids_say p i k (suc g) ks ≡ cond (early ks && leb (holes ks) 0) (Some (suc g)) None
   unfolding kids_say all count_true
   after_hole k g [] = refl
   after_hole k g (j ∷ js) = go (ltb j i) (p j) (after_hole (suc k) g js)
     where
-      go : (b c : Bool) → kids_say p i (suc k) (suc g) js ≡ cond (early js && leb (holes js) 0) (Kids.Hole (suc g)) Kids.Broken →
-          cond b (cond c (cond (eqb (suc g) 0) (kids_say p i (suc k) (suc k) js) Kids.Broken) (kids_say p i (suc k) (suc g) js)) Kids.Broken ≡
-          cond ((b && early js) && leb (cond c 1 0 + holes js) 0) (Kids.Hole (suc g)) Kids.Broken
+      go : (b c : Bool) → kids_say p i (suc k) (suc g) js ≡ cond (early js && leb (holes js) 0) (Some (suc g)) None →
+          cond b (cond c (cond (eqb (suc g) 0) (kids_say p i (suc k) (suc k) js) None) (kids_say p i (suc k) (suc g) js)) None ≡
+          cond ((b && early js) && leb (cond c 1 0 + holes js) 0) (Some (suc g)) None
       go false c h = refl
       go true true h = rw (ne_eqb (suc g) 0 (λ e. omega arith), lt-leb (1 + holes js) 0 (omega arith), and_false (early js))
       go true false h = h ∙ rw (zero-add (holes js))
 
-  before_hole : (k : ℕ) (ks : List ℕ) → kids_say p i k 0 ks ≡ cond (early ks && leb (holes ks) 1) (Kids.Hole (from_first k (place_code p ks))) Kids.Broken
+  before_hole : (k : ℕ) (ks : List ℕ) → kids_say p i k 0 ks ≡ cond (early ks && leb (holes ks) 1) (Some (from_first k (place_code p ks))) None
   unfolding kids_say all count_true place_code
   before_hole k [] = refl
   before_hole k (j ∷ js) = go (ltb j i) (p j) (before_hole (suc k) js)
     where
-      go : (b c : Bool) → kids_say p i (suc k) 0 js ≡ cond (early js && leb (holes js) 1) (Kids.Hole (from_first (suc k) (place_code p js))) Kids.Broken →
-          cond b (cond c (cond (eqb 0 0) (kids_say p i (suc k) (suc k) js) Kids.Broken) (kids_say p i (suc k) 0 js)) Kids.Broken ≡
-          cond ((b && early js) && leb (cond c 1 0 + holes js) 1) (Kids.Hole (from_first k (cond c 1 (one_further (place_code p js))))) Kids.Broken
+      go : (b c : Bool) → kids_say p i (suc k) 0 js ≡ cond (early js && leb (holes js) 1) (Some (from_first (suc k) (place_code p js))) None →
+          cond b (cond c (cond (eqb 0 0) (kids_say p i (suc k) (suc k) js) None) (kids_say p i (suc k) 0 js)) None ≡
+          cond ((b && early js) && leb (cond c 1 0 + holes js) 1) (Some (from_first k (cond c 1 (one_further (place_code p js))))) None
       go false c h = refl
       go true true h =
           let e : suc k ≡ suc (k + 0) = omega arith in
-          after_hole (suc k) k js ∙ (λ t. cond (early js && one_more (holes js) t) (Kids.Hole (e t)) Kids.Broken)
-      go true false h = h ∙ (λ t. cond (early js && leb (sym (zero-add (holes js)) t) 1) (Kids.Hole (further k (place_code p js) t)) Kids.Broken)
+          after_hole (suc k) k js ∙ (λ t. cond (early js && one_more (holes js) t) (Some (e t)) None)
+      go true false h = h ∙ (λ t. cond (early js && leb (sym (zero-add (holes js)) t) 1) (Some (further k (place_code p js) t)) None)
 
-  pub kids_say_law : (ks : List ℕ) → kids_say p i 0 0 ks ≡ cond (early ks && leb (holes ks) 1) (Kids.Hole (place_code p ks)) Kids.Broken
-  kids_say_law ks = before_hole 0 ks ∙ (λ t. cond (early ks && leb (holes ks) 1) (Kids.Hole (from_zero (place_code p ks) t)) Kids.Broken)
+  pub kids_say_law : (ks : List ℕ) → kids_say p i 0 0 ks ≡ cond (early ks && leb (holes ks) 1) (Some (place_code p ks)) None
+  kids_say_law ks = before_hole 0 ks ∙ (λ t. cond (early ks && leb (holes ks) 1) (Some (from_zero (place_code p ks) t)) None)

@@ -1,14 +1,13 @@
 -- The pass over the used rows: before row i the earlier rows have passed, are indexed and marked, and the rows from i on decide.
 -- One row more: its tests, its twin, its place in the index and its mark.
-use mathlib.Core.Path.{◌≡◌, refl, sym, ap, subst, ◌∙◌}
+use mathlib.Core.Path.{◌≡◌, refl, sym, ap, ◌∙◌}
 use mathlib.Core.Bool.{Bool, true, false, ◌&&◌, not}
 use mathlib.Core.List.{List, []}
-use Prim.Native.Nat.{ℕ, suc, ◌+◌, ◌*◌, ◌/◌, ◌-◌, ◌≤◌, ◌<◌}
+use Prim.Native.Nat.{ℕ, suc, ◌+◌, ◌*◌, ◌-◌, ◌≤◌, ◌<◌}
 use native.Mathlib.Omega.{arith}
 use lib.Dec.{leb, eqb}
 use borrow.Author.Tests.{leb-true, eq-eqb, ne_eqb}
-use lib.ListN.{length, get_or, set, take, drop, length-set, get_or-eq_default}
-use lib.Seq.{get_or-set_same, get_or-set_other}
+use lib.ListN.{length, get_or, take, drop, get_or-eq_default}
 use Rattle.model.specs.Limits.{row_width, most_symbols, most_children, hole_symbol}
 use Rattle.model.specs.Base.{none_below, is_in, all}
 use Rattle.model.specs.Store.{Node, Store, symbol_at, count_of, node_at, kids_at, has_hole, find_from}
@@ -18,10 +17,10 @@ use Rattle.model.proofs.Laws.FirstRows.{nodes_first}
 use Rattle.model.proofs.Laws.ReflectRows.{counts_at, hole_of_law}
 use Rattle.model.proofs.Laws.Tests.{both_true, by_equal}
 use Rattle.bank.specs.Rows.{symbol_in, answer_in, places_in, node_in}
-use Rattle.bank.specs.Index.{size_in, head_of, Roomy, Finding, find_in, Seat, entered}
+use Rattle.bank.specs.Index.{size_in, Roomy, Finding, find_in, Seat, entered}
 use Rattle.bank.specs.Bank.{place_code}
 use Rattle.bank_t1.specs.Pass.{Cleared, Reached, Begun, row_says, rows_pass, Marked}
-use Rattle.bank_t1.specs.declared.Kids.{Kids}
+use Rattle.std.proofs.Common.{Some, None}
 use Rattle.bank.proofs.Laws.Words.{symbol_in_law, places_in_law}
 use Rattle.bank.proofs.Laws.Trees.{indexed_none, finding_more, length_entered, holes_kept, hole_entered}
 use Rattle.bank_t1.proofs.Laws.Row.{told_broken, told_hole, earlier_more}
@@ -29,19 +28,6 @@ use Rattle.bank_t1.proofs.Laws.Row.{told_broken, told_hole, earlier_more}
 -- ROOM goes by the length
 pub roomy_same : {ws xs : List ℕ} (ys : List ℕ) → Roomy ws xs → length ys ≡ length xs → Roomy ws ys
 roomy_same ys r e = record { some = omega (arith, r.some); few = omega (arith, r.few); long = omega (arith, r.long) }
-
--- AN INDEX cleared: heads one after the other, and then the mark of row 0
-pub cleared_more : (xs : List ℕ) (z h : ℕ) → head_of z h < length xs → ((g : ℕ) → g < h → get_or xs (head_of z g) 0 ≡ 0) → (g : ℕ) → g < h + 1 → get_or (set xs (head_of z h) 0) (head_of z g) 0 ≡ 0
-cleared_more xs z h l m g u =
-    by_equal g h (λ e. rw e (get_or-set_same xs (head_of z h) 0 0 l)) (λ e. get_or-set_other xs (head_of z h) (head_of z g) 0 0 (λ p. e (omega arith)) ∙ m g (omega arith))
-
-pub cleared : (xs ys : List ℕ) → length ys ≡ length xs → 0 < size_in xs → ((h : ℕ) → h < 2 * size_in xs → get_or ys (head_of (size_in xs) h) 0 ≡ 0) → Cleared (set ys 2 0)
-cleared xs ys l s z =
-    let e : size_in (set ys 2 0) ≡ size_in xs = ap (λ (k : ℕ). k / 5) (length-set ys 2 0 ∙ l) in
-    record {
-      empty = λ h u. subst (λ (m : ℕ). get_or (set ys 2 0) (head_of m h) 0 ≡ 0) (sym e) (get_or-set_other ys 2 (head_of (size_in xs) h) 0 0 (λ p. omega arith) ∙ z h (omega (arith, e)));
-      unmarked = get_or-set_same ys 2 0 0 (omega arith);
-    }
 
 -- THE INVARIANT before row i
 pub record Passing (words counts : List ℕ) (n : ℕ) (index : List ℕ) (i : ℕ) : Type 0 where
@@ -134,10 +120,10 @@ module _ (ws ns : List ℕ) (n : ℕ) where
     step : ((fits && not (not (eqb twin 0))) && rest i) ≡ rows_pass ws ns n
     step = sym (ap (λ (b : Bool). (fits && not b) && rest i) (twin_is s.reached.room i u)) ∙ sym (rows_step i u) ∙ s.decides
 
-    pub breaks : Kids.Broken ≡ row_says ws ns n i → rows_pass ws ns n ≡ false
+    pub breaks : None ≡ row_says ws ns n i → rows_pass ws ns n ≡ false
     breaks e = sym step ∙ ap (λ (b : Bool). (b && not (not (eqb twin 0))) && rest i) (told_broken fits code e)
 
-    module _ {h : ℕ} (e : Kids.Hole h ≡ row_says ws ns n i) where
+    module _ {h : ℕ} (e : Some h ≡ row_says ws ns n i) where
       fitting : fits ≡ true
       fitting = (told_hole fits code h e).0
 

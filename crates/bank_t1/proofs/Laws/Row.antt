@@ -20,7 +20,7 @@ use Rattle.model.proofs.Laws.Tests.{both_true, by_equal}
 use Rattle.bank.specs.Rows.{symbol_in, answer_in, places_in}
 use Rattle.bank.specs.Bank.{one_further, place_code, Holed}
 use Rattle.bank_t1.specs.Pass.{hole_by, unused_zero, kids_say, kids_in, row_says, Reached}
-use Rattle.bank_t1.specs.declared.Kids.{Kids}
+use Rattle.std.proofs.Common.{Option, Some, None}
 use Rattle.bank.proofs.Laws.Words.{symbol_in_law, places_in_law, kids_in_law, answer_in_law}
 use Rattle.bank_t1.proofs.Laws.Kids.{pads, and_false, kids_say_law}
 
@@ -56,27 +56,27 @@ module _ (x : Store) (ws hs : List ℕ) (i n : ℕ) (marks : (j : ℕ) → j < i
   abbrev early : Bool
   early = all (λ (j : ℕ). ltb j i) kids
 
-  kids_mean : kids_in ws hs i n ≡ cond ((unused_zero ws i n && early) && leb (holes_in x kids) 1) (Kids.Hole (place_code (has_hole x) kids)) Kids.Broken
+  kids_mean : kids_in ws hs i n ≡ cond ((unused_zero ws i n && early) && leb (holes_in x kids) 1) (Some (place_code (has_hole x) kids)) None
   kids_mean = go (unused_zero ws i n) early refl
     where
       go : (u b : Bool) → early ≡ b →
-          cond u (kids_say (hole_by hs) i 0 0 kids) Kids.Broken ≡ cond ((u && b) && leb (holes_in x kids) 1) (Kids.Hole (place_code (has_hole x) kids)) Kids.Broken
+          cond u (kids_say (hole_by hs) i 0 0 kids) None ≡ cond ((u && b) && leb (holes_in x kids) 1) (Some (place_code (has_hole x) kids)) None
       go false b e = refl
       go true false e =
           kids_say_law (hole_by hs) i kids ∙
-          ap (λ (b : Bool). cond (b && leb (count_true (map (hole_by hs) kids)) 1) (Kids.Hole (place_code (hole_by hs) kids)) Kids.Broken) e
+          ap (λ (b : Bool). cond (b && leb (count_true (map (hole_by hs) kids)) 1) (Some (place_code (hole_by hs) kids)) None) e
       go true true e =
           let b = below_of i kids e in
           let c = map_below (hole_by hs) (has_hole x) i marks b in
           let d = code_below (hole_by hs) (has_hole x) i marks b in
-          kids_say_law (hole_by hs) i kids ∙ (λ t. cond (e t && leb (count_true (c t)) 1) (Kids.Hole (d t)) Kids.Broken)
+          kids_say_law (hole_by hs) i kids ∙ (λ t. cond (e t && leb (count_true (c t)) 1) (Some (d t)) None)
 
 -- what was told, read back
-pub told_broken : (b : Bool) (c : ℕ) → Kids.Broken ≡ cond b (Kids.Hole c) Kids.Broken → b ≡ false
+pub told_broken : (b : Bool) (c : ℕ) → None ≡ cond b (Some c) None → b ≡ false
 told_broken true c e = let z : ◌≡◌ {A = ℕ} 0 1 = cc in absurd (omega arith)
 told_broken false c e = refl
 
-pub told_hole : (b : Bool) (c h : ℕ) → Kids.Hole h ≡ cond b (Kids.Hole c) Kids.Broken → (b ≡ true) × (h ≡ c)
+pub told_hole : (b : Bool) (c h : ℕ) → Some h ≡ cond b (Some c) None → (b ≡ true) × (h ≡ c)
 told_hole true c h e = (refl, cc)
 told_hole false c h e = let z : ◌≡◌ {A = ℕ} 0 1 = cc in absurd (omega arith)
 
@@ -120,10 +120,10 @@ module _ {ws ns : List ℕ} {n : ℕ} {hs : List ℕ} {i : ℕ} (r : Reached ws 
       (λ t. ((ltb (a t) (length ns) && same (p t) (padded (k t))) && all (λ (j : ℕ). ltb j i) (k t)) && leb (holes_in x (k t)) 1) ∙
       ap (λ (b : Bool). ((ltb (symbol_in ws i) (length ns) && b) && all (λ (j : ℕ). ltb j i) kids_read) && leb (holes_in x kids_read) 1) (pads ws i count small)
 
-  kids_tell : symbol_in ws i < length ns → kids_in ws hs i (get_or ns (symbol_in ws i) 0) ≡ cond (node_fits (store_of ws ns n) i) (Kids.Hole code) Kids.Broken
+  kids_tell : symbol_in ws i < length ns → kids_in ws hs i (get_or ns (symbol_in ws i) 0) ≡ cond (node_fits (store_of ws ns n) i) (Some code) None
   kids_tell l =
       let e = node_test_law ∙ ap node_test (lt-ltb (symbol_in ws i) (length ns) l) in
-      kids_mean x ws hs i count (mark_is x hs i r.earlier r.holed) ∙ sym (λ t. cond (e t) (Kids.Hole (place_code (has_hole x) (kids_are t))) Kids.Broken)
+      kids_mean x ws hs i count (mark_is x hs i r.earlier r.holed) ∙ sym (λ t. cond (e t) (Some (place_code (has_hole x) (kids_are t))) None)
 
   -- with it the first rows are one more
   abbrev node_head : Bool
@@ -145,26 +145,26 @@ module _ {ws ns : List ℕ} {n : ℕ} {hs : List ℕ} {i : ℕ} (r : Reached ws 
   answer_is = answer_in_law n i ws u
 
   -- WHAT IT SAYS
-  abbrev says : (node answer : Bool) → Kids
-  says b c = cond (b && c) (Kids.Hole code) Kids.Broken
+  abbrev says : (node answer : Bool) → Option ℕ
+  says b c = cond (b && c) (Some code) None
 
   abbrev answer_test : Bool
   answer_test = answer_fits (store_of ws ns n) (answers_in n ws) i
 
-  pub says_unknown : length ns ≤ symbol_in ws i → Kids.Broken ≡ row_says ws ns n i
+  pub says_unknown : length ns ≤ symbol_in ws i → None ≡ row_says ws ns n i
   says_unknown l = let e = node_test_law ∙ ap node_test (le-ltb (symbol_in ws i) (length ns) l) in sym (ap (λ (b : Bool). says b answer_test) e)
 
-  pub says_answered : 2 < answer_in ws i → Kids.Broken ≡ row_says ws ns n i
+  pub says_answered : 2 < answer_in ws i → None ≡ row_says ws ns n i
   says_answered l =
       let a : leb (answer_at (answers_in n ws) i) 2 ≡ false = lt-leb (answer_at (answers_in n ws) i) 2 (omega (arith, answer_is)) in
       let c : answer_test ≡ false = ap (λ (b : Bool). b && (not (has_hole x i) || eqb (answer_at (answers_in n ws) i) 0)) a in
-      sym (ap (λ (b : Bool). says (node_fits x i) b) c ∙ ap (λ (b : Bool). cond b (Kids.Hole code) Kids.Broken) (and_false (node_fits x i)))
+      sym (ap (λ (b : Bool). says (node_fits x i) b) c ∙ ap (λ (b : Bool). cond b (Some code) None) (and_false (node_fits x i)))
 
   module _ (known : symbol_in ws i < length ns) where
-    pub says_broken : Kids.Broken ≡ kids_in ws hs i (get_or ns (symbol_in ws i) 0) → Kids.Broken ≡ row_says ws ns n i
+    pub says_broken : None ≡ kids_in ws hs i (get_or ns (symbol_in ws i) 0) → None ≡ row_says ws ns n i
     says_broken e = sym (ap (λ (b : Bool). says b answer_test) (told_broken (node_fits x i) code (e ∙ kids_tell known)))
 
-    module _ (fine : answer_in ws i ≤ 2) (h : ℕ) (e : Kids.Hole h ≡ kids_in ws hs i (get_or ns (symbol_in ws i) 0)) where
+    module _ (fine : answer_in ws i ≤ 2) (h : ℕ) (e : Some h ≡ kids_in ws hs i (get_or ns (symbol_in ws i) 0)) where
       told : (node_fits (store_of ws ns n) i ≡ true) × (h ≡ code)
       told = told_hole (node_fits x i) code h (e ∙ kids_tell known)
 
@@ -175,16 +175,16 @@ module _ {ws ns : List ℕ} {n : ℕ} {hs : List ℕ} {i : ℕ} (r : Reached ws 
           (λ t. a t && (not (hole_is told.0 t) || eqb (answer_is t) 0)) ∙ ap (λ (c : ℕ). not (not (eqb c 0)) || eqb (answer_in ws i) 0) (sym told.1) ∙
           ap (λ (b : Bool). b || eqb (answer_in ws i) 0) (not_not (eqb h 0))
 
-      pub says_blotted : (h ≡ 0 → ⊥) → (answer_in ws i ≡ 0 → ⊥) → Kids.Broken ≡ row_says ws ns n i
+      pub says_blotted : (h ≡ 0 → ⊥) → (answer_in ws i ≡ 0 → ⊥) → None ≡ row_says ws ns n i
       says_blotted p q =
           let f = answer_test_law ∙ (λ t. ne_eqb h 0 p t || ne_eqb (answer_in ws i) 0 q t) in
           sym (λ t. says (told.0 t) (f t))
 
-      says_fits : (eqb h 0 || eqb (answer_in ws i) 0) ≡ true → Kids.Hole h ≡ row_says ws ns n i
-      says_fits q = ap Kids.Hole told.1 ∙ sym (λ t. says (told.0 t) ((answer_test_law ∙ q) t))
+      says_fits : (eqb h 0 || eqb (answer_in ws i) 0) ≡ true → Some h ≡ row_says ws ns n i
+      says_fits q = ap Some told.1 ∙ sym (λ t. says (told.0 t) ((answer_test_law ∙ q) t))
 
-      pub says_record : h ≡ 0 → Kids.Hole h ≡ row_says ws ns n i
+      pub says_record : h ≡ 0 → Some h ≡ row_says ws ns n i
       says_record p = says_fits (ap (λ (b : Bool). b || eqb (answer_in ws i) 0) (eq-eqb h 0 p))
 
-      pub says_blank : answer_in ws i ≡ 0 → Kids.Hole h ≡ row_says ws ns n i
+      pub says_blank : answer_in ws i ≡ 0 → Some h ≡ row_says ws ns n i
       says_blank p = says_fits (ap (λ (b : Bool). eqb h 0 || b) (eq-eqb (answer_in ws i) 0 p) ∙ or_true (eqb h 0))

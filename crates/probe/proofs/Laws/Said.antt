@@ -1,6 +1,6 @@
 -- What is said of rows added: refused where a test fails, and where all hold how adding ended.
 use mathlib.Core.Path.{◌≡◌, refl, sym, ap, subst, ◌∙◌}
-use mathlib.Core.Bool.{Bool, true, false, ◌&&◌, cond}
+use mathlib.Core.Bool.{Bool, true, false, ◌&&◌}
 use mathlib.Core.List.{List, []}
 use Prim.Native.Nat.{ℕ, ◌≤◌, ◌<◌}
 use native.Mathlib.Omega.{arith}
@@ -14,7 +14,7 @@ use Rattle.std.specs.Prelude.{Option}
 use Rattle.bank_fill.specs.declared.add.Added.{Added}
 use Rattle.bank_fill.proofs.Laws.Coming.{Comes}
 use Rattle.probe.specs.declared.Reply.{Reply}
-use Rattle.probe.specs.Probed.{is_passed, said, said_of, Said, SaidIf, is_fillable, FilledReady, Filled, is_listed, StoredReady, Stored}
+use Rattle.probe.specs.Probed.{said, said_of, Said, SaidIf, is_fillable, FilledReady, is_listed, StoredReady}
 
 -- BEHIND A TEST
 module _ (ws : List ℕ) (n : ℕ) (b : Built) (r : Reply) (ws' : List ℕ) where
@@ -23,12 +23,6 @@ module _ (ws : List ℕ) (n : ℕ) (b : Built) (r : Reply) (ws' : List ℕ) wher
 
   pub said_so : (t : Bool) → t ≡ true → Said ws n b r ws' → SaidIf t ws n b r ws'
   said_so t e s = subst (λ (a : Bool). SaidIf a ws n b r ws') (sym e) s
-
-  pub said_behind : (s t : Bool) → s ≡ true → SaidIf t ws n b r ws' → SaidIf (s && t) ws n b r ws'
-  said_behind s t e w = subst (λ (a : Bool). SaidIf (a && t) ws n b r ws') (sym e) w
-
-  pub said_before : (s t : Bool) → s ≡ false → r ≡ said 2 0 0 → ws' ≡ ws → SaidIf (s && t) ws n b r ws'
-  said_before s t e p q = subst (λ (a : Bool). SaidIf (a && t) ws n b r ws') (sym e) (p, q)
 
 -- WHAT ADDING CAME TO, as numbers
 pub comes_said : {ws ns : List ℕ} {n : ℕ} {b : Built} {g : Option Added} {r : Reply} {ws' ix : List ℕ} → r ≡ said_of g → Comes ws ns n b g ws' ix → Said ws n b r ws'
@@ -73,15 +67,6 @@ module _ (ws ns : List ℕ) (n c i : ℕ) where
           (context ∙ lt-ltb i (used (store_of ws ns n)) (omega arith))
           (comes_said p k)
 
-module _ (ws ns : List ℕ) (n c i : ℕ) (r : Reply) where
-  pub filled_not : is_passed ws ns n ≡ false → r ≡ said 2 0 0 → Filled ws ns n c i r ws
-  filled_not e p =
-      said_before ws n (fill (store_of ws ns n) (frames_of (store_of ws ns n) c) i) r ws (is_passed ws ns n) (is_fillable (store_of ws ns n) c i) e p refl
-
-  pub filled_passed : (ws' : List ℕ) → is_passed ws ns n ≡ true → FilledReady ws ns n c i r ws' → Filled ws ns n c i r ws'
-  filled_passed ws' e w =
-      said_behind ws n (fill (store_of ws ns n) (frames_of (store_of ws ns n) c) i) r ws' (is_passed ws ns n) (is_fillable (store_of ws ns n) c i) e w
-
 -- STORING: a listed record without a fault
 module _ (ws ns : List ℕ) (n : ℕ) (xs : List ℕ) where
   pub at_fault : (record_fault ns xs ≡ 0 → ⊥) → {r : Reply} → r ≡ said 2 0 0 → StoredReady ws ns n xs r ws
@@ -91,27 +76,3 @@ module _ (ws ns : List ℕ) (n : ℕ) (xs : List ℕ) where
       Comes ws ns n (store_from (store_of ws ns n) xs []) g ws' ix → StoredReady ws ns n xs r ws'
   stored e {r = r} {ws' = ws'} p k =
       said_so ws n (store_from (store_of ws ns n) xs []) r ws' (is_listed ns xs) (eq-eqb (record_fault ns xs) 0 e) (comes_said p k)
-
-module _ (ws ns : List ℕ) (n : ℕ) (xs : List ℕ) (r : Reply) where
-  pub stored_not : is_passed ws ns n ≡ false → r ≡ said 2 0 0 → Stored ws ns n xs r ws
-  stored_not e p = said_before ws n (store_from (store_of ws ns n) xs []) r ws (is_passed ws ns n) (is_listed ns xs) e p refl
-
-  pub stored_passed : (ws' : List ℕ) → is_passed ws ns n ≡ true → StoredReady ws ns n xs r ws' → Stored ws ns n xs r ws'
-  stored_passed ws' e w = said_behind ws n (store_from (store_of ws ns n) xs []) r ws' (is_passed ws ns n) (is_listed ns xs) e w
-
--- A NUMBER behind one test and behind two
-module _ (v : ℕ) where
-  pub number_not : (t : Bool) → t ≡ false → 0 ≡ cond t v 0
-  number_not t e = sym (ap (λ (b : Bool). cond b v 0) e)
-
-  pub number_so : (t : Bool) → t ≡ true → (m : ℕ) → m ≡ v → m ≡ cond t v 0
-  number_so t e m p = p ∙ sym (ap (λ (b : Bool). cond b v 0) e)
-
-  pub number_before : (s t : Bool) → s ≡ false → 0 ≡ cond (s && t) v 0
-  number_before s t e = sym (ap (λ (b : Bool). cond (b && t) v 0) e)
-
-  pub number_between : (s t : Bool) → s ≡ true → t ≡ false → 0 ≡ cond (s && t) v 0
-  number_between s t e f = sym (λ i. cond (e i && f i) v 0)
-
-  pub number_behind : (s t : Bool) → s ≡ true → t ≡ true → (m : ℕ) → m ≡ v → m ≡ cond (s && t) v 0
-  number_behind s t e f m p = p ∙ sym (λ i. cond (e i && f i) v 0)

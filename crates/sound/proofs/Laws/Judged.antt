@@ -31,11 +31,10 @@ use Rattle.table_verdict.proofs.Laws.States.{reps_ruled}
 use Rattle.table_verdict.proofs.Laws.Verdict.{accepts_row_is}
 use Rattle.table_verdict.proofs.Laws.Tied.{Covers, covers_shaped, RepsOf, reps_tied, ruled_tied, hypothesis_tied}
 use Rattle.bank_t1.specs.Pass.{hole_by}
-use Rattle.sound.proofs.Laws.Parts.{and_assoc}
+use Rattle.sound.proofs.Laws.Parts.{and_assoc, and_false}
 use Rattle.sound.specs.Given.{given, roles_fit, few_fit, table_fits, question_fits}
 use Rattle.sound.specs.Working.{Counted, Working, prepared_fit, judged_fit, hand_fits}
 use Rattle.sound.proofs.Laws.Prepared.{two, three, four}
-use Rattle.sound.proofs.Laws.Hand.{and_false}
 
 module _ {ws ns : List ℕ} {u : ℕ} {s : List ℕ} {q : ℕ} {t : List ℕ} {n : ℕ} {c : List ℕ} {m : ℕ} {index table notes : List ℕ} (a : Counted s q t n c m)
     (w : Working ws ns u s q t n c m index table notes) where

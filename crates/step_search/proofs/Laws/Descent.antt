@@ -3,7 +3,7 @@
 use mathlib.Core.Path.{◌≡◌, refl, sym, ap, subst, ◌∙◌}
 use mathlib.Core.Bool.{Bool}
 use mathlib.Core.List.{List}
-use Prim.Native.Nat.{ℕ, suc, ◌+◌, ◌-◌, ◌≤◌, ◌<◌}
+use Prim.Native.Nat.{ℕ, suc, ◌+◌, ◌≤◌, ◌<◌}
 use native.Mathlib.Omega.{arith}
 use native.Mathlib.Decide.{ℕ_discrete}
 use lib.ListN.{length, get_or, set, length-set}
@@ -41,22 +41,22 @@ module _ (p : ℕ → Bool) (reps : List ℕ) (x : Store) (g : Good x) (i : ℕ)
       let d = (step_some p x g i k u e).is_under in
       record { spot_is = t.spot_is ∙ ap (λ (s : Spot). s.row) (sym d); row_is = ap (next_row x (frame_at x i k)) t.row_is ∙ ap became (sym d) }
 
--- by the words: the code, other than 0, names a place that the row has, and the child there has its turn already
+-- by the words: a code other than 0 names a place that the row has, and the child there has its turn already
 module _ {ws ns : List ℕ} {n : ℕ} {ix : List ℕ} (r : Bank ws ns n ix) (p : ℕ → Bool) (i : ℕ) (u : 0 < i) (l : i < n)
-    (code : ℕ) (e : code ≡ place_code p (kids_at (store_of ws ns n) i)) (z : code ≡ 0 → ⊥) where
-  names : place_code p (kids_at (store_of ws ns n) i) ≡ suc (code - 1)
+    (k : ℕ) (e : k + 1 ≡ place_code p (kids_at (store_of ws ns n) i)) where
+  names : place_code p (kids_at (store_of ws ns n) i) ≡ suc k
   names = omega arith
 
-  pub place_has : code - 1 < length (kids_at (store_of ws ns n) i)
-  place_has = (step_some p (store_of ws ns n) r.good i (code - 1) (row_used (bank_stored r) i l) names).within
+  pub place_has : k < length (kids_at (store_of ws ns n) i)
+  place_has = (step_some p (store_of ws ns n) r.good i k (row_used (bank_stored r) i l) names).within
 
-  pub turn_above : {reps at ex : List ℕ} → TurnsBy p reps (store_of ws ns n) at ex i → (kid : ℕ) → kid ≡ kid_in ws i (code - 1) → (row : ℕ) →
-      row ≡ next_row (store_of ws ns n) (frame_at (store_of ws ns n) i (code - 1)) (get_or ex kid 0) → TurnIs p reps (store_of ws ns n) i (get_or at kid 0) row
+  pub turn_above : {reps at ex : List ℕ} → TurnsBy p reps (store_of ws ns n) at ex i → (kid : ℕ) → kid ≡ kid_in ws i k → (row : ℕ) →
+      row ≡ next_row (store_of ws ns n) (frame_at (store_of ws ns n) i k) (get_or ex kid 0) → TurnIs p reps (store_of ws ns n) i (get_or at kid 0) row
   turn_above {reps} {at} {ex} d kid q row v =
-      let b = word_early (bank_stored r) i l u (code - 1) place_has in
-      let w : kid ≡ get_or (kids_at (store_of ws ns n) i) (code - 1) 0 = q ∙ row_kid (bank_stored r) i l u (code - 1) place_has in
+      let b = word_early (bank_stored r) i l u k place_has in
+      let w : kid ≡ get_or (kids_at (store_of ws ns n) i) k 0 = q ∙ row_kid (bank_stored r) i l u k place_has in
       let t : TurnIs p reps (store_of ws ns n) kid (get_or at kid 0) (get_or ex kid 0) = record { spot_is = d.at_is kid (omega arith); row_is = d.exchanged_is kid (omega arith) } in
-      let c = turn_inner p reps (store_of ws ns n) r.good i (code - 1) (row_used (bank_stored r) i l) names (get_or at kid 0) (get_or ex kid 0)
+      let c = turn_inner p reps (store_of ws ns n) r.good i k (row_used (bank_stored r) i l) names (get_or at kid 0) (get_or ex kid 0)
       (subst (λ (j : ℕ). TurnIs p reps (store_of ws ns n) j (get_or at kid 0) (get_or ex kid 0)) w t) in
       record { spot_is = c.spot_is; row_is = v ∙ c.row_is }
 

@@ -1,10 +1,11 @@
 -- One transition's row of answers: its column is filled over the needed rows and read at the positions of C's members.
 -- What the column is filled with stays for the next transition.
-use mathlib.Core.Path.{◌≡◌, sym, ap, subst}
+use mathlib.Core.Path.{◌≡◌, sym, ap, subst, ◌∙◌}
 use mathlib.Core.List.{List}
 use Prim.Native.Nat.{ℕ, ◌+◌, ◌/◌, ◌≤◌}
 use native.Mathlib.Omega.{arith}
 use lib.ListN.{length, take}
+use lib.Seq.{sets}
 use Rattle.model.specs.Table.{answers_of}
 use Rattle.model.specs.Entry.{store_of, answers_in}
 use Rattle.bank.specs.Notes.{room_in}
@@ -28,5 +29,10 @@ module _ (ws ns : List ℕ) (u : ℕ) {ix c us vs : List ℕ} {n : ℕ} {tops : 
   pub tops_fill : UsedAt u (room_in vs) vs (take (length c) tops)
   tops_fill = tops_used ws ns u column next.tops enough
 
-  pub row_answers : column_answers ws (room_in vs) vs (take (length c) tops) ≡ answers_of (store_of ws ns u) (answers_in u ws) (take (length c) c) row
+  row_answers : column_answers ws (room_in vs) vs (take (length c) tops) ≡ answers_of (store_of ws ns u) (answers_in u ws) (take (length c) c) row
   row_answers = column_answers_law ws ns u column next.tops enough
+
+  -- read into the table
+  pub row_read : (old : List ℕ) {new : List ℕ} (at : ℕ) → new ≡ sets old at (column_answers ws (room_in vs) vs (take (length c) tops)) →
+      new ≡ sets old at (answers_of (store_of ws ns u) (answers_in u ws) (take (length c) c) row)
+  row_read old at e = e ∙ ap (sets old at) row_answers

@@ -1,6 +1,6 @@
 -- Marks of rows in the last column of the notes: cleared, set at the members of C, and set at the hole children of marked rows.
 -- A mark set leaves the other marks, so marked rows stay marked.
-use mathlib.Core.Path.{◌≡◌, refl, sym, ap, ◌∙◌}
+use mathlib.Core.Path.{◌≡◌, sym, ap, ◌∙◌}
 use mathlib.Core.List.{List}
 use Prim.Native.Nat.{ℕ, ◌+◌, ◌*◌, ◌≤◌, ◌<◌}
 use native.Mathlib.Omega.{arith}
@@ -17,20 +17,6 @@ use Rattle.table_columns.specs.Notes.{row_note, mark_note, Cleared, MembersMarke
 use Rattle.table_columns.proofs.Laws.Frames.{kid_early, kid_hole, hole_marked, context_within, context_hole}
 
 -- CLEARED from one position up to another, one after another
-pub cleared_none : (z : ℕ) (ns : List ℕ) (from : ℕ) → Cleared z ns from from ns
-cleared_none z ns from = record { before = λ i l. refl; clear = λ i a b. absurd (omega arith) }
-
-pub cleared_more : {z : ℕ} {ns us : List ℕ} {from q : ℕ} → Cleared z ns from q us → from ≤ q → 3 * z + q < length us → Cleared z ns from (q + 1) (set us (3 * z + q) 0)
-cleared_more {z} {ns} {us} {from} {q} h o l =
-    record {
-      before = λ i a. get_or-set_other us (3 * z + q) i 0 0 (λ e. omega arith) ∙ h.before i a;
-      clear = λ i a b. by_equal i q (λ e. ap (λ (k : ℕ). get_or (set us (3 * z + q) 0) (3 * z + k) 0) e ∙ get_or-set_same us (3 * z + q) 0 0 l)
-          (λ e. get_or-set_other us (3 * z + q) (3 * z + i) 0 0 (λ s. e (omega arith)) ∙ h.clear i a (omega arith));
-    }
-
-pub cleared_end : {z : ℕ} {ns us : List ℕ} {from q : ℕ} → Cleared z ns from q us → (end : ℕ) → end ≤ q → Cleared z ns from end us
-cleared_end h end l = record { before = h.before; clear = λ i a b. h.clear i a (omega arith) }
-
 -- A MARK SET
 module _ (z : ℕ) (us : List ℕ) (k : ℕ) (fits : 3 * z + k < length us) where
   pub mark_own : (i : ℕ) → i ≡ k → mark_note z (set us (3 * z + k) 1) i ≡ 1

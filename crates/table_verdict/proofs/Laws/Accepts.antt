@@ -15,17 +15,17 @@ use Rattle.model.specs.Entry.{store_of, answers_in}
 use Rattle.model.specs.declared.Row.{Row}
 use Rattle.model.specs.declared.Verdict.{Verdict}
 use Rattle.model.proofs.Laws.Stack.{each_drop}
-use Rattle.bank.specs.Rows.{answer_in, Within}
+use Rattle.bank.specs.Rows.{answer_in}
 use Rattle.bank.specs.Index.{Finding}
 use Rattle.bank.proofs.Laws.Words.{answer_in_law}
 use Rattle.bank.proofs.Laws.Children.{find_used}
 use Rattle.table_verdict.specs.Rules.{RepsIn, rep_over, rep_row, run_by, led_list, accepts_by, led_verdict, verdict_list_by}
-use Rattle.table_verdict.specs.declared.Led.{Led}
+use Rattle.std.specs.Prelude.{Result, Ok, Err}
 
 -- where a run ends
-abbrev EndsIn : (n : ℕ) → Led → Type 0
-EndsIn n (Led.To k) = k.0 < n
-EndsIn n (Led.Stuck p) = Unit {0}
+abbrev EndsIn : (n : ℕ) → Result Row ℕ → Type 0
+EndsIn n (Ok k) = k.0 < n
+EndsIn n (Err p) = Unit {0}
 
 module _ {ws : List ℕ} (ns : List ℕ) {n : ℕ} {ix reps : List ℕ} (f : Finding ws n ix) (r : RepsIn n reps) where
   abbrev x : Store
@@ -37,9 +37,6 @@ module _ {ws : List ℕ} (ns : List ℕ) {n : ℕ} {ix reps : List ℕ} (f : Fin
   found_in : (a : ℕ) (ks : List ℕ) → get_or reps (find_row x a ks) 0 < n
   found_in a ks = r.within (find_row x a ks) (find_used f a (padded ks))
 
-  within : {k : ℕ} → k < n → Within ws k
-  within l = omega (arith, f.room)
-
   -- OF A STORED RECORD
   module _ (i : ℕ) where
     row_in : rep_row (store_of ws ns n) reps i < n
@@ -50,8 +47,8 @@ module _ {ws : List ℕ} (ns : List ℕ) {n : ℕ} {ix reps : List ℕ} (f : Fin
         go true l = omega (arith, f.some)
         go false l = l
 
-    pub row_lent : {k : ℕ} → k ≡ rep_row (store_of ws ns n) reps i → Within ws k
-    row_lent e = within (omega (arith, e, row_in))
+    pub row_low : {k : ℕ} → k ≡ rep_row (store_of ws ns n) reps i → k < n
+    row_low e = omega (arith, e, row_in)
 
     abbrev says : (rep : ℕ) → Bool
     says k = not (eqb k 0) && eqb (answer_at w k) 2
@@ -74,20 +71,17 @@ module _ {ws : List ℕ} (ns : List ℕ) {n : ℕ} {ix reps : List ℕ} (f : Fin
       go (eqb k 0) (run_by x reps (suc p) xs (k ∷ drop (count_of x a) ks))
       (run_in (suc p) xs (k ∷ drop (count_of x a) ks) (each_cons (found_in a (top (count_of x a) ks)) (each_drop (count_of x a) ks b)))
     where
-      go : (b : Bool) → (next : Led) → EndsIn n next → EndsIn n (cond b (Led.Stuck p) next)
+      go : (b : Bool) → (next : Result Row ℕ) → EndsIn n next → EndsIn n (cond b (Err p) next)
       go true next e = tt
       go false next e = e
 
   module _ (xs : List ℕ) where
-    list_in : (k : Row) → Led.To k ≡ led_list (store_of ws ns n) reps xs → k.0 < n
+    pub list_in : (k : Row) → Ok k ≡ led_list (store_of ws ns n) reps xs → k.0 < n
     list_in k e = subst (EndsIn n) (sym e) (run_in 0 xs [] each_nil)
 
-    pub list_lent : (k : Row) → Led.To k ≡ led_list (store_of ws ns n) reps xs → Within ws k.0
-    list_lent k e = within (list_in k e)
-
-    pub list_says : (k : Row) {v : Verdict} → Led.To k ≡ led_list (store_of ws ns n) reps xs → v ≡ cond (eqb (answer_in ws k.0) 2) Verdict.Accepted Verdict.NotFinal →
+    pub list_says : (k : Row) {v : Verdict} → Ok k ≡ led_list (store_of ws ns n) reps xs → v ≡ cond (eqb (answer_in ws k.0) 2) Verdict.Accepted Verdict.NotFinal →
         v ≡ verdict_list_by (store_of ws ns n) (answers_in n ws) reps xs
     list_says k e p = p ∙ ap (λ (v : ℕ). cond (eqb v 2) Verdict.Accepted Verdict.NotFinal) (sym (answer_in_law n k.0 ws (list_in k e))) ∙ ap (led_verdict w) e
 
-    pub list_stuck : (p : ℕ) → Led.Stuck p ≡ led_list (store_of ws ns n) reps xs → Verdict.NoRule p ≡ verdict_list_by (store_of ws ns n) (answers_in n ws) reps xs
+    pub list_stuck : (p : ℕ) → Err p ≡ led_list (store_of ws ns n) reps xs → Verdict.NoRule p ≡ verdict_list_by (store_of ws ns n) (answers_in n ws) reps xs
     list_stuck p e = ap (led_verdict w) e

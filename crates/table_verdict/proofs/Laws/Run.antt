@@ -17,7 +17,8 @@ use Rattle.model.proofs.Laws.Listed.{parts}
 use Rattle.bank_listed.specs.Listed.{stack_of}
 use Rattle.bank_listed.proofs.Laws.ArrayStack.{stack_push, stack_one}
 use Rattle.table_verdict.specs.Rules.{go_on_by, run_by}
-use Rattle.table_verdict.specs.declared.Led.{Led}
+use Rattle.std.specs.Prelude.{Result, Ok, Err}
+use Rattle.model.specs.declared.Row.{Row}
 
 -- BEFORE A SYMBOL, with `height` representatives on the stack
 pub record Running (counts xs st : List ℕ) (height at : ℕ) : Type 0 where
@@ -28,7 +29,7 @@ pub record Running (counts xs st : List ℕ) (height at : ℕ) : Type 0 where
   pub few : length xs ≤ most_listed
 
 -- what is left of the run
-abbrev pub left : Store → (reps xs st : List ℕ) → (height at : ℕ) → Led
+abbrev pub left : Store → (reps xs st : List ℕ) → (height at : ℕ) → Result Row ℕ
 left x reps xs st h at = run_by x reps at (drop at xs) (stack_of st h)
 
 pub running_start : (counts xs st : List ℕ) → Parses counts 0 xs → length st ≡ most_listed → length xs ≤ most_listed → Running counts xs st 0 0
@@ -82,7 +83,7 @@ module _ {ns xs st : List ℕ} {h at : ℕ} (r : Running ns xs st h at) where
     last : stack_of st h ≡ get_or st 0 0 ∷ []
     last = ap (stack_of st) (one_left (subst (Parses ns h) none_left r.parses)) ∙ stack_one st (omega arith)
 
-    pub run_ends : (x : Store) (reps : List ℕ) → left x reps xs st h at ≡ Led.To (record { 0 = get_or st 0 0 })
+    pub run_ends : (x : Store) (reps : List ℕ) → left x reps xs st h at ≡ Ok (record { 0 = get_or st 0 0 })
     unfolding run_by
     run_ends x reps = λ t. run_by x reps at (none_left t) (last t)
 
@@ -96,7 +97,7 @@ module _ (x : Store) (reps : List ℕ) {xs st : List ℕ} {h at : ℕ} (r : Runn
   abbrev found : ℕ
   found = get_or reps (find_row x letter (top n (stack_of st h))) 0
 
-  abbrev onward : ℕ → Led
+  abbrev onward : ℕ → Result Row ℕ
   onward k = run_by x reps (suc at) (drop (at + 1) xs) (k ∷ drop n (stack_of st h))
 
   run_next : left x reps xs st h at ≡ go_on_by at found onward
@@ -108,10 +109,10 @@ module _ (x : Store) (reps : List ℕ) {xs st : List ℕ} {h at : ℕ} (r : Runn
     goes : left x reps xs st h at ≡ go_on_by at k onward
     goes = run_next ∙ ap (λ (j : ℕ). go_on_by at j onward) (sym (its ∙ ap (λ (qs : List ℕ). get_or reps (find_places x letter qs) 0) are))
 
-    pub run_stuck : k ≡ 0 → left x reps xs st h at ≡ Led.Stuck at
-    run_stuck z = goes ∙ ap (λ (b : Bool). cond b (Led.Stuck at) (onward k)) (eq-eqb k 0 z)
+    pub run_stuck : k ≡ 0 → left x reps xs st h at ≡ Err at
+    run_stuck z = goes ∙ ap (λ (b : Bool). cond b (Err at) (onward k)) (eq-eqb k 0 z)
 
     pub run_on : (k ≡ 0 → ⊥) → left x reps xs st h at ≡ left x reps xs (set st (h - count_of x (get_or xs at 0)) k) (h - count_of x (get_or xs at 0) + 1) (at + 1)
     run_on z =
-        goes ∙ ap (λ (b : Bool). cond b (Led.Stuck at) (onward k)) (ne_eqb k 0 z) ∙
+        goes ∙ ap (λ (b : Bool). cond b (Err at) (onward k)) (ne_eqb k 0 z) ∙
         (λ i. run_by x reps (sym (add-one at) i) (drop (at + 1) xs) (sym (push r more k) i))

@@ -21,7 +21,7 @@ use Rattle.model.proofs.Laws.Stack.{length_backwards, map_drop, map_top, each_ba
 use Rattle.model.proofs.Laws.Listed.{parts}
 use Rattle.model.specs.declared.Verdict.{Verdict}
 use Rattle.table_verdict.specs.Rules.{rules_by, Ruled, rep_of, led_by, go_on_by, run_by, led_list, accepts_by, led_verdict, verdict_list_by}
-use Rattle.table_verdict.specs.declared.Led.{Led}
+use Rattle.std.specs.Prelude.{Ok, Err}
 use Rattle.table_verdict.proofs.Laws.Lookup.{place_in, state_by, Rep, at_own_place, own_place_within, rep_in, lookup, found_rep}
 use Rattle.table_verdict.proofs.Laws.States.{Told, target_told, row_told, rep_row_law}
 
@@ -86,7 +86,7 @@ module _ {x : Store} {s t reps : List ℕ} (g : Good x) (d : Ruled x s t reps) (
         run_by x reps p xs ks ≡ led_by s (run_from (automaton x fs s t reps) p xs (map (place_in s) ks))
     unfolding run_from run_by
     run_led p [] [] a q = refl
-    run_led p [] (k ∷ ks) (each_cons m a) q = ap (λ (j : ℕ). Led.To (record { 0 = j })) (sym (at_own_place s k m))
+    run_led p [] (k ∷ ks) (each_cons m a) q = ap (λ (j : ℕ). Ok (record { 0 = j })) (sym (at_own_place s k m))
     run_led p (a ∷ xs) ks b q =
         go (get_or reps (find_row x a (top (count_of x a) ks)) 0) (found_rep g d small a (top (count_of x a) ks) (parts q).0 top_long top_members)
         (λ r m. run_led (suc p) xs (r ∷ drop (count_of x a) ks) (each_cons m (each_drop (count_of x a) ks b)) (subst (λ (l : ℕ). Parses x.counts l xs) (pushed_long r) (parts q).2)) ∙
@@ -117,7 +117,7 @@ module _ {x : Store} {s t reps : List ℕ} (g : Good x) (d : Ruled x s t reps) (
             go_on_by p r (λ (k : ℕ). run_by x reps (suc p) xs (k ∷ drop (count_of x a) ks)) ≡ led_by s (go_on p (state_by s r) onward)
         go zero m ih = refl
         go (suc k) m ih =
-            ap (λ (b : Bool). cond b (Led.Stuck p) (run_by x reps (suc p) xs (suc k ∷ drop (count_of x a) ks))) (ne_eqb (suc k) 0 (λ z. omega arith)) ∙
+            ap (λ (b : Bool). cond b (Err p) (run_by x reps (suc p) xs (suc k ∷ drop (count_of x a) ks))) (ne_eqb (suc k) 0 (λ z. omega arith)) ∙
             ih (suc k) (rep_in m (λ z. omega arith)) ∙
             ap (λ (l : List ℕ). led_by s (run_from (automaton x fs s t reps) (suc p) xs (place_in s (suc k) ∷ l))) (map_drop (place_in s) (count_of x a) ks)
 

@@ -1,0 +1,54 @@
+-- `table_answers::observe_to_gap` meets its contract, by the laws of Steps: a row without an unknown answer is passed;
+-- an unknown answer in a row written anew is a gap; past the loop all have their rows.
+use Rattle.std.proofs.Common.{sym, ◌∙◌, ◌*◌, ◌≤◌, length, arith}
+use Rattle.std.proofs.Math.Seq.{length-take-le}
+use Rattle.model.specs.Limits.{most_contexts}
+use Rattle.table.proofs.Laws.Tied.{gap_at_last}
+use Rattle.table_columns.proofs.Laws.Rows.{observed_more, known_more}
+use Rattle.table_answers.proofs.Laws.Steps.{next, tops_below, tops_fill, row_read}
+use Rattle.table_answers.proofs.observe_to_gap.Goals as goal
+
+pub read_column-requires : goal.read_column-requires
+read_column-requires c =
+    let a = c.args in
+    let l = c.loop-k in
+    let h = l.invariant.needed in
+    let f = c.fill_column.ensures in
+    let enough : length a.c.now ≤ length c.needed_rows-n.new.tops = omega (arith, c.needed_rows-n.auto.tops, c.requires.4) in
+    let long = length-take-le (length a.c.now) c.needed_rows-n.new.tops enough in (
+      c.requires.0.finding.room,
+      c.requires.1,
+      tops_below a.words.now a.counts.now a.used h f.1 f.0 enough,
+      tops_fill a.words.now a.counts.now a.used h f.1 f.0 enough,
+      omega (arith, long, c.requires.4, c.loop-k-test.true, l.invariant.known.sized.long),
+    )
+
+pub returns-then-has_answer : goal.returns-then-has_answer
+returns-then-has_answer c =
+    let a = c.args in
+    let l = c.loop-k in
+    let z = l.invariant.known.sized in
+    let f = c.fill_column.ensures in
+    let enough : length a.c.now ≤ length c.needed_rows-n.new.tops = omega (arith, c.needed_rows-n.auto.tops, c.requires.4) in
+    let row = row_read a.words.now a.counts.now a.used l.invariant.needed f.1 f.0 enough l.table (most_contexts * l.k) c.read_column.ensures in
+    let gap = sym c.has_answer-in-loop-k.ensures ∙ c.if-has_answer.true in
+    record {
+      few = omega (arith, c.loop-k-test.true);
+      observed = rw row (observed_more l.invariant.observed (omega (arith, c.loop-k-test.true, z.few_t)) (omega (arith, c.loop-k-test.true, z.long)) (omega arith));
+      whole = λ y. absurd (gap_at_last _ _ _ gap y);
+    }
+
+pub loop-k-preserved : goal.loop-k-preserved
+loop-k-preserved c =
+    let a = c.args in
+    let l = c.loop-k in
+    let z = l.invariant.known.sized in
+    let h = l.invariant.needed in
+    let f = c.fill_column.ensures in
+    let enough : length a.c.now ≤ length c.needed_rows-n.new.tops = omega (arith, c.needed_rows-n.auto.tops, c.requires.4) in
+    let row = row_read a.words.now a.counts.now a.used h f.1 f.0 enough l.table (most_contexts * l.k) c.read_column.ensures in
+    record {
+      observed = rw row (observed_more l.invariant.observed (omega (arith, c.loop-k-test.true, z.few_t)) (omega (arith, c.loop-k-test.true, z.long)) (omega arith));
+      known = rw row (known_more l.invariant.known l.k c.loop-k-test.true (omega arith));
+      needed = next a.words.now a.counts.now a.used h f.1 f.0 enough;
+    }
