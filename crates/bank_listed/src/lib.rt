@@ -19,7 +19,9 @@ use bank_fill::add::Added;
 use model::Row;
 use model::limits::MOST_LISTED;
 use model::refusal::Refusal;
+use stack::Stack;
 
+pub mod stack; // stack.rt: a stack of rows in a fixed array, seen as the list of them
 pub mod sizes; // sizes.rt: the size of a row's unfolded record, counted up to 1,025 and never by unfolding
 
 // The fault of a listed record: 11, 12, then 13 or 14 at the first symbol at fault, 15 (§5.1).
@@ -80,20 +82,17 @@ pub fn store(
         let built = store_from x symbols.now [] in
         Came words.old counts.now used built result words.new index.new }
 {
-    let mut stack = [0u16; MOST_LISTED];
-    let mut height = 0;
+    let mut stack = Stack::new();
     let mut n = used;
     for symbol in symbols {
         let count = counts[*symbol as usize] as usize;
-        let places = top_places(&stack, height, count);
+        let places = stack.top_places(count);
         let added = add::row_for(words, counts, n, index, u32::from(*symbol), places, 0)?;
-        height -= count;
-        stack[height] = added.row.0;
-        height += 1;
+        stack.put(count, added.row);
         n = added.used;
     }
     Some(Added {
-        row: Row(stack[0]),
+        row: stack.root(),
         used: n,
     })
 }
@@ -105,18 +104,15 @@ pub fn known_row(words: &[u32], counts: &[u8], used: u16, index: &[u16], symbols
         × (length symbols.now ≤ most_listed) }
     ensures { result.0 ≡ known_row (store_of words.now counts.now used) symbols.now }
 {
-    let mut stack = [0u16; MOST_LISTED];
-    let mut height = 0;
+    let mut stack = Stack::new();
     for symbol in symbols {
         let count = counts[*symbol as usize] as usize;
-        let places = top_places(&stack, height, count);
+        let places = stack.top_places(count);
         let row = index::find(words, used, index, u32::from(*symbol), places);
         if row.0 == 0 {
             return Row(0);
         }
-        height -= count;
-        stack[height] = row.0;
-        height += 1;
+        stack.put(count, row);
     }
-    Row(stack[0])
+    stack.root()
 }

@@ -7,6 +7,7 @@ use native.Mathlib.Numerals.{add-one}
 use native.Mathlib.Omega.{arith}
 use lib.ListN.{length, get_or, take, drop, set, replicate, length-drop}
 use lib.Seq.{length-take-le, take-suc, take-suc-set, take-add, set_at}
+use Rattle.model.specs.Limits.{most_listed}
 use Rattle.model.specs.Base.{backwards, top}
 use Rattle.model.specs.Store.{padded}
 use Rattle.model.proofs.Laws.Stack.{length_backwards}
@@ -44,6 +45,20 @@ pub stack_one : (st : List ℕ) → 1 ≤ length st → stack_of st 1 ≡ get_or
 unfolding backwards
 stack_one [] h = absurd (omega arith)
 stack_one (i ∷ st) h = refl
+
+-- what the methods of `Stack` say, by its value
+module _ (st : List ℕ) (height : ℕ) {is : List ℕ} (e : stack_of st height ≡ is) (l : length st ≡ most_listed) (h : height ≤ most_listed) where
+  pub stack_high : length is ≡ height
+  stack_high = sym (ap length e) ∙ stack_length st height (omega (arith, l, h))
+
+  pub stack_put : (count row : ℕ) → count ≤ length is → length is - count < most_listed → stack_of (set st (height - count) row) (height - count + 1) ≡ row ∷ drop count is
+  stack_put count row c r =
+      stack_push st height count (omega (arith, l, h)) (omega (arith, stack_high, c)) row (omega (arith, stack_high, l, r)) ∙ ap (λ (js : List ℕ). row ∷ drop count js) e
+
+  pub stack_root : length is ≡ 1 → is ≡ get_or st 0 0 ∷ []
+  stack_root o =
+      let one : height ≡ 1 = omega (arith, stack_high, o) in
+      sym e ∙ ap (stack_of st) one ∙ stack_one st (omega (arith, l))
 
 -- CHILD PLACES, one after the other
 pub places_more : (ks : List ℕ) (k : ℕ) → k < length ks → k < 4 → set (padded (take k ks)) k (get_or ks k 0) ≡ padded (take (k + 1) ks)

@@ -2,9 +2,7 @@
 use mathlib.Core.Path.{◌≡◌, refl, sym, ◌∙◌}
 use mathlib.Core.List.{List}
 use Prim.Native.Nat.{ℕ}
-use native.Mathlib.Omega.{arith}
 use lib.ListN.{get_or}
-use Rattle.model.specs.Base.{backwards}
 use Rattle.model.specs.Entry.{store_of}
 use Rattle.bank.specs.Index.{find_in}
 use Rattle.bank_listed.proofs.Laws.Reading as R
@@ -15,16 +13,13 @@ sought : (ws : List ℕ) (n a : ℕ) {b j : ℕ} {ps qs : List ℕ} → j ≡ fi
 sought ws n a p e f = p ∙ (λ i. find_in ws n (e i) (f i))
 
 pub loop-symbol-init : goal.loop-symbol-init
-unfolding backwards
-loop-symbol-init c = (R.reading_start (store_of c.args.words.now c.args.counts.now c.args.used) c.args.symbols.now _ c.requires.0.good c.requires.1 refl c.requires.2, refl)
+loop-symbol-init c = let e = c.new-stack.ensures in rw e (R.reading_start (store_of c.args.words.now c.args.counts.now c.args.used) c.args.symbols.now c.requires.0.good c.requires.1 c.requires.2, refl)
 
 pub bounds-counts-symbol : goal.bounds-counts-symbol
 bounds-counts-symbol c = R.known c.loop-symbol.invariant.0 c.loop-symbol-test.true
 
 pub top_places-places-requires : goal.top_places-places-requires
-top_places-places-requires c =
-    let r = c.loop-symbol.invariant.0 in
-    (r.long, r.good.wide _, R.enough r c.loop-symbol-test.true, omega (arith, r.low, r.within, r.few))
+top_places-places-requires c = let r = c.loop-symbol.invariant.0 in (r.good.wide _, R.enough r c.loop-symbol-test.true)
 
 pub returns-then-row-eq0 : goal.returns-then-row-eq0
 returns-then-row-eq0 c =
@@ -32,8 +27,8 @@ returns-then-row-eq0 c =
     let s = sought c.args.words.now c.args.used (get_or c.args.symbols.now l.symbol-index 0) c.find-row.ensures c.from.ensures c.top_places-places.ensures in
     sym (R.known_none l.invariant.0 c.loop-symbol-test.true (sym s ∙ c.if-row-eq0.true)) ∙ l.invariant.1
 
-pub overflow_sub-height : goal.overflow_sub-height
-overflow_sub-height c = R.enough c.loop-symbol.invariant.0 c.loop-symbol-test.true
+pub put-requires : goal.put-requires
+put-requires c = let r = c.loop-symbol.invariant.0 in (R.enough r c.loop-symbol-test.true, R.room r c.loop-symbol-test.true)
 
 pub loop-symbol-preserved : goal.loop-symbol-preserved
 loop-symbol-preserved c =
@@ -42,7 +37,10 @@ loop-symbol-preserved c =
     let more = c.loop-symbol-test.true in
     let s = sought c.args.words.now c.args.used (get_or c.args.symbols.now l.symbol-index 0) c.find-row.ensures c.from.ensures c.top_places-places.ensures in
     let p = R.pushed l.invariant.0 more j (store_of c.args.words.now c.args.counts.now c.args.used) (R.found l.invariant.0 more j s c.if-row-eq0.false) in
-    (p.1, sym (R.known_found l.invariant.0 more j s c.if-row-eq0.false) ∙ l.invariant.1)
+    rw c.put.ensures (p.1, sym (R.known_found l.invariant.0 more j s c.if-row-eq0.false) ∙ l.invariant.1)
+
+pub root-requires : goal.root-requires
+root-requires c = R.alone c.loop-symbol.invariant.0 c.loop-symbol-test.false
 
 pub returns : goal.returns
-returns c = sym (R.known_end c.loop-symbol.invariant.0 c.loop-symbol-test.false) ∙ c.loop-symbol.invariant.1
+returns c = sym (R.known_end c.loop-symbol.invariant.0 c.loop-symbol-test.false c.root.ensures) ∙ c.loop-symbol.invariant.1

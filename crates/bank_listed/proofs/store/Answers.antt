@@ -1,8 +1,7 @@
 -- `store`: each symbol's row is found or added, or rows run out.
-use mathlib.Core.Path.{◌≡◌, refl, sym, subst}
+use mathlib.Core.Path.{◌≡◌, sym, subst}
 use mathlib.Core.List.{List}
 use Prim.Native.Nat.{ℕ}
-use native.Mathlib.Omega.{arith}
 use lib.ListN.{get_or}
 use Rattle.std.specs.Prelude.{Option}
 use Rattle.model.specs.Store.{row_for}
@@ -21,15 +20,13 @@ called ws ns n a b ps {s = s} {us = us} {ix = ix} e f d =
     subst (λ (c : ℕ). Comes ws ns n (row_for (store_of ws ns n) c (kids_of ns c ps)) s us ix) e (comes_as f (record { came = d }))
 
 pub loop-symbol-init : goal.loop-symbol-init
-loop-symbol-init c = S.storing_start c.args.symbols.now _ c.requires.0 c.requires.1 refl c.requires.2
+loop-symbol-init c = rw c.new-stack.ensures (S.storing_start c.args.symbols.now c.requires.0 c.requires.1 c.requires.2)
 
 pub bounds-counts-symbol : goal.bounds-counts-symbol
 bounds-counts-symbol c = R.known c.loop-symbol.invariant.reading c.loop-symbol-test.true
 
 pub top_places-places-requires : goal.top_places-places-requires
-top_places-places-requires c =
-    let r = c.loop-symbol.invariant.reading in
-    (r.long, r.good.wide _, R.enough r c.loop-symbol-test.true, omega (arith, r.low, r.within, r.few))
+top_places-places-requires c = let r = c.loop-symbol.invariant.reading in (r.good.wide _, R.enough r c.loop-symbol-test.true)
 
 pub row_for-requires : goal.row_for-requires
 row_for-requires c =
@@ -43,14 +40,17 @@ returns-in_err-added c =
     let d = called l.words c.args.counts.now l.n c.from.result (get_or c.args.symbols.now l.symbol-index 0) c.top_places-places.result c.from.ensures c.in_err-added.was c.row_for.ensures in
     (comes_as (sym c.from_residual.ensures) (S.ran_out l.invariant c.loop-symbol-test.true c.top_places-places.ensures d)).came
 
-pub overflow_sub-height : goal.overflow_sub-height
-overflow_sub-height c = R.enough c.loop-symbol.invariant.reading c.loop-symbol-test.true
+pub put-requires : goal.put-requires
+put-requires c = let r = c.loop-symbol.invariant.reading in (R.enough r c.loop-symbol-test.true, R.room r c.loop-symbol-test.true)
 
 pub loop-symbol-preserved : goal.loop-symbol-preserved
 loop-symbol-preserved c =
     let l = c.loop-symbol in
     let d = called l.words c.args.counts.now l.n c.from.result (get_or c.args.symbols.now l.symbol-index 0) c.top_places-places.result c.from.ensures c.in_ok-added.was c.row_for.ensures in
-    S.storing_more l.invariant c.loop-symbol-test.true c.top_places-places.ensures d
+    rw c.put.ensures (S.storing_more l.invariant c.loop-symbol-test.true c.top_places-places.ensures d)
+
+pub root-requires : goal.root-requires
+root-requires c = R.alone c.loop-symbol.invariant.reading c.loop-symbol-test.false
 
 pub returns : goal.returns
-returns c = (S.stored c.loop-symbol.invariant c.loop-symbol-test.false).came
+returns c = (S.stored c.loop-symbol.invariant c.loop-symbol-test.false c.root.ensures).came

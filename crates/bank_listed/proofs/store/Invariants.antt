@@ -3,4 +3,4 @@ use Rattle.bank_listed.proofs.Laws.Storing.{Storing}
 use Rattle.bank_listed.proofs.store.Given as goal
 
 abbrev pub invariant-loop-symbol : goal.invariant-loop-symbol
-invariant-loop-symbol l = Storing l.fn.words l.fn.counts l.fn.used l.fn.symbols l.words l.index l.stack l.height l.n l.symbol-index
+invariant-loop-symbol l = Storing l.fn.words l.fn.counts l.fn.used l.fn.symbols l.words l.index l.stack l.n l.symbol-index
