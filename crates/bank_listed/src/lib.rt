@@ -3,15 +3,12 @@
 
 ghost use Rattle.std.specs.Prelude.{◌≡◌, [], ◌≤◌, length};
 ghost use Rattle.model.specs.Limits.{most_listed};
-ghost use Rattle.model.specs.Base.{top};
-ghost use Rattle.model.specs.Store.{padded};
 ghost use Rattle.model.specs.Refusals.{refused_by};
 ghost use Rattle.model.specs.Terms.{record_fault, store_from, known_row};
 ghost use Rattle.model.specs.Facts.{Parses};
 ghost use Rattle.model.specs.Entry.{store_of};
 ghost use Rattle.bank.specs.Bank.{Bank};
 ghost use Rattle.bank_fill.specs.Adding.{Came};
-ghost use Rattle.bank_listed.specs.Listed.{stack_of};
 
 use bank::index;
 use bank_fill::add;
@@ -50,21 +47,6 @@ pub fn record_fault(counts: &[u8], symbols: &[u8]) -> Result<(), Refusal>
         return Err(Refusal::NotOneTree);
     }
     Ok(())
-}
-
-// The top of a stack of rows as the child places of the next row, in order.
-pub fn top_places(stack: &[u16; MOST_LISTED], height: usize, count: usize) -> [u32; 4]
-    requires { (length stack.now ≡ most_listed)
-        × (count ≤ 4)
-        × (count ≤ height)
-        × (height ≤ most_listed) }
-    ensures { result ≡ padded (top count (stack_of stack.now height)) }
-{
-    let mut places = [0u32; 4];
-    for k in 0..count {
-        places[k] = u32::from(stack[height - count + k]);
-    }
-    places
 }
 
 // A listed record stored: children first, left to right, each distinct row once.

@@ -39,7 +39,7 @@ impl Stack {
         }
     }
 
-    // The top rows, so many, as the child places of the next row, in order.
+    // The top `count` rows as the child places of the next row, in order.
     pub fn top_places(&self, count: usize) -> [u32; 4]
         requires { (count ≤ 4) × (count ≤ length self.now) }
         ensures { result ≡ padded (top count self.now) }
@@ -51,7 +51,7 @@ impl Stack {
         places
     }
 
-    // A row put on, in the place of the top rows, so many.
+    // A row is put on in the place of the top `count` rows.
     #[tactic(auto, using(crate::proofs::Laws::ArrayStack::stack_high, crate::proofs::Laws::ArrayStack::stack_put))]
     pub fn put(&mut self, count: usize, row: Row)
         requires { (count ≤ length self.old) × (length self.old - count < most_listed) }
@@ -62,7 +62,7 @@ impl Stack {
         self.height = at + 1;
     }
 
-    // The row that is left alone: a whole record's.
+    // The one row that is left: the root of a whole record.
     pub fn root(&self) -> Row
         requires { length self.now ≡ 1 }
         ensures { self.now ≡ result.0 ∷ [] }

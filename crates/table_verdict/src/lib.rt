@@ -17,7 +17,8 @@ ghost use Rattle.table_verdict.specs.Rules.{RepsBy, RepsIn, rep_row, led_list, a
 use bank::notes;
 use bank::notes::NOTE_WIDTH;
 use bank::terms::Terms;
-use model::limits::{MOST_LISTED, MOST_STATES};
+use bank_listed::stack::Stack;
+use model::limits::MOST_STATES;
 use model::{Row, Verdict};
 
 // The representative of each transition; 0 for a row that is none.
@@ -138,20 +139,17 @@ pub fn run_list(bank: &Terms<'_>, reps: &[u16], symbols: &[u8]) -> Result<Row, u
         result ≡ led_list x reps.now symbols.now }
 {
     let _ = bank.used(); // the answers read its clause `ready`
-    let mut stack = [0u16; MOST_LISTED];
-    let mut height = 0;
+    let mut stack = Stack::new();
     for (at, symbol) in symbols.iter().enumerate() {
         let count = bank.arity_of(*symbol) as usize;
-        let places = bank_listed::top_places(&stack, height, count);
+        let places = stack.top_places(count);
         let rep = target_of(bank, reps, *symbol as u32, places);
         if rep.0 == 0 {
             return Err(at as u16);
         }
-        height -= count;
-        stack[height] = rep.0;
-        height += 1;
+        stack.put(count, rep);
     }
-    Ok(Row(stack[0]))
+    Ok(stack.root())
 }
 
 // The verdict where a run ended at a state, by its representative.

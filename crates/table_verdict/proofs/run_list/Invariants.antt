@@ -7,5 +7,5 @@ use Rattle.table_verdict.proofs.run_list.Given as goal
 
 abbrev pub invariant-loop-at : goal.invariant-loop-at
 invariant-loop-at l =
-    Running l.bank.counts l.symbols l.stack l.height l.at
-    × (left (store_of l.bank.words l.bank.counts l.bank.used) l.reps l.symbols l.stack l.height l.at ≡ led_list (store_of l.bank.words l.bank.counts l.bank.used) l.reps l.symbols)
+    Running l.bank.counts l.symbols l.stack l.at
+    × (left (store_of l.bank.words l.bank.counts l.bank.used) l.reps l.symbols l.stack l.at ≡ led_list (store_of l.bank.words l.bank.counts l.bank.used) l.reps l.symbols)
