@@ -13,6 +13,7 @@ ghost use Rattle.bank.specs.Bank.{Bank};
 ghost use Rattle.run_lists.specs.Members.{counts_in};
 ghost use Rattle.sound.specs.Proposal.{Proposal};
 
+use bank::terms::Terms;
 use model::refusal::Refusal;
 use model::{Lists, Verdict};
 
@@ -32,7 +33,8 @@ pub fn verdict_of(
 {
     let letters = lists.letters as usize;
     let counts = lists.counts;
-    table_verdict::verdict_on(words, &counts[..letters], lists.used, index, reps, symbols)
+    let bank = Terms::new(words, &counts[..letters], lists.used, index);
+    table_verdict::verdict_on(&bank, reps, symbols)
 }
 
 // The first line that refuses a verdict on sound tables: 31, or 11 to 15.

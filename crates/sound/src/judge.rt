@@ -1,36 +1,27 @@
 // T2 to T8 (§2.3) in parts, over a record table that T1 has passed.
-ghost use Rattle.std.specs.Prelude.{◌≡◌, false, ◌*◌, ◌≤◌, length};
-ghost use Rattle.model.specs.Limits.{most_rules, most_states, row_width};
+ghost use Rattle.std.specs.Prelude.{◌≡◌, false, ◌≤◌, length};
+ghost use Rattle.model.specs.Limits.{most_rules, most_states};
 ghost use Rattle.model.specs.Table.{tables};
 ghost use Rattle.model.specs.Entry.{store_of, answers_in};
-ghost use Rattle.bank.specs.Bank.{Bank};
-ghost use Rattle.bank.specs.Index.{size_in};
 ghost use Rattle.table.specs.Answers.{Sized, Placing};
 ghost use Rattle.sound.specs.Given.{roles_fit, few_fit, table_fits, question_fits};
 
-use bank::rows;
+use bank::terms::Terms;
 use model::Row;
 use model::limits::MOST_STATES;
 use table::judge;
 
 // T2, T3, and T4 but for its last clause.
-pub fn roles_fit(
-    words: &[u32],
-    counts: &[u8],
-    used: u16,
-    index: &[u16],
-    s: &[u16],
-    t: &[u16],
-    c: &[u16],
-) -> bool
-    requires { Bank words.now counts.now used index.now
-        × (length s.now ≤ most_states)
+pub fn roles_fit(bank: &Terms<'_>, s: &[u16], t: &[u16], c: &[u16]) -> bool
+    requires { (length s.now ≤ most_states)
         × (length t.now ≤ most_rules) }
-    ensures { let store = store_of words.now counts.now used in
-        let answers = answers_in used words.now in
+    ensures { let store = store_of bank.now.words bank.now.counts bank.now.used in
+        let answers = answers_in bank.now.used bank.now.words in
         result ≡ roles_fit (tables store answers s.now t.now c.now 0 0 false) }
 {
-    sound_roles::transitions::t2(words, counts, used, index, t, s)
+    let used = bank.used();
+    let index = bank.index();
+    sound_roles::transitions::t2(bank, t, s)
         && sound_roles::t3(s, t)
         && sound_roles::contexts_fit(used, index, s.len() + t.len(), c)
 }
@@ -63,22 +54,13 @@ pub fn table_fits(
 }
 
 // T8: the open question, or none.
-pub fn question_fits(
-    words: &[u32],
-    used: u16,
-    index: &[u16],
-    hand: Row,
-    asked: Row,
-    accepted: u8,
-    missing: bool,
-) -> bool
-    requires { (used ≤ size_in index.now) × (row_width * used ≤ length words.now) }
-    ensures { result ≡ question_fits words.now index.now used hand.0 asked.0 accepted missing }
+pub fn question_fits(bank: &Terms<'_>, hand: Row, asked: Row, accepted: u8, missing: bool) -> bool
+    ensures { result ≡ question_fits bank.now.words bank.now.index bank.now.used hand.0 asked.0 accepted missing }
 {
     if asked.0 == 0 {
         return hand.0 == 0 && !missing;
     }
-    sound_roles::is_record(used, index, asked)
-        && rows::answer_of(words, asked) == 0
+    sound_roles::is_record(bank.used(), bank.index(), asked)
+        && bank.answer_of(asked) == 0
         && accepted != 1
 }

@@ -14,7 +14,7 @@ ghost use Rattle.table_verdict.specs.Rules.{RepsBy, RepsIn};
 ghost use Rattle.sound.specs.Working.{Few, Room, Working, WorkingOn, prepared_fit, hand_fits, standing_fits};
 
 use bank::notes::NOTE_WIDTH;
-use bank::rows;
+use bank::terms::Terms;
 use model::limits::MOST_STATES;
 use model::{Lists, Row};
 
@@ -83,7 +83,8 @@ fn prepare(
     if !bank_t1::t1(words, counts, used, index) {
         return false;
     }
-    if !judge::roles_fit(words, counts, used, index, s, t, c) {
+    let bank = Terms::new(words, counts, used, index);
+    if !judge::roles_fit(&bank, s, t, c) {
         return false;
     }
     table_answers::observe(words, counts, used, index, t, c, table, notes);
@@ -91,30 +92,21 @@ fn prepare(
 }
 
 // T7: the record in hand. The representatives stay.
-fn hand_fits(
-    words: &[u32],
-    counts: &[u8],
-    used: u16,
-    index: &[u16],
-    notes: &mut [u16],
-    hand: Row,
-    missing: bool,
-) -> bool
-    requires { Bank words.now counts.now used index.now
-        × (used ≤ room_in notes.old)
-        × (missing ≡ false → RepsIn used (reps_in notes.old)) }
+fn hand_fits(bank: &Terms<'_>, notes: &mut [u16], hand: Row, missing: bool) -> bool
+    requires { (bank.now.used ≤ room_in notes.old)
+        × (missing ≡ false → RepsIn bank.now.used (reps_in notes.old)) }
     ensures result_value { let reps = reps_in notes.old in
-        result ≡ hand_fits words.now counts.now used reps index.now hand.0 missing }
+        result ≡ hand_fits bank.now.words bank.now.counts bank.now.used reps bank.now.index hand.0 missing }
     ensures reps { reps_in notes.new ≡ reps_in notes.old }
 {
     if hand.0 == 0 {
         return true;
     }
-    if missing || !sound_roles::is_record(used, index, hand) {
+    if missing || !sound_roles::is_record(bank.used(), bank.index(), hand) {
         return false;
     }
-    let accepts = table_verdict::accepts_row(words, counts, used, index, notes, hand);
-    rows::answer_of(words, hand) == if accepts { 1 } else { 2 }
+    let accepts = table_verdict::accepts_row(bank, notes, hand);
+    bank.answer_of(hand) == if accepts { 1 } else { 2 }
 }
 
 // How a run stands: the record in hand, the open question, whether it is accepted.
@@ -126,27 +118,16 @@ struct Standing {
 }
 
 // T7 and T8. The representatives stay.
-fn standing_fits(
-    words: &[u32],
-    counts: &[u8],
-    used: u16,
-    index: &[u16],
-    notes: &mut [u16],
-    standing: Standing,
-    missing: bool,
-) -> bool
-    requires { Bank words.now counts.now used index.now
-        × (used ≤ room_in notes.old)
-        × (missing ≡ false → RepsIn used (reps_in notes.old)) }
+fn standing_fits(bank: &Terms<'_>, notes: &mut [u16], standing: Standing, missing: bool) -> bool
+    requires { (bank.now.used ≤ room_in notes.old)
+        × (missing ≡ false → RepsIn bank.now.used (reps_in notes.old)) }
     ensures result_value { let reps = reps_in notes.old in
-        result ≡ standing_fits words.now counts.now used reps index.now standing missing }
+        result ≡ standing_fits bank.now.words bank.now.counts bank.now.used reps bank.now.index standing missing }
     ensures reps { reps_in notes.new ≡ reps_in notes.old }
 {
-    hand_fits(words, counts, used, index, notes, standing.hand, missing)
+    hand_fits(bank, notes, standing.hand, missing)
         && judge::question_fits(
-            words,
-            used,
-            index,
+            bank,
             standing.hand,
             standing.asked,
             standing.accepted,
@@ -186,8 +167,9 @@ fn is_sound(
     }
     let mut s_in_t = [0u16; MOST_STATES];
     let missing = represent(table, c.len(), s, t, &mut s_in_t, notes);
+    let bank = Terms::new(words, counts, used, index);
     judge::table_fits(table, &s_in_t, s.len(), t.len(), c.len(), missing)
-        && standing_fits(words, counts, used, index, notes, standing, missing)
+        && standing_fits(&bank, notes, standing, missing)
 }
 
 // The same of lists as they are lent.

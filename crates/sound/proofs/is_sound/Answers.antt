@@ -47,7 +47,7 @@ standing_fits-requires c =
     let r = c.represent-missing.ensures in
     let w = working_made {notes = c.represent-missing.new.notes} o.0 o.1 r.1 r.2 r.3 (omega (arith, l, k, c.requires.2.notes_long)) in
     let fits = sym c.if-not-prepare.ensures.result_value in
-    (w.bank, omega (arith, w.bank.finding.room, w.notes_long), members_read w r.1 r.2 c.args.standing c.represent-missing.result r.0 fits (sym c.table_fits.ensures ∙ c.if-table_fits.true))
+    rw c.new-bank.ensures (omega (arith, w.bank.finding.room, w.notes_long), members_read w r.1 r.2 c.args.standing c.represent-missing.result r.0 fits (sym c.table_fits.ensures ∙ c.if-table_fits.true))
 
 pub returns-then-table_fits-clause-result_value : goal.returns-then-table_fits-clause-result_value
 returns-then-table_fits-clause-result_value c =
@@ -57,7 +57,7 @@ returns-then-table_fits-clause-result_value c =
     let r = c.represent-missing.ensures in
     let w = working_made {notes = c.represent-missing.new.notes} o.0 o.1 r.1 r.2 r.3 (omega (arith, l, k, c.requires.2.notes_long)) in
     let fits = sym c.if-not-prepare.ensures.result_value in
-    c.standing_fits.ensures.result_value ∙ standing_decides w r.1 r.2 c.args.standing c.represent-missing.result r.0 fits (sym c.table_fits.ensures ∙ c.if-table_fits.true)
+    rw c.new-bank.ensures at c.standing_fits.ensures.result_value ∙ standing_decides w r.1 r.2 c.args.standing c.represent-missing.result r.0 fits (sym c.table_fits.ensures ∙ c.if-table_fits.true)
 
 pub returns-then-table_fits-clause-working : goal.returns-then-table_fits-clause-working
 returns-then-table_fits-clause-working c =

@@ -10,11 +10,13 @@ returns-then-t3 c =
     let s = c.args.s.now in
     let t = c.args.t.now in
     let cs = c.args.c.now in
+    let b = c.used-used.ensures.ready in
     let r = c.requires in
+    let f = rw (c.used-used.ensures.value, c.index-index.ensures) at c.contexts_fit.ensures in
     elim c.if-t2.branch [
       | then-t2 w ↦
-          c.contexts_fit.ensures ∙ t4_given r.0 s t cs r.1 r.2
-          ∙ goes_on _ _ (sym (t3_given r.0 s t cs r.1 r.2) ∙ sym w.t3.ensures ∙ sym w.value-is ∙ c.if-t3.true)
-          ∙ goes_on _ _ (sym (t2_given r.0 s t cs r.1 r.2) ∙ sym c.t2.ensures ∙ w.if-t2.true)
+          f ∙ t4_given b s t cs r.0 r.1
+          ∙ goes_on _ _ (sym (t3_given b s t cs r.0 r.1) ∙ sym w.t3.ensures ∙ sym w.value-is ∙ c.if-t3.true)
+          ∙ goes_on _ _ (sym (t2_given b s t cs r.0 r.1) ∙ sym c.t2.ensures ∙ w.if-t2.true)
       | else-t2 w ↦ cc
     ]
