@@ -120,7 +120,14 @@ fn fill_frames(
 }
 
 // The row that is `row` but for the child at a place, found or added.
-fn above(words: &mut [u32], used: u16, index: &mut [u16], row: Row, place: usize, kid: Row) -> Option<Added>
+fn above(
+    words: &mut [u32],
+    used: u16,
+    index: &mut [u16],
+    row: Row,
+    place: usize,
+    kid: Row,
+) -> Option<Added>
     requires { Lent words.old used index.old × (row.0 < used) × (place < 4) × (kid.0 < used) }
     ensures { let symbol = symbol_in words.old row.0 in
         let places = set (places_in words.old row.0) place kid.0 in
@@ -130,6 +137,10 @@ fn above(words: &mut [u32], used: u16, index: &mut [u16], row: Row, place: usize
     let symbol = rows::symbol_of(words, row);
     let mut places = rows::places_of(words, row);
     places[place] = u32::from(kid.0);
-    let hole = if bank_t1::has_hole(index, kid) { place as u8 + 1 } else { 0 };
+    let hole = if bank_t1::has_hole(index, kid) {
+        place as u8 + 1
+    } else {
+        0
+    };
     put(words, used, index, symbol, places, hole)
 }

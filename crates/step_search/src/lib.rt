@@ -43,6 +43,7 @@ fn first_outside(words: &[u32], counts: &[u8], used: u16, reps: &[u16], row: Row
 }
 
 // The row that is `row` but for the child at a place, which is `with`; row 0 where that is not stored.
+// Row 0 is none, as in the notes that `with` comes from and the result goes into (next_row, exchanged_by).
 fn with_child(
     words: &[u32],
     counts: &[u8],

@@ -2,9 +2,9 @@
 -- The old rows keep their words, so their holes and walks stand; the new one is unlike them, and its hole is where its children have theirs.
 use mathlib.Core.Path.{◌≡◌, refl, sym, ap, subst, ◌∙◌}
 use mathlib.Core.Logic.{◌⊎◌, inl, inr}
-use mathlib.Core.Bool.{Bool, true, false, ◌||◌, cond}
+use mathlib.Core.Bool.{Bool, true, false, ◌||◌}
 use mathlib.Core.List.{List}
-use Prim.Native.Nat.{ℕ, suc, ◌+◌, ◌*◌, ◌<◌}
+use Prim.Native.Nat.{ℕ, ◌+◌, ◌*◌, ◌<◌}
 use native.Mathlib.Omega.{arith}
 use lib.Dec.{ltb, eqb}
 use borrow.Author.Tests.{lt-ltb, le-ltb, eq-eqb, ne_eqb}
@@ -44,20 +44,6 @@ kept {ws} {n} r a ps w = finding_kept (with_row ws n a ps) r.finding (front_with
 
 pub fits_one : {ws : List ℕ} {n : ℕ} {xs : List ℕ} → Lent ws n xs → Within ws n → n < most_rows
 fits_one r w = let l = r.lent in omega arith
-
--- a row put, by equal symbols, places and marks
-pub put_as : {ws : List ℕ} {n : ℕ} {xs : List ℕ} {a b : ℕ} {ps qs : List ℕ} {h k : ℕ} {g : Option Added} {vs xs' : List ℕ} → a ≡ b → ps ≡ qs → h ≡ k →
-    Put ws n xs a ps h g vs xs' → Put ws n xs b qs k g vs xs'
-put_as {ws} {n} {xs} {a} {b} {ps} {qs} {h} {k} {g} {vs} {xs'} d e f p =
-    subst (λ (c : ℕ). Put ws n xs c qs k g vs xs') d
-    (subst (λ (l : List ℕ). Put ws n xs a l k g vs xs') e (subst (λ (c : ℕ). Put ws n xs a ps c g vs xs') f p))
-
--- the mark of a row above a child with a hole, and above one without
-pub mark_there : {b : Bool} {h : ℕ} (k : ℕ) → b ≡ true → h ≡ k + 1 → h ≡ cond b (suc k) 0
-mark_there k e p = rw e (omega arith)
-
-pub mark_nowhere : {b : Bool} {h : ℕ} (k : ℕ) → b ≡ false → h ≡ 0 → h ≡ cond b (suc k) 0
-mark_nowhere k e p = rw e p
 
 -- A ROW ASKED FOR
 module _ {ws ns : List ℕ} {n : ℕ} {xs : List ℕ} (r : Bank ws ns n xs) {a : ℕ} {ps : List ℕ} {hole : ℕ} (q : PlacesAsked (store_of ws ns n) a ps hole) where

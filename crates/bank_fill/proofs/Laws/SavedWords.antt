@@ -1,17 +1,16 @@
 -- What a step that kept the first rows wrote is undone by putting back what was saved, by the places of the words.
 use mathlib.Core.Path.{◌≡◌, refl, sym, ap, ◌∙◌}
 use mathlib.Core.List.{List}
-use Prim.Native.Nat.{ℕ, ◌+◌, ◌*◌, ◌-◌, ◌≤◌, ◌<◌}
+use Prim.Native.Nat.{ℕ, ◌*◌, ◌<◌}
 use native.Mathlib.Omega.{arith}
 use borrow.Author.Tests.{ltb-true, ltb-false}
 use mathlib.Core.Bool.{Bool, true, false}
 use lib.Dec.{ltb}
-use lib.ListN.{length, get_or, set, length-set}
-use lib.Seq.{get_or-take, get_or-set_same, get_or-set_other, ext_get_or}
+use lib.ListN.{length, get_or}
+use lib.Seq.{get_or-take, ext_get_or}
 use Rattle.model.specs.Limits.{row_width}
-use Rattle.model.proofs.Laws.Tests.{by_equal}
 use Rattle.bank.specs.Bank.{Kept}
-use Rattle.bank_fill.specs.Saved.{SavedTo, Saved, BackTo, PutBack}
+use Rattle.bank_fill.specs.Saved.{Saved, PutBack}
 
 pub undone : (ws : List ℕ) (n : ℕ) (vs us after : List ℕ) → Saved ws n vs → Kept ws n us → PutBack us n vs after → after ≡ ws
 undone ws n vs us after s k p = ext_get_or 0 after ws (p.same_size ∙ k.same_size) (λ j l. at j l (ltb j (row_width * n)) refl)

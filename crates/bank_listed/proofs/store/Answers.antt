@@ -1,9 +1,9 @@
 -- `store`: each symbol's row is found or added, or rows run out.
-use mathlib.Core.Path.{◌≡◌, refl, sym, ap, subst}
-use mathlib.Core.List.{List, []}
+use mathlib.Core.Path.{◌≡◌, refl, sym, subst}
+use mathlib.Core.List.{List}
 use Prim.Native.Nat.{ℕ}
 use native.Mathlib.Omega.{arith}
-use lib.ListN.{length, get_or}
+use lib.ListN.{get_or}
 use Rattle.std.specs.Prelude.{Option}
 use Rattle.model.specs.Store.{row_for}
 use Rattle.model.specs.Entry.{store_of}

@@ -1,5 +1,4 @@
 -- The loop of `store`: the rows so far stand behind the old ones, and what is left stores what the whole would.
-use Rattle.std.proofs.Common.{◌≡◌, length}
 use Rattle.bank_listed.proofs.Laws.Storing.{Storing}
 use Rattle.bank_listed.proofs.store.Given as goal
 

@@ -74,9 +74,6 @@ module _ {ws : List ℕ} {l : Lists} (run : Run ws l) (a : Arrays l) {tb : List 
   told : length (contexts_in l) ≡ l.contexts
   told = sym (contexts_told run.fit a)
 
-  pub worked_sized : Sized tb rows l.contexts
-  worked_sized = subst (Sized tb rows) told w.to_gap.observed.sized
-
   module _ {p : Option Gap} (gap : gap_from tb l.contexts 0 rows ≡ p) where
     gap_is : gap_from tb (length (contexts_in l)) 0 rows ≡ p
     gap_is = ap (λ (m : ℕ). gap_from tb m 0 rows) told ∙ gap

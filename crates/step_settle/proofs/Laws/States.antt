@@ -11,7 +11,6 @@ use native.Mathlib.Omega.{arith}
 use lib.ListN.{length, get_or, take, set, length-map}
 use lib.Seq.{length-take-le, get_or-take}
 use Rattle.std.proofs.Common.{None, Some, Result, Ok, Err}
-use Rattle.model.specs.Limits.{most_states}
 use Rattle.model.specs.Base.{over}
 use Rattle.model.specs.Entry.{Arrays, lists_fit}
 use Rattle.model.specs.declared.Lists.{Lists}
@@ -27,12 +26,7 @@ use Rattle.table.proofs.Laws.Tied.{grown_full, grown_rows}
 use Rattle.table.proofs.Laws.InT.{places_cut}
 use Rattle.step_settle.specs.Stepped.{GrownAs, ProposedAs}
 
--- GROWN, within its places
-take_few : (k : ℕ) (vs : List ℕ) → length (take k vs) ≤ length vs
-take_few zero vs = omega arith
-take_few (suc k) [] = omega arith
-take_few (suc k) (v ∷ vs) = let l = take_few k vs in omega arith
-
+-- GROWN: as many members as are told
 module _ (o : maybe.Option (List ℕ)) (r : Places) (e : grown_by o (Some r)) where
   grown_count : length (take r.states r.s) ≡ r.states
   grown_count = go o e
@@ -40,9 +34,6 @@ module _ (o : maybe.Option (List ℕ)) (r : Places) (e : grown_by o (Some r)) wh
       go : (p : maybe.Option (List ℕ)) → grown_by p (Some r) → length (take r.states r.s) ≡ r.states
       go none d = cc
       go (some v) d = ap length d.0 ∙ sym d.1
-
-  pub grown_few : length r.s ≡ most_states → r.states ≤ most_states
-  grown_few l = omega (arith, grown_count, take_few r.states r.s)
 
   pub grown_rows_count : (t : List ℕ) → length (rows_at t (take r.states r.s)) ≡ r.states
   grown_rows_count t = length-map (take r.states r.s) (λ (p : ℕ). get_or t p 0) ∙ grown_count
@@ -79,9 +70,6 @@ module _ {l : Lists} (fit : lists_fit l ≡ true) (a : Arrays l) {ps : List ℕ}
     (placed : Placed (rules_in l) (length (rules_in l)) (states_in l) (length (states_in l)) ps) where
   found : Placing ps l.states l.rules × Placed l.t l.rules l.s l.states ps
   found = places_cut l.s l.states l.t l.rules (few_states fit a) (few_rules fit a) placing placed
-
-  pub found_within : (i : ℕ) → i < l.states → get_or ps i 0 < l.rules
-  found_within = found.0.within
 
   enough : l.states ≤ length ps
   enough = omega (arith, placing.long, (lists_fit_facts l fit).states)

@@ -44,15 +44,6 @@ module _ (s t : List ℕ) (f : all_among s t ≡ true) where
       }
 
 -- all of them found
-pub places_found : {s t ps : List ℕ} {i : ℕ} → length s ≤ most_states → Finding s t ps i → length s ≤ i → Placing ps (length s) (length t) × Placed t (length t) s (length s) ps
-places_found few y l = (
-  record { long = y.long; few = few; within = λ j h. y.within j (omega arith) },
-  λ j h. (y.within j (omega arith), y.names j (omega arith)),
-)
-
-pub places_none : (s t ps : List ℕ) → length ps ≡ most_states → Finding s t ps 0
-places_none s t ps e = record { long = e; most = omega arith; within = λ j h. absurd (omega arith); names = λ j h. absurd (omega arith) }
-
 -- S and T are the first members of longer arrays: their places there
 pub places_cut : (s : List ℕ) (q : ℕ) (t : List ℕ) (n : ℕ) {ps : List ℕ} → q ≤ length s → n ≤ length t →
     Placing ps (length (take q s)) (length (take n t)) → Placed (take n t) (length (take n t)) (take q s) (length (take q s)) ps → Placing ps q n × Placed t n s q ps

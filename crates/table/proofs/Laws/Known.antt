@@ -5,9 +5,8 @@ use mathlib.Core.Bool.{true, false, true≢false}
 use mathlib.Core.List.{List}
 use Prim.Native.Nat.{ℕ, zero, suc, ◌+◌, ◌*◌, ◌≤◌, ◌<◌}
 use native.Mathlib.Omega.{arith}
-use native.Mathlib.Decide.{ℕ_discrete}
 use lib.ListN.{length, get_or, set, take}
-use lib.Seq.{get_or-set_same, get_or-set_other}
+use lib.Seq.{get_or-set_other}
 use Rattle.model.specs.Limits.{most_rules, most_contexts}
 use Rattle.model.specs.Base.{among}
 use Rattle.model.specs.Store.{Store, filled_row, frames_of}
@@ -15,23 +14,10 @@ use Rattle.model.specs.Table.{answer_at, answers_of}
 use Rattle.model.proofs.Laws.Turn.{answers_same}
 use Rattle.model.proofs.Laws.ReflectLists.{has_back}
 use Rattle.table.specs.Answers.{answers_at, Sized, Observed, KnownRows, Forgotten}
-use Rattle.table.proofs.Laws.Rows.{sized_to, row_fits, row_more}
+use Rattle.table.proofs.Laws.Rows.{row_fits, row_more}
 
 -- FORGOTTEN: no row at first, a row more, and none of them is known then
-pub forgotten_none : (tb : List ℕ) → Forgotten 0 tb
-forgotten_none tb = record { first = λ i a. absurd (omega arith) }
-
-pub forgotten_more : {k : ℕ} {tb : List ℕ} → Forgotten k tb → most_contexts * k < length tb → Forgotten (k + 1) (set tb (most_contexts * k) 0)
-forgotten_more {k} {tb} f l =
-    record { first = λ i a. at i a (ℕ_discrete i k) }
-  where
-    at : (i : ℕ) → i < k + 1 → Dec (i ≡ k) → get_or (set tb (most_contexts * k) 0) (most_contexts * i) 0 ≡ 0
-    at i a (yes e) =
-        ap (λ (j : ℕ). get_or (set tb (most_contexts * k) 0) (most_contexts * j) 0) e ∙ get_or-set_same tb (most_contexts * k) 0 0 l
-    at i a (no d) =
-        let o : i < k = omega arith in
-        get_or-set_other tb (most_contexts * k) (most_contexts * i) 0 0 (λ p. omega arith) ∙ f.first i o
-
+-- FORGOTTEN: a row that begins with an unknown answer is not known
 unknown_first : (tb : List ℕ) (n m k : ℕ) → Sized tb n m → k < n → 0 < m → get_or tb (most_contexts * k) 0 ≡ 0 → among 0 (answers_at tb m k) ≡ true
 unfolding among
 unknown_first tb n m k z l some e =
@@ -50,15 +36,6 @@ forgotten_known x w t n c m {tb} f z a b = record { sized = sized m b; right = r
         absurd (true≢false (sym (unknown_first tb n (suc j) k (sized (suc j) h) l (omega arith) (f.first k l)) ∙ e))
 
 -- A KNOWN ROW is one more of those that are right
-pub observed_known : {x : Store} {w t : List ℕ} {n : ℕ} {c : List ℕ} {m : ℕ} {tb : List ℕ} → KnownRows x w t n c m tb → (k : ℕ) → k < n → among 0 (answers_at tb m k) ≡ false →
-    Observed x w t k c m tb → Observed x w t (k + 1) c m tb
-observed_known {x} {w} {t} {n} {c} {m} {tb} h k l e o =
-    record { sized = sized_to h.sized k l; rows = λ i a. at i a (ℕ_discrete i k) }
-  where
-    at : (i : ℕ) → i < k + 1 → Dec (i ≡ k) → answers_at tb m i ≡ answers_of x w (take m c) (get_or t i 0)
-    at i a (yes p) = ap (answers_at tb m) p ∙ h.right k l e ∙ ap (λ (j : ℕ). answers_of x w (take m c) (get_or t j 0)) (sym p)
-    at i a (no d) = o.rows i (omega arith)
-
 -- AN ANSWER MORE, where there was none: rows without an unknown answer stay right
 pub answers_known : (x : Store) (w cs : List ℕ) (i v row : ℕ) → answer_at w i ≡ 0 → among 0 (answers_of x w cs row) ≡ false → answers_of x (set w i v) cs row ≡ answers_of x w cs row
 answers_known x w cs i v row z e =

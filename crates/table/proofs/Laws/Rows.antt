@@ -1,11 +1,11 @@
 -- A row of the table of answers: how long it is, its answers one by one, and what is left of it after some.
 -- By the laws of take, drop and get_or: row k is the first m numbers from place `most_contexts * k` on.
 use mathlib.Core.Path.{◌≡◌, sym, ap, ◌∙◌}
-use mathlib.Core.List.{List, [], ◌∷◌}
+use mathlib.Core.List.{List, ◌∷◌}
 use Prim.Native.Nat.{ℕ, suc, ◌+◌, ◌*◌, ◌≤◌, ◌<◌}
 use native.Mathlib.Numerals.{add-one}
 use native.Mathlib.Omega.{arith}
-use lib.ListN.{length, get_or, drop, length-drop, drop_of_length-le}
+use lib.ListN.{length, get_or, drop, length-drop}
 use lib.Seq.{get_or-take, get_or-drop, length-take-le, drop-cons}
 use Rattle.model.specs.Limits.{most_contexts}
 use Rattle.table.specs.Answers.{answers_at, Sized}
@@ -23,9 +23,6 @@ row_more tb m k j h l =
     drop-cons (answers_at tb m k) j 0 (let e = row_length tb m k h in omega arith) ∙
     ap (λ (v : ℕ). v ∷ drop (suc j) (answers_at tb m k)) (row_at tb m k j l) ∙
     ap (λ (i : ℕ). get_or tb (most_contexts * k + j) 0 ∷ drop i (answers_at tb m k)) (sym (add-one j))
-
-pub row_end : (tb : List ℕ) (m k j : ℕ) → most_contexts * k + m ≤ length tb → m ≤ j → drop j (answers_at tb m k) ≡ []
-row_end tb m k j h l = drop_of_length-le (answers_at tb m k) {i = j} (let e = row_length tb m k h in omega arith)
 
 -- each row stands within the table; one that has room for n rows has room up to each of them
 pub sized_to : {tb : List ℕ} {n m : ℕ} → Sized tb n m → (k : ℕ) → k < n → Sized tb (k + 1) m

@@ -33,6 +33,6 @@ module _ (ws ns : List ℕ) (u : ℕ) {ix c us vs : List ℕ} {n : ℕ} {tops : 
   row_answers = column_answers_law ws ns u column next.tops enough
 
   -- read into the table
-  pub row_read : {old new : List ℕ} (at : ℕ) → new ≡ sets old at (column_answers ws (room_in vs) vs (take (length c) tops)) →
+  pub row_read : (old : List ℕ) {new : List ℕ} (at : ℕ) → new ≡ sets old at (column_answers ws (room_in vs) vs (take (length c) tops)) →
       new ≡ sets old at (answers_of (store_of ws ns u) (answers_in u ws) (take (length c) c) row)
-  row_read {old} at e = e ∙ ap (sets old at) row_answers
+  row_read old at e = e ∙ ap (sets old at) row_answers

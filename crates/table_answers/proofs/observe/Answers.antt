@@ -1,5 +1,5 @@
 -- `table_answers::observe` meets its contract, by the laws of Steps: a transition's column is its row of answers.
-use Rattle.std.proofs.Common.{◌≡◌, ap, ◌∙◌, ℕ, ◌*◌, ◌≤◌, length, get_or, take, arith}
+use Rattle.std.proofs.Common.{◌*◌, ◌≤◌, length, arith}
 use Rattle.std.proofs.Math.Seq.{length-take-le}
 use Rattle.model.specs.Limits.{most_contexts}
 use Rattle.table_columns.proofs.Laws.Rows.{observed_more}
@@ -30,7 +30,7 @@ loop-k-preserved c =
     let h = l.invariant.needed in
     let f = c.fill_column.ensures in
     let enough : length a.c.now ≤ length c.needed_rows-n.new.tops = omega (arith, c.needed_rows-n.auto.tops, c.requires.3) in
-    let row = row_read b.words b.counts b.used h f.1 f.0 enough (most_contexts * l.k) (rw c.words-words.ensures at c.read_column.ensures) in
+    let row = row_read b.words b.counts b.used h f.1 f.0 enough l.table (most_contexts * l.k) (rw c.words-words.ensures at c.read_column.ensures) in
     record {
       observed = rw row (observed_more l.invariant.observed (omega (arith, c.loop-k-test.true, c.requires.4)) (omega (arith, c.loop-k-test.true, l.auto.table, c.requires.5)) (omega arith));
       needed = next b.words b.counts b.used h f.1 f.0 enough;

@@ -1,6 +1,6 @@
 -- `table_answers::observe_to_gap` meets its contract, by the laws of Steps: a row without an unknown answer is passed;
 -- an unknown answer in a row written anew is a gap; past the loop all have their rows.
-use Rattle.std.proofs.Common.{◌≡◌, sym, ap, ◌∙◌, ℕ, ◌*◌, ◌≤◌, length, get_or, take, arith}
+use Rattle.std.proofs.Common.{sym, ◌∙◌, ◌*◌, ◌≤◌, length, arith}
 use Rattle.std.proofs.Math.Seq.{length-take-le}
 use Rattle.model.specs.Limits.{most_contexts}
 use Rattle.table.proofs.Laws.Tied.{gap_at_last}
@@ -33,7 +33,7 @@ returns-then-has_answer c =
     let z = l.invariant.known.sized in
     let f = c.fill_column.ensures in
     let enough : length a.c.now ≤ length c.needed_rows-n.new.tops = omega (arith, c.needed_rows-n.auto.tops, c.requires.3) in
-    let row = row_read b.words b.counts b.used l.invariant.needed f.1 f.0 enough (most_contexts * l.k) (rw c.words-words.ensures at c.read_column.ensures) in
+    let row = row_read b.words b.counts b.used l.invariant.needed f.1 f.0 enough l.table (most_contexts * l.k) (rw c.words-words.ensures at c.read_column.ensures) in
     let gap = sym c.has_answer-in-loop-k.ensures ∙ c.if-has_answer.true in
     record {
       few = omega (arith, c.loop-k-test.true);
@@ -50,7 +50,7 @@ loop-k-preserved c =
     let h = l.invariant.needed in
     let f = c.fill_column.ensures in
     let enough : length a.c.now ≤ length c.needed_rows-n.new.tops = omega (arith, c.needed_rows-n.auto.tops, c.requires.3) in
-    let row = row_read b.words b.counts b.used h f.1 f.0 enough (most_contexts * l.k) (rw c.words-words.ensures at c.read_column.ensures) in
+    let row = row_read b.words b.counts b.used h f.1 f.0 enough l.table (most_contexts * l.k) (rw c.words-words.ensures at c.read_column.ensures) in
     record {
       observed = rw row (observed_more l.invariant.observed (omega (arith, c.loop-k-test.true, z.few_t)) (omega (arith, c.loop-k-test.true, z.long)) (omega arith));
       known = rw row (known_more l.invariant.known l.k c.loop-k-test.true (omega arith));

@@ -29,20 +29,6 @@ pub record Listing (x : Store) (index : List ℕ) (z : ℕ) (marks notes : List 
   pub stay : (j : ℕ) → 0 < j → (mark_note z marks j ≡ 0 → ⊥) → mark_note z notes j ≡ 0 → ⊥
 
 -- THE START: row 0 at position 0
-pub listing_none : (x : Store) (ix : List ℕ) (z : ℕ) (ns : List ℕ) → row_note ns 0 ≡ 0 → mark_note z ns 0 ≡ 0 → Listing x ix z ns ns 0 0
-listing_none x ix z ns a b =
-    record {
-      low = omega arith;
-      first = a;
-      within = λ p l. let e : p ≡ 0 = omega arith in omega (arith, ap (row_note ns) e ∙ a);
-      marked = λ p l m. absurd (omega arith);
-      early = λ p l m. absurd (omega arith);
-      kid = λ p l m. absurd (omega arith);
-      seats = λ j l m. let e : j ≡ 0 = omega arith in subst (λ (k : ℕ). Seated z ns 0 k) (sym e) (record { within = omega (arith, b); there = ap (row_note ns) b ∙ a });
-      same = λ j l. refl;
-      stay = λ j l m. m;
-    }
-
 -- A ROW PASSED without a mark
 pub listing_clear : {x : Store} {ix : List ℕ} {z : ℕ} {ms us : List ℕ} {i n : ℕ} → Listing x ix z ms us i n → mark_note z us (i + 1) ≡ 0 → Listing x ix z ms us (i + 1) n
 listing_clear {z = z} {us = us} {i = i} h o =
@@ -151,22 +137,6 @@ module _ {ws ns : List ℕ} {u : ℕ} {ix : List ℕ} (r : Bank ws ns u ix) {z :
             same = λ j a. seat_old j (λ s. omega arith) ∙ h.same j (omega arith);
             stay = λ j a m o. by_equal j (i + 1) (λ s. omega (arith, seat_own j s)) (λ s. h.stay j a m (sym (seat_old j s) ∙ o));
           }
-
--- THE END: all rows passed
-module _ {x : Store} {ix : List ℕ} {z : ℕ} {ms us : List ℕ} {i n : ℕ} (h : Listing x ix z ms us i n) (u : ℕ) (end : i + 1 ≡ u) where
-  pub listing_needed : NeededRows x ix u z us n
-  listing_needed =
-      record {
-        few = omega (arith, h.low);
-        first = h.first;
-        within = λ p a. omega (arith, h.within p a);
-        marked = h.marked;
-        early = h.early;
-        kid = h.kid;
-      }
-
-  pub listing_seated : AllSeated z u ms us n
-  listing_seated j l m = h.seats j (omega arith) (λ s. h.stay j (omega arith) (m s))
 
 -- RUNS, from the last position to the first: a position put before the run, which then goes on or starts anew
 pub record Spine (z : ℕ) (notes : List ℕ) (from end : ℕ) : Type 0 where

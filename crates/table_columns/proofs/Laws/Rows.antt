@@ -88,9 +88,7 @@ by_order {A} i j f g h = by_equal i j g (λ d. go (ltb i j) refl d)
     go false e d = h (let l = ltb-false i j e in omega arith)
 
 -- OBSERVED: no row at first, and a row more
-pub observed_none : (x : Store) (w t c : List ℕ) (m : ℕ) (tb : List ℕ) → m ≤ most_contexts → Observed x w t 0 c m tb
-observed_none x w t c m tb f = record { sized = record { long = omega arith; few_t = omega arith; few_c = f }; rows = λ k a. absurd (omega arith) }
-
+-- OBSERVED: a row more
 pub observed_more : {x : Store} {w t : List ℕ} {k : ℕ} {c : List ℕ} {m : ℕ} {tb : List ℕ} → Observed x w t k c m tb → k < most_rules → most_contexts * k + most_contexts ≤ length tb → m ≤ length c →
     Observed x w t (k + 1) c m (sets tb (most_contexts * k) (answers_of x w (take m c) (get_or t k 0)))
 observed_more {x} {w} {t} {k} {c} {m} {tb} o l z h =

@@ -11,7 +11,7 @@ use Rattle.model.specs.Store.{fill}
 use Rattle.model.specs.Entry.{store_of}
 use Rattle.bank.specs.Bank.{path_of}
 use Rattle.bank_fill.specs.declared.add.Added.{Added}
-use Rattle.bank_fill.specs.Adding.{Came, FramesAsked}
+use Rattle.bank_fill.specs.Adding.{Came}
 use Rattle.bank_fill.proofs.Laws.Coming.{Comes, comes_as}
 use Rattle.bank_fill.proofs.Laws.Adding.{lent_of}
 use Rattle.bank_fill.proofs.Laws.Filling.{fill_none, down_four, down_falls, down_asked, up_full, up_lent, up_row, up_kid, up_comes}
@@ -54,9 +54,9 @@ pub returns-in_err-below : goal.returns-in_err-below
 returns-in_err-below t c =
     let k = c.kid_of-kid in
     λ ns q.
-        let below = c.fill_frames.ensures ns (down_asked q k.result k.ensures c.if-down-kid-eq0.false) in
-        let d = below_as c.args.words.now ns c.args.used c.args.down.now k.result c.args.with.0 below c.in_err-below.was in
-        (comes_as (sym c.from_residual.ensures) (up_full q k.result k.ensures d)).came
+    let below = c.fill_frames.ensures ns (down_asked q k.result k.ensures c.if-down-kid-eq0.false) in
+    let d = below_as c.args.words.now ns c.args.used c.args.down.now k.result c.args.with.0 below c.in_err-below.was in
+    (comes_as (sym c.from_residual.ensures) (up_full q k.result k.ensures d)).came
 
 pub above-requires-2 : goal.above-requires-2
 above-requires-2 t c =
@@ -70,6 +70,6 @@ pub returns : goal.returns
 returns t c =
     let k = c.kid_of-kid in
     λ ns q.
-        let below = c.fill_frames.ensures ns (down_asked q k.result k.ensures c.if-down-kid-eq0.false) in
-        let d = below_as c.args.words.now ns c.args.used c.args.down.now k.result c.args.with.0 below c.in_ok-below.was in
-        (up_comes q k.result k.ensures d c.above-2.ensures).came
+    let below = c.fill_frames.ensures ns (down_asked q k.result k.ensures c.if-down-kid-eq0.false) in
+    let d = below_as c.args.words.now ns c.args.used c.args.down.now k.result c.args.with.0 below c.in_ok-below.was in
+    (up_comes q k.result k.ensures d c.above-2.ensures).came

@@ -19,5 +19,5 @@ returns c =
     let r = c.requires in
     let a = c.args in
     let asked : FramesAsked a.words.now a.counts.now a.used a.index.now a.down.now a.row.0 a.with.0 =
-        record { bank = r.0; places_long = r.1; row_used = r.2; with_used = r.3; named = c.if-down-i-eq0.false; fits = r.4 } in
+    record { bank = r.0; places_long = r.1; row_used = r.2; with_used = r.3; named = c.if-down-i-eq0.false; fits = r.4 } in
     c.fill_frames.ensures a.counts.now asked

@@ -1,9 +1,8 @@
 -- `sizes::row_size`: four children of at most 1,025 symbols and the root fit a number, and their sum, cut, is the row's size.
-use mathlib.Core.Path.{◌≡◌, sym, ap, ◌∙◌}
-use Prim.Native.Nat.{ℕ, ◌<◌, ◌≤◌, min}
+use mathlib.Core.Path.{◌≡◌, ap, ◌∙◌}
+use Prim.Native.Nat.{ℕ, ◌<◌, min}
 use Rattle.std.proofs.lemmas.Grind.{common_steps}
 use native.Mathlib.Omega.{arith}
-use borrow.Author.Rules.{rules}
 use lib.ListN.{get_or}
 use Rattle.bank.specs.Rows.{symbol_in}
 use Rattle.bank.proofs.Laws.Children.{row_known}

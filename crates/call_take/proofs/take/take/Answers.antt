@@ -6,7 +6,6 @@ use Prim.Native.Nat.{ℕ, ◌+◌}
 use native.Mathlib.Omega.{arith}
 use borrow.Author.Rules.{rules}
 use Rattle.std.specs.Prelude.{Option}
-use Rattle.model.specs.Calls.{fault_of}
 use Rattle.model.specs.Entry.{Arrays, tables_of, refused}
 use Rattle.model.specs.declared.Lists.{Lists}
 use Rattle.bank.specs.Rows.{with_answer}
@@ -33,7 +32,7 @@ returns-in_default c =
     let a : Arrays c.args.lists = record { counts = search rules; s = search rules; t = search rules; c = search rules } in
     let r = c.requires in
     let t : Given c.args.words.now c.args.lists c.args.said c.args.symbols.now c.args.index.now c.args.table.now c.args.notes.now =
-        record { size = r.0; lent = r.1; sound = r.2; free = r.3; working = r.4; wide = r.6; arrays = a } in
+    record { size = r.0; lent = r.1; sound = r.2; free = r.3; working = r.4; wide = r.6; arrays = a } in
     full_called t (came c.args.words.now c.args.lists c.args.said c.args.symbols.now c.in_default.is c.row_for.ensures) c.save.ensures c.restore.ensures c.refuse.ensures.0 c.refuse.ensures.1
 
 pub answer_of-old-requires : goal.answer_of-old-requires
@@ -41,7 +40,7 @@ answer_of-old-requires c =
     let a : Arrays c.args.lists = record { counts = search rules; s = search rules; t = search rules; c = search rules } in
     let r = c.requires in
     let t : Given c.args.words.now c.args.lists c.args.said c.args.symbols.now c.args.index.now c.args.table.now c.args.notes.now =
-        record { size = r.0; lent = r.1; sound = r.2; free = r.3; working = r.4; wide = r.6; arrays = a } in
+    record { size = r.0; lent = r.1; sound = r.2; free = r.3; working = r.4; wide = r.6; arrays = a } in
     row_within t (built_at t (came c.args.words.now c.args.lists c.args.said c.args.symbols.now c.in-Some.is c.row_for.ensures))
 
 pub set_answer-requires : goal.set_answer-requires
@@ -49,7 +48,7 @@ set_answer-requires c =
     let a : Arrays c.args.lists = record { counts = search rules; s = search rules; t = search rules; c = search rules } in
     let r = c.requires in
     let t : Given c.args.words.now c.args.lists c.args.said c.args.symbols.now c.args.index.now c.args.table.now c.args.notes.now =
-        record { size = r.0; lent = r.1; sound = r.2; free = r.3; working = r.4; wide = r.6; arrays = a } in
+    record { size = r.0; lent = r.1; sound = r.2; free = r.3; working = r.4; wide = r.6; arrays = a } in
     row_within t (built_at t (came c.args.words.now c.args.lists c.args.said c.args.symbols.now c.in-Some.is c.row_for.ensures))
 
 pub advance-requires : goal.advance-requires
@@ -57,7 +56,7 @@ advance-requires c =
     let a : Arrays c.args.lists = record { counts = search rules; s = search rules; t = search rules; c = search rules } in
     let r = c.requires in
     let t : Given c.args.words.now c.args.lists c.args.said c.args.symbols.now c.args.index.now c.args.table.now c.args.notes.now =
-        record { size = r.0; lent = r.1; sound = r.2; free = r.3; working = r.4; wide = r.6; arrays = a } in
+    record { size = r.0; lent = r.1; sound = r.2; free = r.3; working = r.4; wide = r.6; arrays = a } in
     let q = built_at t (came c.args.words.now c.args.lists c.args.said c.args.symbols.now c.in-Some.is c.row_for.ensures) in
     let m = marked c.row_for.new.words c.in-Some.field-0.row.0 c.args.said c.mark_of.ensures c.from.ensures c.set_answer.ensures.words in
     steps_on t q m c.given-begun.ensures
@@ -67,7 +66,7 @@ told-requires c =
     let a : Arrays c.args.lists = record { counts = search rules; s = search rules; t = search rules; c = search rules } in
     let r = c.requires in
     let t : Given c.args.words.now c.args.lists c.args.said c.args.symbols.now c.args.index.now c.args.table.now c.args.notes.now =
-        record { size = r.0; lent = r.1; sound = r.2; free = r.3; working = r.4; wide = r.6; arrays = a } in
+    record { size = r.0; lent = r.1; sound = r.2; free = r.3; working = r.4; wide = r.6; arrays = a } in
     let q = built_at t (came c.args.words.now c.args.lists c.args.said c.args.symbols.now c.in-Some.is c.row_for.ensures) in
     let m = marked c.row_for.new.words c.in-Some.field-0.row.0 c.args.said c.mark_of.ensures c.from.ensures c.set_answer.ensures.words in
     left_fit t q m c.given-begun.ensures (record { ended = c.advance.ensures }) c.in-Ok.is
@@ -77,7 +76,7 @@ set_answer-requires-in-Err c =
     let a : Arrays c.args.lists = record { counts = search rules; s = search rules; t = search rules; c = search rules } in
     let r = c.requires in
     let t : Given c.args.words.now c.args.lists c.args.said c.args.symbols.now c.args.index.now c.args.table.now c.args.notes.now =
-        record { size = r.0; lent = r.1; sound = r.2; free = r.3; working = r.4; wide = r.6; arrays = a } in
+    record { size = r.0; lent = r.1; sound = r.2; free = r.3; working = r.4; wide = r.6; arrays = a } in
     let q = built_at t (came c.args.words.now c.args.lists c.args.said c.args.symbols.now c.in-Some.is c.row_for.ensures) in
     let m = marked c.row_for.new.words c.in-Some.field-0.row.0 c.args.said c.mark_of.ensures c.from.ensures c.set_answer.ensures.words in
     short_within t q m c.given-begun.ensures (record { ended = c.advance.ensures }) c.in-Err.is
@@ -87,7 +86,7 @@ restore-requires-in-Err c =
     let a : Arrays c.args.lists = record { counts = search rules; s = search rules; t = search rules; c = search rules } in
     let r = c.requires in
     let t : Given c.args.words.now c.args.lists c.args.said c.args.symbols.now c.args.index.now c.args.table.now c.args.notes.now =
-        record { size = r.0; lent = r.1; sound = r.2; free = r.3; working = r.4; wide = r.6; arrays = a } in
+    record { size = r.0; lent = r.1; sound = r.2; free = r.3; working = r.4; wide = r.6; arrays = a } in
     let q = built_at t (came c.args.words.now c.args.lists c.args.said c.args.symbols.now c.in-Some.is c.row_for.ensures) in
     let m = marked c.row_for.new.words c.in-Some.field-0.row.0 c.args.said c.mark_of.ensures c.from.ensures c.set_answer.ensures.words in
     let g = c.given-begun.ensures in
@@ -100,7 +99,7 @@ returns-in-Ok c =
     let a : Arrays c.args.lists = record { counts = search rules; s = search rules; t = search rules; c = search rules } in
     let r = c.requires in
     let t : Given c.args.words.now c.args.lists c.args.said c.args.symbols.now c.args.index.now c.args.table.now c.args.notes.now =
-        record { size = r.0; lent = r.1; sound = r.2; free = r.3; working = r.4; wide = r.6; arrays = a } in
+    record { size = r.0; lent = r.1; sound = r.2; free = r.3; working = r.4; wide = r.6; arrays = a } in
     let q = built_at t (came c.args.words.now c.args.lists c.args.said c.args.symbols.now c.in-Some.is c.row_for.ensures) in
     let m = marked c.row_for.new.words c.in-Some.field-0.row.0 c.args.said c.mark_of.ensures c.from.ensures c.set_answer.ensures.words in
     left_called t q m c.given-begun.ensures (record { ended = c.advance.ensures }) c.in-Ok.is (c.told.ensures c.advance.new.words) refl
@@ -110,7 +109,7 @@ returns-in-Err c =
     let a : Arrays c.args.lists = record { counts = search rules; s = search rules; t = search rules; c = search rules } in
     let r = c.requires in
     let t : Given c.args.words.now c.args.lists c.args.said c.args.symbols.now c.args.index.now c.args.table.now c.args.notes.now =
-        record { size = r.0; lent = r.1; sound = r.2; free = r.3; working = r.4; wide = r.6; arrays = a } in
+    record { size = r.0; lent = r.1; sound = r.2; free = r.3; working = r.4; wide = r.6; arrays = a } in
     let q = built_at t (came c.args.words.now c.args.lists c.args.said c.args.symbols.now c.in-Some.is c.row_for.ensures) in
     let m = marked c.row_for.new.words c.in-Some.field-0.row.0 c.args.said c.mark_of.ensures c.from.ensures c.set_answer.ensures.words in
     short_called t q m c.given-begun.ensures (record { ended = c.advance.ensures }) c.in-Err.is c.answer_of-old.ensures c.set_answer-in-Err.ensures.words c.save.ensures c.restore-in-Err.ensures

@@ -1,6 +1,6 @@
 -- `putdown::put_down`: where rows run out the first rows are kept, and else the step goes on from the lists with the context.
 -- Those lists mean the tables with the context, over the words that hold its rows; of the table of answers no row is known.
-use mathlib.Core.Path.{◌≡◌, sym, ap, subst, ◌∙◌}
+use mathlib.Core.Path.{◌≡◌, sym, ap, subst}
 use mathlib.Core.List.{List}
 use Prim.Native.Nat.{ℕ}
 use lib.ListN.{length}
@@ -22,7 +22,6 @@ use Rattle.bank_fill.specs.Adding.{Came}
 use Rattle.bank_fill.proofs.Laws.Coming.{Comes, comes_as}
 use Rattle.bank_fill.proofs.Laws.Filling.{reached}
 use Rattle.run_lists.specs.Members.{counts_in}
-use Rattle.run_lists.proofs.Laws.Arrays.{few_letters, letters_told}
 use Rattle.step_settle.proofs.Laws.Lists.{noted}
 use Rattle.step_settle.proofs.Laws.PutDown.{put_none, bank_after, run_after, known_after, put_ends}
 use Rattle.step_settle.proofs.putdown.put_down.Goals as goal
