@@ -15,6 +15,7 @@ ghost use Rattle.sound.specs.Working.{Few, Room, Working, WorkingOn, prepared_fi
 
 use bank::notes::NOTE_WIDTH;
 use bank::rows;
+use bank::terms::Terms;
 use model::limits::MOST_STATES;
 use model::{Lists, Row};
 
@@ -86,7 +87,8 @@ fn prepare(
     if !judge::roles_fit(words, counts, used, index, s, t, c) {
         return false;
     }
-    table_answers::observe(words, counts, used, index, t, c, table, notes);
+    let bank = Terms::new(words, counts, used, index);
+    table_answers::observe(&bank, t, c, table, notes);
     true
 }
 
