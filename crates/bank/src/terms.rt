@@ -181,4 +181,11 @@ impl<'a> Terms<'a> {
         let place = self.hole_place(row);
         self.exchanged(row, place, with)
     }
+
+    // The words that the rows lie in.
+    pub fn words(&self) -> &'a [u32]
+        ensures { result.now ≡ self.now.words }
+    {
+        self.words
+    }
 }
