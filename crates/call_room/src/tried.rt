@@ -8,9 +8,10 @@ ghost use Rattle.call.specs.Calls.{CallAs};
 ghost use Rattle.call.specs.Said.{call_of};
 ghost use Rattle.call_room.specs.Tried.{TriedAs, spare_rows};
 
-use call::{Done, Said, ladder};
+use call::{Said, ladder};
 use model::Lists;
 use model::limits::ROW_WIDTH;
+use model::refusal::Refusal;
 
 // Rows past the used ones that a call is first tried with, and then.
 const SPARE_ROWS: usize = 64;
@@ -38,7 +39,7 @@ fn first(
     symbols: &[u8],
     said: Said,
     saved: &mut [u32],
-) -> Option<Done>
+) -> Option<Result<Lists, Refusal>>
     requires { (size_fits words.old ≡ true)
         × (lent_fits words.old lists ≡ true)
         × (row_width ≤ length saved.old)
@@ -48,8 +49,7 @@ fn first(
     let spare = saved.len() / ROW_WIDTH;
     let n = words.len().min(ROW_WIDTH * (lists.used as usize + spare));
     let done = call_sizes::in_smallest(&mut words[..n], lists, symbols, said, saved);
-    let seen = done.seen;
-    if seen.number == 34 && n < words.len() {
+    if matches!(done, Err(Refusal::RowsShort)) && n < words.len() {
         return None;
     }
     Some(done)
@@ -57,7 +57,7 @@ fn first(
 
 // Tried with more rows, and where they are not enough and more are lent, made with all.
 #[inline(never)]
-fn tried_more(words: &mut [u32], lists: Lists, symbols: &[u8], said: Said) -> Done
+fn tried_more(words: &mut [u32], lists: Lists, symbols: &[u8], said: Said) -> Result<Lists, Refusal>
     requires { (size_fits words.old ≡ true) × (lent_fits words.old lists ≡ true) }
     ensures { CallAs words.old lists (call_of said symbols.now) result words.new }
 {
@@ -72,12 +72,10 @@ fn tried_more(words: &mut [u32], lists: Lists, symbols: &[u8], said: Said) -> Do
 
 // 18, 30, then the call's own lines and its step: tried with few rows where the call is small, and where they are not enough and
 // more are lent, with more.
-pub fn made(words: &mut [u32], lists: Lists, symbols: &[u8], said: Said) -> Done
+pub fn made(words: &mut [u32], lists: Lists, symbols: &[u8], said: Said) -> Result<Lists, Refusal>
     ensures { CallAs words.old lists (call_of said symbols.now) result words.new }
 {
-    if let Err(refusal) = call::lent_fault(words, lists) {
-        return call::refuse(u8::from(refusal), lists);
-    }
+    call::lent_fault(words, lists)?;
     if is_short(lists.used, lists.rules, symbols.len()) {
         let mut saved = [0u32; ROW_WIDTH * SPARE_ROWS];
         if let Some(done) = first(words, lists, symbols, said, &mut saved) {
