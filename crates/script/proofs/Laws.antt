@@ -8,7 +8,12 @@ use native.Mathlib.Omega.{arith}
 use lib.Dec.{eqb}
 use borrow.Author.Tests.{eq-eqb, ne_eqb, le-ltb}
 use lib.ListN.{length, get_or, take, drop, drop_of_length-le, length-append, length-take, length-drop}
-use Rattle.model.proofs.Laws.Scans.{drop_next}
+use Rattle.std.proofs.Common.{Option}
+use Rattle.std.specs.List.{position, position_or_len}
+use Rattle.std.specs.Option.{unwrap_or}
+use Rattle.std.proofs.lemmas.List.Sums.{prefix_len-le-length}
+use Rattle.std.proofs.lemmas.List.Recursion.{is_position_or_len}
+use Rattle.std.proofs.lemmas.Bool.Decides.{nat_tests}
 use Rattle.text.specs.Bytes.{newline, reply_room}
 use Rattle.text.specs.Script.{Reply, reply, replied_to, reply_to}
 use Rattle.text.specs.declared.Script.{Script}
@@ -23,18 +28,18 @@ pub by_test : {A : Type 0} (t : Bool) → (t ≡ true → A) → (t ≡ false �
 by_test true f g = f refl
 by_test false f g = g refl
 
-pub end_none : (bs : List ℕ) (i : ℕ) → length bs ≤ i → line_end bs i ≡ i
+-- `position` of a newline, or the length for none
+line_place : (bs : List ℕ) → line_length bs ≡ position_or_len (λ b. eqb b newline) bs
 unfolding line_length
-end_none bs i l = ap (λ (cs : List ℕ). i + line_length cs) (drop_of_length-le bs {i = i} l) ∙ omega arith
+line_place bs =
+    is_position_or_len line_length (λ b. eqb b newline) refl
+    (λ c cs. let e : suc (line_length cs) ≡ 1 + line_length cs = omega arith in ap (λ (n : ℕ). cond (eqb c newline) 0 n) e) bs
 
-module _ (bs : List ℕ) (i : ℕ) (l : i < length bs) where
-  pub end_here : get_or bs i 0 ≡ newline → line_end bs i ≡ i
-  unfolding line_length
-  end_here e = ap (λ (cs : List ℕ). i + line_length cs) (drop_next bs i l) ∙ rw (eq-eqb (get_or bs i 0) newline e) (omega arith)
-
-  pub end_later : (get_or bs i 0 ≡ newline → ⊥) → line_end bs i ≡ line_end bs (i + 1)
-  unfolding line_length
-  end_later e = ap (λ (cs : List ℕ). i + line_length cs) (drop_next bs i l) ∙ rw (ne_eqb (get_or bs i 0) newline e) (omega arith)
+pub end_found : (bs : List ℕ) (r : Option ℕ) → r ≡ position (λ b. eqb b newline) bs → unwrap_or r (length bs) ≡ line_length bs
+end_found bs r e =
+    let k = position_or_len (λ b. eqb b newline) bs in
+    let low : k ≤ length bs = prefix_len-le-length _ bs in
+    rw (e, line_place bs) (grind (arith, nat_tests, low))
 
 length_within : (bs : List ℕ) → line_length bs ≤ length bs
 unfolding line_length

@@ -22,6 +22,7 @@ pub struct Turned {
 }
 
 // After lines: whether every reply was written, the script, and the place behind them.
+// No Result: the place and the script are said where a write failed, too (`Answered`).
 #[derive(Clone, Copy)]
 pub struct Left {
     pub written: bool,
@@ -29,7 +30,7 @@ pub struct Left {
     pub at: usize,
 }
 
-// After the whole input: whether every reply was written, and the bytes read.
+// After the whole input: whether every reply was written, and the bytes read, which are said in both cases (`RanAs`).
 #[derive(Clone, Copy)]
 pub struct Ran {
     pub written: bool,
@@ -37,16 +38,13 @@ pub struct Ran {
 }
 
 // Where the line that begins at a place ends: at its newline, or at the end of the input.
-#[tactic(auto, using(crate::proofs::Laws::end_none, crate::proofs::Laws::end_here, crate::proofs::Laws::end_later))]
 fn line_end(input: &[u8], from: usize) -> usize
     requires { from ≤ length input.now }
     ensures { result ≡ line_end input.now from }
 {
-    let mut end = from;
-    while end < input.len() && input[end] != b'\n' {
-        end += 1;
-    }
-    end
+    let rest = &input[from..];
+    let place = rest.iter().position(|byte| *byte == b'\n');
+    from + place.unwrap_or(rest.len())
 }
 
 // A turn: the reply to the line that begins at a place.
@@ -125,12 +123,11 @@ fn whole(input: &[u8], at: usize, from: usize) -> usize
         return from;
     }
     let mut end = at;
-    let mut i = from;
-    while i < input.len() {
+    // Forwards, as `whole_from` goes: the clause of `rposition` speaks of steps from the back.
+    for i in from..input.len() {
         if input[i] == b'\n' {
             end = i + 1;
         }
-        i += 1;
     }
     end
 }

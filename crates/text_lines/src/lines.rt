@@ -14,34 +14,19 @@ pub enum Asked {
 }
 
 // What a line asks for; the record of an offer is still to be read.
+#[tactic(auto, using(crate::proofs::Laws::Asking::asked_by, std::proofs::lemmas::Bool::Decides::nat_tests))]
 pub fn asked_of(line: &[u8]) -> Asked
     ensures { result ≡ asked_of line.now }
 {
-    let len = line.len();
-    if len == 1 {
-        if line[0] == b'y' {
-            return Asked::Answer(1);
-        }
-        if line[0] == b'n' {
-            return Asked::Answer(0);
-        }
+    if line.len() > MOST_INPUT {
         return Asked::Nothing;
     }
-    if len < 2 {
-        return Asked::Nothing;
+    match line {
+        b"y" => Asked::Answer(1),
+        b"n" => Asked::Answer(0),
+        b"ok" => Asked::Accept,
+        [b'+', b' ', ..] => Asked::Offer(1),
+        [b'-', b' ', ..] => Asked::Offer(0),
+        _ => Asked::Nothing,
     }
-    if len == 2 {
-        if line[0] == b'o' && line[1] == b'k' {
-            return Asked::Accept;
-        }
-    }
-    if len <= MOST_INPUT && line[1] == b' ' {
-        if line[0] == b'+' {
-            return Asked::Offer(1);
-        }
-        if line[0] == b'-' {
-            return Asked::Offer(0);
-        }
-    }
-    Asked::Nothing
 }

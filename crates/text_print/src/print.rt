@@ -13,22 +13,14 @@ use model::Row;
 fn letter_of(letters: &[u8], symbol: u32) -> u8
     ensures { result ≡ letter_of letters.now symbol }
 {
-    let i = symbol as usize;
-    if i < letters.len() {
-        return letters[i];
-    }
-    b'?'
+    letters.get(symbol as usize).copied().unwrap_or(b'?')
 }
 
 // How many children a symbol has.
 fn count_of(counts: &[u8], symbol: u32) -> u8
     ensures { result ≡ get_or counts.now symbol 0 }
 {
-    let i = symbol as usize;
-    if i < counts.len() {
-        return counts[i];
-    }
-    0
+    counts.get(symbol as usize).copied().unwrap_or(0)
 }
 
 // A record: its letter, then its children in brackets.

@@ -56,8 +56,7 @@ pub fn tell_unread(out: &mut [u8]) -> usize
     ensures value { result ≡ length unread_text }
     ensures out { out.new ≡ over unread_text out.old }
 {
-    let line = [b'u', b'n', b'r', b'e', b'a', b'd', b'\n'];
-    list::put_bytes(out, 0, &line)
+    list::put_bytes(out, 0, b"unread\n")
 }
 
 // An accepted run.
@@ -66,8 +65,7 @@ fn tell_accepted(out: &mut [u8]) -> usize
     ensures value { result ≡ length accepted_text }
     ensures out { out.new ≡ over accepted_text out.old }
 {
-    let line = [b'a', b'c', b'c', b'e', b'p', b't', b'e', b'd', b'\n'];
-    list::put_bytes(out, 0, &line)
+    list::put_bytes(out, 0, b"accepted\n")
 }
 
 // The word for a refusal and its number, at the beginning.
@@ -76,8 +74,7 @@ fn put_refused(number: u8, out: &mut [u8]) -> usize
     ensures value { (result ≡ length (numbered refused_word number)) × (result ≤ length refused_word + 6) }
     ensures out { out.new ≡ put_at 0 (numbered refused_word number) out.old }
 {
-    let word = [b'r', b'e', b'f', b'u', b's', b'e', b'd'];
-    let at = list::put_bytes(out, 0, &word);
+    let at = list::put_bytes(out, 0, b"refused");
     put_number(number as u16, out, at)
 }
 
@@ -123,8 +120,7 @@ fn tell_proposal(states: u16, rules: u16, contexts: u16, out: &mut [u8]) -> usiz
     ensures value { result ≡ length (propose_text states rules contexts) }
     ensures out { out.new ≡ over (propose_text states rules contexts) out.old }
 {
-    let word = [b'p', b'r', b'o', b'p', b'o', b's', b'e'];
-    let a = list::put_bytes(out, 0, &word);
+    let a = list::put_bytes(out, 0, b"propose");
     let b = put_number(states, out, a);
     let c = put_number(rules, out, b);
     let end = put_number(contexts, out, c);
@@ -154,8 +150,7 @@ fn put_question(
     if bank_listed::sizes::size_of(words, counts, used, row) as usize <= MOST_LISTED {
         return print::print_record(words, counts, used, letters, row, out, at);
     }
-    let word = [b'r', b'o', b'w'];
-    let after = list::put_bytes(out, at, &word);
+    let after = list::put_bytes(out, at, b"row");
     put_number(row.0, out, after)
 }
 
@@ -173,8 +168,7 @@ fn tell_question(
     ensures out { let x = store_of words.now counts.now used in
         out.new ≡ over (ask_text letters.now x row.0) out.old }
 {
-    let word = [b'a', b's', b'k', b' '];
-    let at = list::put_bytes(out, 0, &word);
+    let at = list::put_bytes(out, 0, b"ask ");
     let end = put_question(words, counts, used, letters, row, out, at);
     out[end] = b'\n';
     end + 1

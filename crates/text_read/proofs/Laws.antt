@@ -13,10 +13,12 @@ use lib.ListN.{length, get_or, set, take, drop, length-set, length-take, length-
 use lib.Seq.{length-take-le, drop-cons, drop-drop, get_or-take, get_or-drop, drop-set-lt, take-set-lt, take-suc-set}
 use borrow.Author.Tests.{eq-eqb, ne_eqb, lt-ltb, le-ltb, le-leb, lt-leb}
 use Rattle.model.specs.Limits.{most_children}
+use Rattle.model.proofs.Laws.Scans.{drop_next}
 use Rattle.text.specs.Bytes.{comma, opening, closing, most_input}
 use Rattle.text.specs.Reading.{Reading, unread, read, no_symbol, place_for, indexed_from, symbol_in, closed, opens, after_child, record_at, list_at, balanced_from, known_of, whole_of, read_text}
 use Rattle.text.proofs.Steps.{record_none, record_step, list_step}
-use Rattle.text_read.specs.Reads.{Reads, left_at, read_code, ReadAs, TextAs}
+use Rattle.text_read.specs.Reads.{Reads, left_at, read_code, ReadAs, TextAs, counted}
+use Rattle.std.proofs.Common.{Some, None}
 
 -- WHAT IS LEFT
 left_none : (bs : List ℕ) (len at : ℕ) → len ≤ at → left_at bs len at ≡ []
@@ -74,34 +76,35 @@ unfolding balanced_from
 stays zero b bs c o = rw (ne_eqb b closing c, ne_eqb b opening o)
 stays (suc d) b bs c o = rw (ne_eqb b closing c, ne_eqb b opening o)
 
--- the depth falls at a closing bracket, and then rises at an opening one
-stepped : (d low high b : ℕ) (bs : List ℕ) → ((b ≡ closing) × (d ≡ 0 → ⊥) × (low ≡ d - 1)) ⊎ ((b ≡ closing → ⊥) × (low ≡ d)) →
-    ((b ≡ opening) × (high ≡ low + 1)) ⊎ ((b ≡ opening → ⊥) × (high ≡ low)) → (high ≤ d + 1) × (balanced_from high bs ≡ balanced_from d (b ∷ bs))
-stepped d low high b bs (inl p) (inl q) = absurd (omega arith)
-stepped d low high b bs (inl p) (inr q) = (omega arith, ap (λ (n : ℕ). balanced_from n bs) (q.1 ∙ p.2) ∙ sym (closes d b bs p.0 p.1))
-stepped d low high b bs (inr p) (inl q) =
-    let e : high ≡ d + 1 = omega arith in (omega arith, ap (λ (n : ℕ). balanced_from n bs) e ∙ sym (opened d b bs q.0))
-stepped d low high b bs (inr p) (inr q) = (omega arith, ap (λ (n : ℕ). balanced_from n bs) (q.1 ∙ p.1) ∙ sym (stays d b bs p.0 q.0))
+unopened : (d b : ℕ) (bs : List ℕ) → b ≡ closing → d ≡ 0 → balanced_from d (b ∷ bs) ≡ false
+unfolding balanced_from
+unopened zero b bs e z = rw e
+unopened (suc d) b bs e z = absurd (omega arith)
 
-module _ (d : ℕ) (bs : List ℕ) (len i : ℕ) {goal : Bool} (e : balanced_from d (left_at bs len i) ≡ goal) where
-  pub balanced_all : len ≤ i → eqb d 0 ≡ goal
+module _ (d : ℕ) (bs : List ℕ) (i : ℕ) {goal : Bool} (e : balanced_from d (drop i bs) ≡ goal) where
+  pub balanced_end : length bs ≤ i → eqb d 0 ≡ goal
   unfolding balanced_from
-  balanced_all l = go d ∙ ap (balanced_from d) (sym (left_none bs len i l)) ∙ e
+  balanced_end l = go d ∙ ap (balanced_from d) (sym (drop_of_length-le bs {i = i} l)) ∙ e
     where
       go : (n : ℕ) → eqb n 0 ≡ balanced_from n []
       go zero = refl
       go (suc n) = refl
 
-  module _ (few : len ≤ length bs) (l : i < len) where
-    pub balanced_never : get_or bs i 0 ≡ closing → d ≡ 0 → false ≡ goal
-    unfolding balanced_from
-    balanced_never c z = rw (left_cons bs len i few l, c, z) at e
+  module _ (l : i < length bs) where
+    at_byte_i : balanced_from d (get_or bs i 0 ∷ drop (i + 1) bs) ≡ goal
+    at_byte_i = ap (balanced_from d) (sym (drop_next bs i l)) ∙ e
 
-    pub balanced_turn : (low high : ℕ) → ((get_or bs i 0 ≡ closing) × (d ≡ 0 → ⊥) × (low ≡ d - 1)) ⊎ ((get_or bs i 0 ≡ closing → ⊥) × (low ≡ d)) →
-        ((get_or bs i 0 ≡ opening) × (high ≡ low + 1)) ⊎ ((get_or bs i 0 ≡ opening → ⊥) × (high ≡ low)) →
-        (high ≤ d + 1) × (balanced_from high (left_at bs len (i + 1)) ≡ goal)
-    balanced_turn low high p q =
-        let s = stepped d low high (get_or bs i 0) (left_at bs len (i + 1)) p q in (s.0, s.1 ∙ (rw (left_cons bs len i few l) at e))
+    pub balanced_never : get_or bs i 0 ≡ closing → d ≡ 0 → false ≡ goal
+    balanced_never c z = sym (unopened d (get_or bs i 0) (drop (i + 1) bs) c z) ∙ at_byte_i
+
+    pub balanced_closes : (n : ℕ) → n ≡ d - 1 → get_or bs i 0 ≡ closing → (d ≡ 0 → ⊥) → balanced_from n (drop (i + 1) bs) ≡ goal
+    balanced_closes n m c z = ap (λ (k : ℕ). balanced_from k (drop (i + 1) bs)) m ∙ sym (closes d (get_or bs i 0) (drop (i + 1) bs) c z) ∙ at_byte_i
+
+    pub balanced_opens : (n : ℕ) → n ≡ d + 1 → get_or bs i 0 ≡ opening → balanced_from n (drop (i + 1) bs) ≡ goal
+    balanced_opens n m c = ap (λ (k : ℕ). balanced_from k (drop (i + 1) bs)) m ∙ sym (opened d (get_or bs i 0) (drop (i + 1) bs) c) ∙ at_byte_i
+
+    pub balanced_stays : (n : ℕ) → n ≡ d → (get_or bs i 0 ≡ closing → ⊥) → (get_or bs i 0 ≡ opening → ⊥) → balanced_from n (drop (i + 1) bs) ≡ goal
+    balanced_stays n m c o = ap (λ (k : ℕ). balanced_from k (drop (i + 1) bs)) m ∙ sym (stays d (get_or bs i 0) (drop (i + 1) bs) c o) ∙ at_byte_i
 
 -- A READING past a place is one past any place before
 further : (x : Reading) (r len from at : ℕ) (after : List ℕ) → at ≤ from → ReadAs x r len from after → ReadAs x r len at after
@@ -265,32 +268,48 @@ module _ {bs kn : List ℕ} {len at n r : ℕ} {cs : List ℕ} (h : Tried bs kn 
             rw is (further (list_at kn b (k + 1) (take (r % 131072) cs) (left_at cs len (r / 131072 + 1))) q len (r / 131072 + 1) at after (omega arith) g)
 
 -- A WHOLE TEXT
-none_read : (n : ℕ) (after : List ℕ) → n ≡ 0 → length after ≡ most_input → TextAs [] n after
-none_read n after z e = record { count = z; symbols = ap (λ (j : ℕ). take j after) z; room = e }
+none_read : (after : List ℕ) → length after ≡ most_input → TextAs [] None after
+none_read after e = record { count = refl; symbols = refl; room = e }
 
-pub unbalanced : (ls ns us after : List ℕ) → balanced_from 0 us ≡ false → length after ≡ most_input → TextAs (read_text ls ns us) 0 after
-unbalanced ls ns us after z e = rw z (none_read 0 after refl e)
+pub unbalanced : (ls ns us after : List ℕ) → balanced_from 0 us ≡ false → length after ≡ most_input → TextAs (read_text ls ns us) None after
+unbalanced ls ns us after z e = rw z (none_read after e)
 
 code_within : (x : Reading) (r len at : ℕ) (after : List ℕ) → len ≤ most_input → ReadAs x r len at after → r / 131072 ≤ len
 code_within unread r len at after f h = omega (arith, h.0)
 code_within (read xs bs) r len at after f h = omega (arith, h.code, h.before, h.within)
 
-bytes_behind : (x : Reading) (r len at : ℕ) (after : List ℕ) → len ≤ most_input → (r / 131072 ≡ len → ⊥) → ReadAs x r len at after → TextAs (whole_of x) 0 after
-bytes_behind unread r len at after f e h = none_read 0 after refl h.1
-bytes_behind (read xs []) r len at after f e h =
-    absurd (omega (arith, h.code, h.before, h.within, h.room, ap length h.rest, length-drop h.next (take len after), length-take len after))
-bytes_behind (read xs (b ∷ bs)) r len at after f e h = none_read 0 after refl h.room
+-- bytes behind the record, or no symbol: no record
+none_whole : (x : Reading) (r len at : ℕ) (after : List ℕ) → len ≤ most_input → (r / 131072 ≡ len → r % 131072 ≡ 0) → ReadAs x r len at after → TextAs (whole_of x) None after
+none_whole unread r len at after f e h = none_read after h.1
+none_whole (read [] []) r len at after f e h = none_read after h.room
+none_whole (read (x ∷ xs) []) r len at after f e h =
+    absurd (omega (
+      arith,
+      e (omega (arith, h.code, h.before, h.within, h.room, ap length h.rest, length-drop h.next (take len after), length-take len after)),
+      h.code,
+      h.before,
+      h.within,
+      h.room,
+      length-take-le h.size after (omega (arith, h.before, h.within, h.room)),
+      ap length h.symbols,
+    ))
+none_whole (read xs (b ∷ bs)) r len at after f e h = none_read after h.room
 
-none_behind : (x : Reading) (r len at : ℕ) (after : List ℕ) → len ≤ most_input → r / 131072 ≡ len → ReadAs x r len at after → TextAs (whole_of x) (r % 131072) after
-none_behind unread r len at after f e h = none_read (r % 131072) after (omega (arith, h.0)) h.1
-none_behind (read xs []) r len at after f e h =
+some_counted : (xs : List ℕ) (n : ℕ) → n ≡ length xs → (n ≡ 0 → ⊥) → Some n ≡ counted xs
+some_counted [] n e z = absurd (z e)
+some_counted (x ∷ xs) n e z = ap Some e
+
+none_behind : (x : Reading) (r len at : ℕ) (after : List ℕ) → len ≤ most_input → r / 131072 ≡ len → (r % 131072 ≡ 0 → ⊥) → ReadAs x r len at after → TextAs (whole_of x) (Some (r % 131072)) after
+none_behind unread r len at after f e z h = absurd (z (omega (arith, h.0)))
+none_behind (read xs []) r len at after f e z h =
     let q : r % 131072 ≡ h.size = omega (arith, h.code, h.before, h.within) in
+    let n : h.size ≡ length xs = sym (length-take-le h.size after (omega (arith, h.before, h.within, h.room))) ∙ ap length h.symbols in
     record {
-      count = q ∙ sym (length-take-le h.size after (omega (arith, h.before, h.within, h.room))) ∙ ap length h.symbols;
-      symbols = ap (λ (j : ℕ). take j after) q ∙ h.symbols;
+      count = some_counted xs (r % 131072) (q ∙ n) z;
+      symbols = ap (λ (j : ℕ). take j after) (sym n) ∙ h.symbols;
       room = h.room;
     }
-none_behind (read xs (b ∷ bs)) r len at after f e h =
+none_behind (read xs (b ∷ bs)) r len at after f e z h =
     absurd (omega (arith, h.code, h.before, h.within, ap length h.rest, length-drop h.next (take len after), length-take len after))
 
 -- one record was looked for in a balanced text, and this is what came of it
@@ -307,8 +326,8 @@ module _ {ls ns kn us : List ℕ} {len r : ℕ} {after : List ℕ} (h : Text ls 
   text_is : read_text ls ns us ≡ whole_of (record_at kn [] us)
   text_is = rw (h.balanced, h.known)
 
-  pub text_more : (r / 131072 ≡ len → ⊥) → TextAs (read_text ls ns us) 0 after
-  text_more e = rw text_is (bytes_behind (record_at kn [] us) r len 0 after h.few e h.came)
+  pub text_none : (r / 131072 ≡ len → r % 131072 ≡ 0) → TextAs (read_text ls ns us) None after
+  text_none e = rw text_is (none_whole (record_at kn [] us) r len 0 after h.few e h.came)
 
-  pub text_whole : r / 131072 ≡ len → TextAs (read_text ls ns us) (r % 131072) after
-  text_whole e = rw text_is (none_behind (record_at kn [] us) r len 0 after h.few e h.came)
+  pub text_some : r / 131072 ≡ len → (r % 131072 ≡ 0 → ⊥) → TextAs (read_text ls ns us) (Some (r % 131072)) after
+  text_some e z = rw text_is (none_behind (record_at kn [] us) r len 0 after h.few e z h.came)

@@ -1,5 +1,5 @@
 -- What the readers need, and what they give over the text that they write their symbols into.
-use Rattle.std.specs.Prelude.{◌≡◌, List, ℕ, ◌+◌, ◌*◌, ◌≤◌, ◌<◌, length, take, drop}
+use Rattle.std.specs.Prelude.{◌≡◌, List, [], ◌∷◌, Option, Some, None, ℕ, ◌+◌, ◌*◌, ◌≤◌, ◌<◌, length, take, drop}
 use Rattle.text.specs.Bytes.{most_input}
 use Rattle.text.specs.Reading.{Reading, unread, read, known_places}
 
@@ -35,8 +35,13 @@ abbrev pub ReadAs : Reading → (result len from : ℕ) → (after : List ℕ) �
 ReadAs unread r len from after = (r ≡ 0) × (length after ≡ most_input)
 ReadAs (read xs bs) r len from after = Reached xs bs r len from after
 
+-- how many symbols a text has, or none for no record
+abbrev pub counted : (symbols : List ℕ) → Option ℕ
+counted [] = None
+counted (x ∷ xs) = Some (length (x ∷ xs))
+
 -- a whole text: its symbols at its start, none for no record
-pub record TextAs (xs : List ℕ) (n : ℕ) (after : List ℕ) : Type 0 where
-  pub count : n ≡ length xs
-  pub symbols : take n after ≡ xs
+pub record TextAs (xs : List ℕ) (r : Option ℕ) (after : List ℕ) : Type 0 where
+  pub count : r ≡ counted xs
+  pub symbols : take (length xs) after ≡ xs
   pub room : length after ≡ most_input

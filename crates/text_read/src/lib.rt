@@ -10,8 +10,8 @@ ghost use Rattle.text_read.specs.Reads.{Reads, left_at, read_code, ReadAs, TextA
 
 use text::{KNOWN_PLACES, MOST_INPUT};
 
-// What a reader gives, in one number, so that it goes through a register and the stack stays small: the place after a record,
-// above the last 17 bits, and how many symbols are read; 0 for no record.
+// What a reader gives, in one number: the place after a record, above the last 17 bits, and how many symbols are read; 0 for no record.
+// Not an Option of two numbers: that goes through memory, so the last calls of the readers are no jumps, and each sibling takes stack.
 fn upto(next: u32, size: u32) -> u64
     requires { (next ≤ most_input) × (size ≤ most_input) }
     ensures { result ≡ read_code next size }
@@ -28,37 +28,28 @@ fn index(letters: &[u8], counts: &[u8]) -> [u8; KNOWN_PLACES]
     ensures { result ≡ known_of letters.now counts.now }
 {
     let mut known = [NONE; KNOWN_PLACES];
-    let mut i = 0;
-    while i < letters.len() {
+    for (i, letter) in letters.iter().enumerate() {
         let count = counts[i];
         if count <= 4 {
-            let place = 5 * letters[i] as usize + count as usize;
+            let place = 5 * *letter as usize + count as usize;
             known[place] = i as u8;
         }
-        i += 1;
     }
     known
 }
 
 // Whether no bracket closes before it opened, and none stays open.
-fn is_balanced(text: &[u8; MOST_INPUT], len: u32) -> bool
-    requires { (length text.now ≡ most_input) × (len ≤ most_input) }
-    ensures { result ≡ balanced_from 0 (take len text.now) }
+fn is_balanced(text: &[u8]) -> bool
+    ensures { result ≡ balanced_from 0 text.now }
 {
-    let mut depth: u32 = 0;
-    let mut i: u32 = 0;
-    while i < len {
-        let byte = text[i as usize];
-        if byte == b']' {
-            if depth == 0 {
-                return false;
-            }
-            depth -= 1;
+    let mut depth = 0usize;
+    for byte in text {
+        match *byte {
+            b']' if depth == 0 => return false,
+            b']' => depth -= 1,
+            b'[' => depth += 1,
+            _ => {}
         }
-        if byte == b'[' {
-            depth += 1;
-        }
-        i += 1;
     }
     depth == 0
 }
@@ -151,21 +142,27 @@ fn read_list(
     read_list(text, len, known, letter, child + 1, next + 1, n)
 }
 
-// Reads a whole text as one record: its symbols, children before parent, over the start of the text; how many there are, 0 for no record.
-pub fn read_text(text: &mut [u8; MOST_INPUT], len: u32, letters: &[u8], counts: &[u8]) -> usize
+// Reads a whole text as one record: its symbols, children before parent, over the start of the text; how many there are, or no record.
+pub fn read_text(
+    text: &mut [u8; MOST_INPUT],
+    len: u32,
+    letters: &[u8],
+    counts: &[u8],
+) -> Option<usize>
     requires { (length text.old ≡ most_input)
         × (len ≤ most_input)
         × (length letters.now ≡ length counts.now)
         × (length letters.now ≤ most_symbols) }
     ensures { TextAs (read_text letters.now counts.now (take len text.old)) result text.new }
 {
-    if !is_balanced(text, len) {
-        return 0;
+    if !is_balanced(&text[..len as usize]) {
+        return None;
     }
     let known = index(letters, counts);
     let whole = read_record(text, len, &known, 0, 0);
-    if (whole / 131072) as u32 != len {
-        return 0;
+    let size = (whole % 131072) as usize;
+    if (whole / 131072) as u32 != len || size == 0 {
+        return None;
     }
-    (whole % 131072) as usize
+    Some(size)
 }

@@ -45,19 +45,14 @@ pub fn fresh() -> Script
 fn at_stage(z: Script, stage: u8) -> Script
     ensures { result ≡ script_of stage z.letters z.lists }
 {
-    let mut after = z;
-    after.stage = stage;
-    after
+    Script { stage: stage, ..z }
 }
 
 // How many letters are in their array.
 fn letters_in(letters: u8) -> usize
     ensures { (result ≤ most_symbols) × (result ≡ min letters most_symbols) }
 {
-    if (letters as usize) < MOST_SYMBOLS {
-        return letters as usize;
-    }
-    MOST_SYMBOLS
+    (letters as usize).min(MOST_SYMBOLS)
 }
 
 // A line that is unread: it is no call.
@@ -145,12 +140,9 @@ fn first(words: &mut [u32], script: Script, line: &[u8], out: &mut [u8]) -> Repl
 {
     let mut letters = script.letters;
     let mut counts = [0u8; MOST_SYMBOLS];
-    let opened = open::alphabet_of(line, &mut letters, &mut counts);
-    let ok = opened.ok;
-    if !ok {
+    let Some(n) = open::alphabet_of(line, &mut letters, &mut counts) else {
         return unread(words, at_stage(script, 2), out);
-    }
-    let n = opened.size;
+    };
     let started = call::start(words, script.lists, &counts[..n]);
     let seen = started.seen;
     let number = seen.number;
@@ -166,8 +158,8 @@ fn first(words: &mut [u32], script: Script, line: &[u8], out: &mut [u8]) -> Repl
     told(words, begun, seen, out)
 }
 
-// The symbols of the record behind a line's sign and space, at the start of a text; how many there are, 0 where it is unread.
-fn record_in(script: Script, line: &[u8], text: &mut [u8; MOST_INPUT]) -> usize
+// The symbols of the record behind a line's sign and space, at the start of a text; how many there are, if it is read.
+fn record_in(script: Script, line: &[u8], text: &mut [u8; MOST_INPUT]) -> Option<usize>
     requires { (length text.old ≡ most_input)
         × (2 ≤ length line.now)
         × (length line.now ≤ most_input) }
@@ -191,10 +183,9 @@ fn offer(words: &mut [u32], script: Script, line: &[u8], mark: u8, out: &mut [u8
         ReplyAs reply result words.new out.old out.new }
 {
     let mut text = [0u8; MOST_INPUT];
-    let size = record_in(script, line, &mut text);
-    if size == 0 {
+    let Some(size) = record_in(script, line, &mut text) else {
         return unread(words, script, out);
-    }
+    };
     let done = call_room::offer(words, script.lists, &text[..size], mark);
     offered(words, script, done, &text[..size], out)
 }
@@ -231,14 +222,13 @@ pub fn reply(words: &mut [u32], script: Script, line: &[u8], out: &mut [u8]) -> 
             script: script,
         };
     }
-    if script.stage == 0 {
-        return first(words, script, line, out);
-    }
-    if script.stage == 1 {
-        return later(words, script, line, out);
-    }
-    Replied {
-        size: 0,
-        script: script,
+    // A number, since a caller may hand over a script at any stage: an enum would ask more.
+    match script.stage {
+        0 => first(words, script, line, out),
+        1 => later(words, script, line, out),
+        _ => Replied {
+            size: 0,
+            script: script,
+        },
     }
 }

@@ -1,56 +1,25 @@
 -- A first line read pair by pair: what is left of the line, behind the letters and counts so far, decides how the line is read.
 -- By the clauses of `pairs_from` at a rest that is split at its first bytes.
 use mathlib.Core.Path.{◌≡◌, refl, sym, ap, subst, ◌∙◌}
-use mathlib.Core.Bool.{Bool, true, false, ◌&&◌, not}
+use mathlib.Core.Bool.{Bool, true, false}
 use mathlib.Core.List.{List, [], ◌∷◌, ◌++◌}
 use Prim.Native.Nat.{ℕ, ◌+◌, ◌-◌, ◌≤◌, ◌<◌}
 use native.Mathlib.Omega.{arith}
 use native.Mathlib.Numerals.{add-one}
-use lib.Dec.{ltb, leb, eqb}
-use borrow.Author.Tests.{lt-ltb, le-ltb, ltb-true, leb-true, eq-eqb, ne_eqb}
-use lib.ListN.{length, get_or, take, drop, set, take-append-drop, drop_of_length-le, length-drop, length-set}
+use borrow.Author.Tests.{eq-eqb, ne_eqb}
+use lib.ListN.{length, get_or, take, drop, set, take-append-drop, length-set}
 use lib.Seq.{length-take-le, take-suc-set, drop-set-lt, drop-drop}
 use Rattle.model.specs.Limits.{most_symbols}
-use Rattle.model.specs.Base.{among}
-use Rattle.model.proofs.Laws.Scans.{drop_next}
-use Rattle.text.specs.Bytes.{space, zero_digit, is_letter, is_digit}
+use Rattle.text.specs.Bytes.{space, zero_digit}
 use Rattle.text.specs.Alphabet.{Alphabet, no_alphabet, alphabet, pair_fits, pairs_from, alphabet_of}
+use Rattle.std.proofs.Common.{Some, None}
+use Rattle.std.proofs.lemmas.List.{take_rest}
+use Rattle.std.proofs.lemmas.Bool.Decides.{nat_tests}
 use Rattle.text_lines.specs.Opens.{OpenedAs}
 
--- WHETHER A PAIR FITS, test by test
-module _ (ls : List ℕ) (b s d : ℕ) where
-  pub pair_full : most_symbols ≤ length ls → pair_fits ls b s d ≡ false
-  pair_full l = rw (le-ltb (length ls) most_symbols l)
-
-  module _ (l : length ls < most_symbols) where
-    pub pair_no_letter : is_letter b ≡ false → pair_fits ls b s d ≡ false
-    pair_no_letter e = rw (lt-ltb (length ls) most_symbols l, e)
-
-    pub pair_unparted : is_letter b ≡ true → (s ≡ space → ⊥) → pair_fits ls b s d ≡ false
-    pair_unparted e f = rw (lt-ltb (length ls) most_symbols l, e, ne_eqb s space f)
-
-    pub pair_no_digit : is_letter b ≡ true → s ≡ space → is_digit d ≡ false → pair_fits ls b s d ≡ false
-    pair_no_digit e f g = rw (lt-ltb (length ls) most_symbols l, e, eq-eqb s space f, g)
-
-    pub pair_apart : is_letter b ≡ true → s ≡ space → is_digit d ≡ true → pair_fits ls b s d ≡ not (among b ls)
-    pair_apart e f g = rw (lt-ltb (length ls) most_symbols l, e, eq-eqb s space f, g)
-
-  -- a pair that fits has room, and its digit is one
-  pub pair_room : pair_fits ls b s d ≡ true → length ls < most_symbols
-  pair_room e = ltb-true (length ls) most_symbols (left_true (ltb (length ls) most_symbols) (is_letter b) (eqb s space) (is_digit d) (not (among b ls)) e)
-    where
-      left_true : (p q r t u : Bool) → p && q && r && t && u ≡ true → p ≡ true
-      left_true true q r t u e = refl
-      left_true false q r t u e = e
-
-  pub pair_digit : pair_fits ls b s d ≡ true → zero_digit ≤ d
-  pair_digit e = leb-true zero_digit d (digit_true (ltb (length ls) most_symbols && is_letter b && eqb s space) (leb zero_digit d) (leb d 57) (not (among b ls)) e)
-    where
-      digit_true : (p q r u : Bool) → p && (q && r) && u ≡ true → q ≡ true
-      digit_true true true r u e = refl
-      digit_true true false r u e = e
-      digit_true false true r u e = refl
-      digit_true false false r u e = e
+-- a pair that fits has room
+pair_room : (ls : List ℕ) (b s d : ℕ) → pair_fits ls b s d ≡ true → length ls < most_symbols
+pair_room ls b s d e = grind (arith, nat_tests)
 
 -- ONE PAIR MORE of what is left
 module _ (ls ns : List ℕ) (b s d : ℕ) where
@@ -90,131 +59,119 @@ unfolding alphabet_of
 alphabet_none [] h = refl
 alphabet_none (b ∷ bs) h = absurd (omega arith)
 
--- the rest of a line, three bytes at a time
-pub drop_three : (line : List ℕ) (at : ℕ) → at + 3 ≤ length line → drop at line ≡ get_or line at 0 ∷ get_or line (at + 1) 0 ∷ get_or line (at + 2) 0 ∷ drop (at + 3) line
-drop_three line at l =
-    let e : at + 1 + 1 ≡ at + 2 = omega arith in
-    let f : at + 1 + 1 + 1 ≡ at + 3 = omega arith in
-    drop_next line at (omega arith) ∙
-    ap (λ (bs : List ℕ). get_or line at 0 ∷ bs) (drop_next line (at + 1) (omega arith)) ∙
-    ap (λ (bs : List ℕ). get_or line at 0 ∷ get_or line (at + 1) 0 ∷ bs) (drop_next line (at + 1 + 1) (omega arith)) ∙
-    (λ t. get_or line at 0 ∷ get_or line (at + 1) 0 ∷ get_or line (e t) 0 ∷ drop (f t) line)
-
 -- WHAT READING COMES TO: no alphabet, or the letters and counts at the starts of their arrays
-pub opened_not : {a : Alphabet} → a ≡ no_alphabet → (ls ls' ns' : List ℕ) → OpenedAs a (record { ok = false; size = 0 }) ls ls' ns'
-opened_not e ls ls' ns' = subst (λ (a : Alphabet). OpenedAs a (record { ok = false; size = 0 }) ls ls' ns') (sym e) refl
+pub opened_not : {a : Alphabet} → a ≡ no_alphabet → (ls ls' ns' : List ℕ) → OpenedAs a None ls ls' ns'
+opened_not e ls ls' ns' = subst (λ (a : Alphabet). OpenedAs a None ls ls' ns') (sym e) refl
 
 pub opened_by : {a : Alphabet} (n : ℕ) (ls ls' ns' : List ℕ) → a ≡ alphabet (take n ls') (take n ns') → n ≤ most_symbols → length ls' ≡ most_symbols → length ns' ≡ most_symbols →
-    drop n ls' ≡ drop n ls → OpenedAs a (record { ok = true; size = n }) ls ls' ns'
+    drop n ls' ≡ drop n ls → OpenedAs a (Some n) ls ls' ns'
 opened_by n ls ls' ns' e few l m kept =
     let k : length (take n ls') ≡ n = length-take-le n ls' (omega arith) in
-    subst (λ (a : Alphabet). OpenedAs a (record { ok = true; size = n }) ls ls' ns') (sym e) (
-      refl,
-      sym k,
-      few,
+    subst (λ (a : Alphabet). OpenedAs a (Some n) ls ls' ns') (sym e) (
+      ap Some (sym k),
+      omega arith,
       sym (take-append-drop n ls') ∙ ap (λ (bs : List ℕ). take n ls' ++ bs) kept ∙ ap (λ (i : ℕ). take n ls' ++ drop i ls) (sym k),
-      refl,
+      ap (λ (i : ℕ). take i ns') k,
       m,
     )
 
--- A FIRST LINE READ UP TO A PLACE: its letters and counts at the starts of their arrays, and the rest of it decides
-pub record Opening (line letters₀ letters counts : List ℕ) (size at : ℕ) : Type 0 where
-  pub within : at ≤ length line
+pub opened_empty : (line ls ns : List ℕ) → length line ≡ 0 → length ls ≡ most_symbols → length ns ≡ most_symbols → OpenedAs (alphabet_of line) (Some 0) ls ls ns
+opened_empty line ls ns h l m = opened_by 0 ls ls ns (alphabet_none line h) (omega arith) l m refl
+
+-- A FIRST LINE READ SO FAR: its letters and counts at the starts of their arrays, and what is left of it decides
+pub record Opening (line letters₀ letters counts : List ℕ) (size : ℕ) (rest : List ℕ) : Type 0 where
   pub few : size ≤ most_symbols
   pub letters_long : length letters ≡ most_symbols
   pub counts_long : length counts ≡ most_symbols
   pub kept : drop size letters ≡ drop size letters₀
-  pub rest : alphabet_of line ≡ pairs_from (take size letters) (take size counts) (drop at line)
+  pub left : alphabet_of line ≡ pairs_from (take size letters) (take size counts) rest
 
-pub opening_first : (line letters counts : List ℕ) → (length line ≡ 0 → ⊥) → length letters ≡ most_symbols → length counts ≡ most_symbols → Opening line letters letters counts 0 0
-opening_first line ls ns h l m =
-    record {
-      within = omega arith;
-      few = omega arith;
-      letters_long = l;
-      counts_long = m;
-      kept = refl;
-      rest = alphabet_pairs line h;
-    }
+pub opening_first : (line letters counts : List ℕ) → (length line ≡ 0 → ⊥) → length letters ≡ most_symbols → length counts ≡ most_symbols → Opening line letters letters counts 0 line
+opening_first line ls ns h l m = record { few = omega arith; letters_long = l; counts_long = m; kept = refl; left = alphabet_pairs line h }
 
--- whether the letter and the digit at a place, with what is between them, go with the letters before
-abbrev pub fits_at : (line letters : List ℕ) → (size at : ℕ) → Bool
-fits_at line ls size at = pair_fits (take size ls) (get_or line at 0) (get_or line (at + 1) 0) (get_or line (at + 2) 0)
+-- the bytes behind the first few, as a pattern takes them
+abbrev pub behind : (few : ℕ) → (bytes : List ℕ) → List ℕ
+behind k bs = take (length bs - k) (drop k bs)
 
--- the rest, from its first three bytes on
-abbrev rest_by : (line letters counts : List ℕ) → (size at : ℕ) → (behind : List ℕ) → Alphabet
-rest_by line ls ns size at bs = pairs_from (take size ls) (take size ns) (get_or line at 0 ∷ get_or line (at + 1) 0 ∷ get_or line (at + 2) 0 ∷ bs)
+-- a rest at its first bytes
+at_three : (bs : List ℕ) → 3 ≤ length bs → bs ≡ get_or bs 0 0 ∷ get_or bs 1 0 ∷ get_or bs 2 0 ∷ drop 3 bs
+at_three [] l = absurd (omega arith)
+at_three (b ∷ []) l = absurd (omega arith)
+at_three (b ∷ s ∷ []) l = absurd (omega arith)
+at_three (b ∷ s ∷ d ∷ bs) l = refl
 
--- both arrays with that pair written
-abbrev letters_by : (line letters : List ℕ) → (size at : ℕ) → List ℕ
-letters_by line ls size at = set ls size (get_or line at 0)
+at_one : (bs : List ℕ) → 1 ≤ length bs → bs ≡ get_or bs 0 0 ∷ drop 1 bs
+at_one [] l = absurd (omega arith)
+at_one (b ∷ bs) l = refl
 
-abbrev counts_by : (line counts : List ℕ) → (size at : ℕ) → List ℕ
-counts_by line ns size at = set ns size (get_or line (at + 2) 0 - zero_digit)
+at_end : (bs : List ℕ) → length bs < 1 → bs ≡ []
+at_end [] l = refl
+at_end (b ∷ bs) l = absurd (omega arith)
 
-module _ {line ls₀ ls ns : List ℕ} {size at : ℕ} (o : Opening line ls₀ ls ns size at) where
-  pub opening_short : length line - at < 3 → alphabet_of line ≡ no_alphabet
-  opening_short l = o.rest ∙ pairs_short (take size ls) (take size ns) (drop at line) (let e = length-drop at line in omega arith)
+-- whether the pair at the start of a rest goes with the letters before
+abbrev pub fits_at : (rest letters : List ℕ) → (size : ℕ) → Bool
+fits_at bs ls size = pair_fits (take size ls) (get_or bs 0 0) (get_or bs 1 0) (get_or bs 2 0)
 
-  module _ (l : at + 3 ≤ length line) where
-    rest_three : alphabet_of line ≡ rest_by line ls ns size at (drop (at + 3) line)
-    rest_three = o.rest ∙ ap (pairs_from (take size ls) (take size ns)) (drop_three line at l)
+module _ {line ls₀ ls ns : List ℕ} {size : ℕ} {rest : List ℕ} (o : Opening line ls₀ ls ns size rest) where
+  pub opening_short : length rest < 3 → alphabet_of line ≡ no_alphabet
+  opening_short l = o.left ∙ pairs_short (take size ls) (take size ns) rest l
 
-    rest_four : at + 3 < length line → alphabet_of line ≡ rest_by line ls ns size at (get_or line (at + 3) 0 ∷ drop (at + 3 + 1) line)
-    rest_four k = rest_three ∙ ap (rest_by line ls ns size at) (drop_next line (at + 3) k)
+  module _ (l : 3 ≤ length rest) where
+    left_by : (bs : List ℕ) → behind 3 rest ≡ bs → alphabet_of line ≡ pairs_from (take size ls) (take size ns) (get_or rest 0 0 ∷ get_or rest 1 0 ∷ get_or rest 2 0 ∷ bs)
+    left_by bs e =
+        o.left ∙ ap (pairs_from (take size ls) (take size ns)) (at_three rest l) ∙
+        ap (λ (cs : List ℕ). pairs_from (take size ls) (take size ns) (get_or rest 0 0 ∷ get_or rest 1 0 ∷ get_or rest 2 0 ∷ cs)) (sym (take_rest rest 3) ∙ e)
 
-    pub opening_stop : fits_at line ls size at ≡ false → alphabet_of line ≡ no_alphabet
-    opening_stop e = rest_three ∙ pairs_stop (take size ls) (take size ns) (get_or line at 0) (get_or line (at + 1) 0) (get_or line (at + 2) 0) e (drop (at + 3) line)
+    pub opening_stop : fits_at rest ls size ≡ false → alphabet_of line ≡ no_alphabet
+    opening_stop e = left_by (behind 3 rest) refl ∙ pairs_stop (take size ls) (take size ns) (get_or rest 0 0) (get_or rest 1 0) (get_or rest 2 0) e (behind 3 rest)
 
-    module _ (e : fits_at line ls size at ≡ true) where
+    module _ (e : fits_at rest ls size ≡ true) where
       pub opening_room : size < most_symbols
       opening_room =
-          let r = pair_room (take size ls) (get_or line at 0) (get_or line (at + 1) 0) (get_or line (at + 2) 0) e in
+          let r = pair_room (take size ls) (get_or rest 0 0) (get_or rest 1 0) (get_or rest 2 0) e in
           let k = length-take-le size ls (omega (arith, o.few, o.letters_long)) in
           omega arith
 
-      pub opening_digit : zero_digit ≤ get_or line (at + 2) 0
-      opening_digit = pair_digit (take size ls) (get_or line at 0) (get_or line (at + 1) 0) (get_or line (at + 2) 0) e
-
-      pub opening_unparted : at + 3 < length line → (get_or line (at + 3) 0 ≡ space → ⊥) → alphabet_of line ≡ no_alphabet
+      pub opening_unparted : 1 ≤ length (behind 3 rest) → (get_or (behind 3 rest) 0 0 ≡ space → ⊥) → alphabet_of line ≡ no_alphabet
       opening_unparted k f =
-          rest_four k ∙
-          pairs_unparted (take size ls) (take size ns) (get_or line at 0) (get_or line (at + 1) 0) (get_or line (at + 2) 0) e (get_or line (at + 3) 0) f (drop (at + 3 + 1) line)
+          left_by (get_or (behind 3 rest) 0 0 ∷ drop 1 (behind 3 rest)) (at_one (behind 3 rest) k) ∙
+          pairs_unparted (take size ls) (take size ns) (get_or rest 0 0) (get_or rest 1 0) (get_or rest 2 0) e (get_or (behind 3 rest) 0 0) f (drop 1 (behind 3 rest))
 
       -- the pair is written behind those before it
       one_more : (xs : List ℕ) → length xs ≡ most_symbols → (v : ℕ) → take (size + 1) (set xs size v) ≡ take size xs ++ (v ∷ [])
       one_more xs k v = let r = opening_room in ap (λ (n : ℕ). take n (set xs size v)) (add-one size) ∙ take-suc-set xs size v (omega arith)
 
-      letters_more : take size ls ++ (get_or line at 0 ∷ []) ≡ take (size + 1) (letters_by line ls size at)
-      letters_more = sym (one_more ls o.letters_long (get_or line at 0))
+      letters_more : take size ls ++ (get_or rest 0 0 ∷ []) ≡ take (size + 1) (set ls size (get_or rest 0 0))
+      letters_more = sym (one_more ls o.letters_long (get_or rest 0 0))
 
-      counts_more : take size ns ++ ((get_or line (at + 2) 0 - zero_digit) ∷ []) ≡ take (size + 1) (counts_by line ns size at)
-      counts_more = sym (one_more ns o.counts_long (get_or line (at + 2) 0 - zero_digit))
+      counts_more : take size ns ++ ((get_or rest 2 0 - zero_digit) ∷ []) ≡ take (size + 1) (set ns size (get_or rest 2 0 - zero_digit))
+      counts_more = sym (one_more ns o.counts_long (get_or rest 2 0 - zero_digit))
 
-      kept_more : drop (size + 1) (letters_by line ls size at) ≡ drop (size + 1) ls₀
-      kept_more = drop-set-lt (size + 1) ls size (get_or line at 0) (omega arith) ∙ sym (drop-drop 1 size ls) ∙ ap (drop 1) o.kept ∙ drop-drop 1 size ls₀
+      kept_more : drop (size + 1) (set ls size (get_or rest 0 0)) ≡ drop (size + 1) ls₀
+      kept_more = drop-set-lt (size + 1) ls size (get_or rest 0 0) (omega arith) ∙ sym (drop-drop 1 size ls) ∙ ap (drop 1) o.kept ∙ drop-drop 1 size ls₀
 
-      pub opening_more : at + 3 < length line → get_or line (at + 3) 0 ≡ space → Opening line ls₀ (letters_by line ls size at) (counts_by line ns size at) (size + 1) (at + 3 + 1)
+      pub opening_more : 1 ≤ length (behind 3 rest) → get_or (behind 3 rest) 0 0 ≡ space →
+          Opening line ls₀ (set ls size (get_or rest 0 0)) (set ns size (get_or rest 2 0 - zero_digit)) (size + 1) (behind 1 (behind 3 rest))
       opening_more k f =
           record {
-            within = omega arith;
             few = let r = opening_room in omega arith;
-            letters_long = length-set ls size (get_or line at 0) ∙ o.letters_long;
-            counts_long = length-set ns size (get_or line (at + 2) 0 - zero_digit) ∙ o.counts_long;
+            letters_long = length-set ls size (get_or rest 0 0) ∙ o.letters_long;
+            counts_long = length-set ns size (get_or rest 2 0 - zero_digit) ∙ o.counts_long;
             kept = kept_more;
-            rest =
-                rest_four k ∙
-                pairs_more (take size ls) (take size ns) (get_or line at 0) (get_or line (at + 1) 0) (get_or line (at + 2) 0) e (get_or line (at + 3) 0) f (drop (at + 3 + 1) line) ∙
-                (λ t. pairs_from (letters_more t) (counts_more t) (drop (at + 3 + 1) line));
+            left =
+                left_by (get_or (behind 3 rest) 0 0 ∷ drop 1 (behind 3 rest)) (at_one (behind 3 rest) k) ∙
+                pairs_more (take size ls) (take size ns) (get_or rest 0 0) (get_or rest 1 0) (get_or rest 2 0) e (get_or (behind 3 rest) 0 0) f (drop 1 (behind 3 rest)) ∙
+                (λ t. pairs_from (letters_more t) (counts_more t) (sym (take_rest (behind 3 rest) 1) t));
           }
 
-      pub opening_last : at + 3 ≡ length line → OpenedAs (alphabet_of line) (record { ok = true; size = size + 1 }) ls₀ (letters_by line ls size at) (counts_by line ns size at)
+      pub opening_last : length (behind 3 rest) < 1 →
+          OpenedAs (alphabet_of line) (Some (size + 1)) ls₀ (set ls size (get_or rest 0 0)) (set ns size (get_or rest 2 0 - zero_digit))
       opening_last k =
-          opened_by (size + 1) ls₀ (letters_by line ls size at) (counts_by line ns size at)
-          (rest_three ∙ ap (rest_by line ls ns size at) (drop_of_length-le line {i = at + 3} (omega arith)) ∙
-          pairs_last (take size ls) (take size ns) (get_or line at 0) (get_or line (at + 1) 0) (get_or line (at + 2) 0) e ∙
+          opened_by (size + 1) ls₀ (set ls size (get_or rest 0 0)) (set ns size (get_or rest 2 0 - zero_digit))
+          (left_by [] (at_end (behind 3 rest) k) ∙
+          pairs_last (take size ls) (take size ns) (get_or rest 0 0) (get_or rest 1 0) (get_or rest 2 0) e ∙
           (λ t. alphabet (letters_more t) (counts_more t)))
           (let r = opening_room in omega arith)
-          (length-set ls size (get_or line at 0) ∙ o.letters_long)
-          (length-set ns size (get_or line (at + 2) 0 - zero_digit) ∙ o.counts_long)
+          (length-set ls size (get_or rest 0 0) ∙ o.letters_long)
+          (length-set ns size (get_or rest 2 0 - zero_digit) ∙ o.counts_long)
           kept_more

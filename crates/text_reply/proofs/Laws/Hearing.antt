@@ -27,6 +27,7 @@ use Rattle.text.specs.Script.{Reply, reply, script, letters_of, counts_of, told,
 use Rattle.text.specs.declared.Script.{Script}
 use Rattle.text_lines.specs.declared.lines.Asked.{Asked}
 use Rattle.text_reply.specs.declared.Replied.{Replied}
+use Rattle.std.proofs.Common.{Option, Some, None}
 use Rattle.text_read.specs.Reads.{TextAs}
 use Rattle.text_print.specs.Tells.{Tellable}
 use Rattle.text_lines.specs.Asks.{asked_of}
@@ -128,34 +129,35 @@ module _ (line old : List ℕ) {after : List ℕ} {len : ℕ} (put : after ≡ p
 
 -- its symbols, over the alphabet's part of the two arrays
 module _ (z : Script) (letters : length z.letters ≡ most_symbols) (counts : length z.lists.counts ≡ most_symbols) {n : ℕ} (in-it : n ≡ min z.lists.letters most_symbols) where
-  pub text_read : (copy : List ℕ) (len : ℕ) {text : List ℕ} → take len copy ≡ text → {k : ℕ} {after : List ℕ} →
+  pub text_read : (copy : List ℕ) (len : ℕ) {text : List ℕ} → take len copy ≡ text → {k : Option ℕ} {after : List ℕ} →
       TextAs (read_text (take n z.letters) (take n z.lists.counts) (take len copy)) k after → TextAs (read_text (letters_of z) (counts_of z) text) k after
   text_read copy len e {k} {after} t = subst (λ (xs : List ℕ). TextAs xs k after) (λ i. read_text (letters_in z letters counts in-it i) (counts_in_law z letters counts in-it i) (e i)) t
 
-module _ {xs after : List ℕ} {n : ℕ} (t : TextAs xs n after) where
-  pub text_within : n ≤ length after
-  text_within = let l = length-take n after in let e = ap length t.symbols in omega (arith, l, e, t.count)
+-- none where it is unread, some where it is read
+pub text_within : (xs after : List ℕ) (n : ℕ) → TextAs xs (Some n) after → n ≤ length after
+text_within [] after n t = absurd (cc (t.count))
+text_within (x ∷ xs) after n t =
+    let e : n ≡ length (x ∷ xs) = cc (t.count) in
+    let l = length-take (length (x ∷ xs)) after in
+    let k = ap length t.symbols in
+    omega (arith, e, l, k)
 
-  none_read : n ≡ 0 → xs ≡ []
-  none_read z = go xs (sym t.count ∙ z)
-    where
-      go : (ys : List ℕ) → length ys ≡ 0 → ys ≡ []
-      go [] e = refl
-      go (y ∷ ys) e = absurd (omega (arith, e))
+none_read : (xs after : List ℕ) → TextAs xs None after → xs ≡ []
+none_read [] after t = refl
+none_read (x ∷ xs) after t = absurd (cc (t.count))
 
-  some_read : (m : ℕ) → (n ≡ 0 → ⊥) → calls (offers (take n after) m) ≡ offering xs m
-  some_read m d = ap (λ (ys : List ℕ). calls (offers ys m)) t.symbols ∙ go xs (λ e. d (t.count ∙ e))
-    where
-      go : (ys : List ℕ) → (length ys ≡ 0 → ⊥) → calls (offers ys m) ≡ offering ys m
-      go [] e = absurd (e refl)
-      go (y ∷ ys) e = refl
+some_read : (xs after : List ℕ) (n : ℕ) → TextAs xs (Some n) after → (m : ℕ) → calls (offers (take n after) m) ≡ offering xs m
+some_read [] after n t m = absurd (cc (t.count))
+some_read (x ∷ xs) after n t m =
+    let e : n ≡ length (x ∷ xs) = cc (t.count) in
+    ap (λ (k : ℕ). calls (offers (take k after) m)) e ∙ ap (λ (ys : List ℕ). calls (offers ys m)) t.symbols
 
 -- unread where there are none, else made
-module _ (ws : List ℕ) (z : Script) (line : List ℕ) (m : ℕ) {n : ℕ} {after : List ℕ} (t : TextAs (read_text (letters_of z) (counts_of z) (drop 2 line)) n after) where
-  pub offer_unread : n ≡ 0 → {r : Replied} {ws' out out' : List ℕ} →
+module _ (ws : List ℕ) (z : Script) (line : List ℕ) (m : ℕ) {after : List ℕ} where
+  pub offer_unread : TextAs (read_text (letters_of z) (counts_of z) (drop 2 line)) None after → {r : Replied} {ws' out out' : List ℕ} →
       ReplyAs (reply unread_text ws z) r ws' out out' → ReplyAs (heard ws z (offering (read_text (letters_of z) (counts_of z) (drop 2 line)) m)) r ws' out out'
-  offer_unread e u = reply_by (ap (λ (xs : List ℕ). heard ws z (offering xs m)) (sym (none_read t e))) u
+  offer_unread t u = reply_by (ap (λ (xs : List ℕ). heard ws z (offering xs m)) (sym (none_read (read_text (letters_of z) (counts_of z) (drop 2 line)) after t))) u
 
-  pub offer_made : (n ≡ 0 → ⊥) → {r : Replied} {ws' out out' : List ℕ} →
+  pub offer_made : {n : ℕ} → TextAs (read_text (letters_of z) (counts_of z) (drop 2 line)) (Some n) after → {r : Replied} {ws' out out' : List ℕ} →
       ReplyAs (heard ws z (calls (offers (take n after) m))) r ws' out out' → ReplyAs (heard ws z (offering (read_text (letters_of z) (counts_of z) (drop 2 line)) m)) r ws' out out'
-  offer_made e u = reply_by (ap (heard ws z) (some_read t m e)) u
+  offer_made {n} t u = reply_by (ap (heard ws z) (some_read (read_text (letters_of z) (counts_of z) (drop 2 line)) after n t m)) u

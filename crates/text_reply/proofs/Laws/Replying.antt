@@ -1,7 +1,7 @@
 -- The reply to a line from its parts: the line told over the alphabet's part of two arrays, and a call's reply over the lists that it left.
 -- An array of 64 has no more than 64 letters to take, and each part of a reply is the part of the call that made it.
 use mathlib.Core.Path.{◌≡◌, refl, sym, ap, ◌∙◌, subst}
-use mathlib.Core.Bool.{Bool, true, false, cond, true≢false}
+use mathlib.Core.Bool.{Bool, true, false, cond}
 use mathlib.Core.List.{List, []}
 use Prim.Native.Nat.{ℕ, ◌≤◌, ◌<◌, min}
 use native.Mathlib.Omega.{arith}
@@ -22,7 +22,7 @@ use Rattle.text.specs.Lines.{line_of, seen_text, unread_text}
 use Rattle.text.specs.Script.{Reply, reply, script, letters_of, counts_of, told, opened, heard, reply_to}
 use Rattle.text.specs.declared.Script.{Script}
 use Rattle.text_reply.specs.declared.Replied.{Replied}
-use Rattle.text_lines.specs.declared.open.Opened.{Opened}
+use Rattle.std.proofs.Common.{Some, None}
 use Rattle.text_lines.specs.Opens.{OpenedAs}
 use Rattle.text_print.specs.Tells.{Tellable}
 use Rattle.text_reply.specs.Replies.{ReplyAs}
@@ -74,18 +74,20 @@ pub record Lettered (a : Alphabet) (ls ls' ks : List ℕ) : Type 0 where
   pub read : a ≡ alphabet letters ks
   pub left : ls' ≡ over letters ls
 
-pub opened_read : (a : Alphabet) (o : Opened) (ls ls' ns' : List ℕ) → OpenedAs a o ls ls' ns' → o.ok ≡ true → Lettered a ls ls' (take o.size ns')
-opened_read no_alphabet o ls ls' ns' f t = absurd (true≢false (sym t ∙ f))
-opened_read (alphabet bs ks) o ls ls' ns' f t = record { letters = bs; read = ap (alphabet bs) (sym f.4); left = f.3 }
+pub opened_read : (a : Alphabet) (n : ℕ) (ls ls' ns' : List ℕ) → OpenedAs a (Some n) ls ls' ns' → Lettered a ls ls' (take n ns')
+opened_read no_alphabet n ls ls' ns' f = absurd (cc f)
+opened_read (alphabet bs ks) n ls ls' ns' f =
+    let e : n ≡ length bs = cc (f.0) in
+    record { letters = bs; read = ap (alphabet bs) (sym f.3 ∙ ap (λ (k : ℕ). take k ns') (sym e)); left = f.2 }
 
-pub opened_within : (a : Alphabet) (o : Opened) (ls ls' ns' : List ℕ) → OpenedAs a o ls ls' ns' → o.ok ≡ true → o.size ≤ length ns'
-opened_within no_alphabet o ls ls' ns' f t = absurd (true≢false (sym t ∙ f))
-opened_within (alphabet bs ks) o ls ls' ns' f t = omega (arith, f.2, f.5)
+pub opened_within : (a : Alphabet) (n : ℕ) (ls ls' ns' : List ℕ) → OpenedAs a (Some n) ls ls' ns' → n ≤ length ns'
+opened_within no_alphabet n ls ls' ns' f = absurd (cc f)
+opened_within (alphabet bs ks) n ls ls' ns' f = let e : n ≡ length bs = cc (f.0) in omega (arith, e, f.1, f.4)
 
-pub opened_unread : (a : Alphabet) (o : Opened) (ws : List ℕ) (z : Script) (ls' ns' : List ℕ) → OpenedAs a o z.letters ls' ns' → o.ok ≡ false →
+pub opened_unread : (a : Alphabet) (ws : List ℕ) (z : Script) (ls' ns' : List ℕ) → OpenedAs a None z.letters ls' ns' →
     {y : Script} {r : Replied} {out out' : List ℕ} → y ≡ script 2 z.letters z.lists → ReplyAs (reply unread_text ws y) r ws out out' → ReplyAs (opened ws z a) r ws out out'
-opened_unread no_alphabet o ws z ls' ns' f t e u = reply_by (ap (reply unread_text ws) e) u
-opened_unread (alphabet bs ks) o ws z ls' ns' f t e u = absurd (true≢false (sym f.0 ∙ t))
+opened_unread no_alphabet ws z ls' ns' f e u = reply_by (ap (reply unread_text ws) e) u
+opened_unread (alphabet bs ks) ws z ls' ns' f e u = absurd (cc (f.0))
 
 -- what is seen of a start has its number, and refused it leaves the words
 start_number_law : (ws ns : List ℕ) → (start_seen ws ns).number ≡ start_number ws ns
