@@ -1,9 +1,10 @@
 // A call in as much room as its tables want: arrays of one of four sizes, and few rows past the used ones, which are saved.
 // Where these rows are too few the call is refused with 34 and leaves all as it was; then it is made with more, and at last with all.
-ghost use Rattle.std.specs.Prelude.{◌≡◌, true, ◌<◌, ◌+◌, ◌≤◌, length};
+ghost use Rattle.std.specs.Prelude.{◌≡◌, true, ◌<◌, ◌+◌, ◌≤◌, eqb, length};
 ghost use Rattle.call.specs.Ladder.{small_rows, small_rules};
 ghost use Rattle.model.specs.Limits.{most_words, row_width};
 ghost use Rattle.model.specs.Entry.{size_fits, lent_fits};
+ghost use Rattle.model.specs.Refusals.{refused_by};
 ghost use Rattle.call.specs.Calls.{CallAs};
 ghost use Rattle.call.specs.Said.{call_of};
 ghost use Rattle.call_room.specs.Tried.{TriedAs, spare_rows};
@@ -31,6 +32,13 @@ fn is_short(used: u16, rules: u16, length: usize) -> bool
     length <= SHORT && ladder::is_small(used as usize + SPARE_ROWS, rules)
 }
 
+// Whether a call ran out of rows.
+fn lacks_rows(done: &Result<Lists, Refusal>) -> bool
+    ensures { result ≡ eqb (refused_by done.now) 34 }
+{
+    matches!(done, Err(Refusal::RowsShort))
+}
+
 // Tried with as many rows past the used ones as can be saved; nothing, and the words as they were, where they are not enough and
 // more are lent.
 fn first(
@@ -49,7 +57,7 @@ fn first(
     let spare = saved.len() / ROW_WIDTH;
     let n = words.len().min(ROW_WIDTH * (lists.used as usize + spare));
     let done = call_sizes::in_smallest(&mut words[..n], lists, symbols, said, saved);
-    if matches!(done, Err(Refusal::RowsShort)) && n < words.len() {
+    if lacks_rows(&done) && n < words.len() {
         return None;
     }
     Some(done)
