@@ -5,8 +5,9 @@
 ghost use Rattle.std.specs.Prelude.{◌≡◌, true, List, ℕ};
 ghost use Rattle.model.specs.Calls.{look as look_of};
 ghost use Rattle.model.specs.Refusals.{refused_by};
-ghost use Rattle.model.specs.Entry.{lists_fit, lent_fault, tables_of, seen_of, refused};
-ghost use Rattle.call.specs.Calls.{StartAs};
+ghost use Rattle.model.specs.Entry.{lists_fit, lent_fault, tables_of, seen_of};
+ghost use Rattle.model.specs.declared.Lists.{Lists};
+ghost use Rattle.call.specs.Calls.{DoneFit, StartAs, done_seen, done_lists};
 
 use bank::rows;
 use model::limits::HOLE_SYMBOL;
@@ -16,42 +17,11 @@ use run_lists::{change, fit};
 
 pub mod ladder; // ladder.rt: how long the arrays are that a call works in
 
-// What a call returns, and the lists that it leaves.
-#[derive(Clone, Copy)]
-pub struct Done {
-    pub seen: Seen,
-    pub lists: Lists,
-}
-
 // What the archive said: an answer to the open question, or its mark for the record offered.
 #[derive(Clone, Copy)]
 pub enum Said {
     Answer(u8),
     Offer(u8),
-}
-
-// A refusal: its number and nothing else.
-pub fn refusal(number: u8) -> Seen
-    ensures { result ≡ refused number }
-{
-    Seen {
-        number: number,
-        phase: 0,
-        row: 0,
-        states: 0,
-        rules: 0,
-        contexts: 0,
-    }
-}
-
-// A refusal: its number, and the lists as they were.
-pub fn refuse(number: u8, lists: Lists) -> Done
-    ensures { (result.seen ≡ refused number) × (result.lists ≡ lists) }
-{
-    Done {
-        seen: refusal(number),
-        lists: lists,
-    }
 }
 
 // What refuses any call on a run before its tables are looked at: 18, then 30 for lists that do not fit.
@@ -72,16 +42,16 @@ pub fn told(lists: Lists) -> Seen
     requires { lists_fit lists ≡ true }
     ensures { (words : List ℕ) → result ≡ seen_of (look_of (tables_of words lists)) }
 {
-    let mut phase = 0;
-    if lists.asked != 0 {
-        phase = 1;
-    }
-    if lists.accepted == 1 {
-        phase = 2;
-    }
+    let phase = if lists.accepted == 1 {
+        2
+    } else if lists.asked != 0 {
+        1
+    } else {
+        0
+    };
     Seen {
         number: 0,
-        phase: phase,
+        phase,
         row: lists.asked,
         states: lists.states,
         rules: lists.rules,
@@ -89,26 +59,31 @@ pub fn told(lists: Lists) -> Seen
     }
 }
 
+// What is told of a call, and the lists that it left put in the place of the caller's; where it is refused these stay.
+pub fn finish(lists: &mut Lists, done: Result<Lists, Refusal>) -> Seen
+    requires { DoneFit done }
+    ensures seen { result ≡ done_seen done }
+    ensures lists { lists.new ≡ done_lists lists.old done }
+{
+    match done {
+        Ok(left) => {
+            *lists = left;
+            told(left)
+        }
+        Err(refusal) => Seen::from(refusal),
+    }
+}
+
 // Start: 18, 17; the other rows stay.
-pub fn start(words: &mut [u32], lists: Lists, counts: &[u8]) -> Done
-    ensures { StartAs words.old counts.now lists result words.new }
+pub fn start(words: &mut [u32], counts: &[u8]) -> Result<Lists, Refusal>
+    ensures { (lists : Lists) → StartAs words.old counts.now lists result words.new }
 {
     if !rows::size_fits(words) {
-        return refuse(18, lists);
+        return Err(Refusal::Size);
     }
     if !fit::alphabet_fits(counts) {
-        return refuse(17, lists);
+        return Err(Refusal::Alphabet);
     }
     rows::write_row(words, Row(0), HOLE_SYMBOL, [0, 0, 0, 0]);
-    Done {
-        seen: Seen {
-            number: 0,
-            phase: 0,
-            row: 0,
-            states: 0,
-            rules: 0,
-            contexts: 1,
-        },
-        lists: change::fresh(counts),
-    }
+    Ok(change::fresh(counts))
 }

@@ -1,13 +1,17 @@
 -- What a call reads of tables of a size that fits, in lists that fit.
-use Rattle.std.specs.Prelude.{◌≡◌, ◌⊎◌, List, ℕ, ◌*◌, ◌≤◌, Option, Some, None, true, false}
+use Rattle.std.specs.Prelude.{◌≡◌, ◌⊎◌, List, ℕ, ◌*◌, ◌≤◌, Option, Some, None, Result, Ok, Err, true, false}
 use Rattle.std.specs.Borrow.{Bor, MutBor}
 use Rattle.model.specs.Limits.{row_width}
 use Rattle.model.specs.Sound.{is_sound}
-use Rattle.model.specs.Entry.{size_fits, lent_fits, tables_of}
+use Rattle.model.specs.Entry.{size_fits, lent_fits, tables_of, refused}
+use Rattle.model.specs.Refusals.{number_of}
 use Rattle.model.specs.declared.Lists.{Lists}
+use Rattle.model.specs.declared.Seen.{Seen}
+use Rattle.model.specs.declared.refusal.Refusal.{Refusal}
 use Rattle.bank.specs.Bank.{Bank}
 use Rattle.run_lists.specs.Members.{counts_in}
 use Rattle.sound.specs.Proposal.{Proposal}
+use Rattle.call.specs.Calls.{look_told}
 
 -- SOUND TABLES of a size that fits, in lists that fit, an index that finds their rows, and where no question is open the representatives, which give the proposal
 pub record Read (words : List ℕ) (l : Lists) (index reps : List ℕ) : Type 0 where
@@ -32,3 +36,8 @@ ReadAs ws l gives o (Some r) after =
 -- so many words are read by a call that adds no row: those of the used rows, where some are used and they are lent; or all
 abbrev pub ReadTo : (used size : ℕ) → (words : ℕ) → Type 0
 ReadTo u n m = (m ≡ n) ⊎ ((1 ≤ u) × (m ≡ row_width * u) × (row_width * u ≤ n))
+
+-- what looking tells of lists that nothing refuses, or the number of what refused
+abbrev pub looked_seen : {A : Type 0} → Lists → Result A Refusal → Seen
+looked_seen l (Ok u) = look_told l
+looked_seen l (Err r) = refused (number_of r)

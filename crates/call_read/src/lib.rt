@@ -5,9 +5,10 @@
 ghost use Rattle.std.specs.Prelude.{◌≡◌, true};
 ghost use Rattle.model.specs.Calls.{looks};
 ghost use Rattle.model.specs.Entry.{size_fits, lent_fits, call_seen, emit_seen, emit_out, judge_seen};
+ghost use Rattle.model.specs.Refusals.{emitted_as, verdict_as};
 ghost use Rattle.sound.specs.Working.{Room};
 ghost use Rattle.call.specs.Ladder.{Enough};
-ghost use Rattle.call_read.specs.Read.{Read, ReadAs, ReadTo, TakesRead};
+ghost use Rattle.call_read.specs.Read.{Read, ReadAs, ReadTo, TakesRead, looked_seen};
 
 use bank::notes;
 use call::ladder::{
@@ -16,7 +17,7 @@ use call::ladder::{
 };
 use model::limits::ROW_WIDTH;
 use model::refusal::Refusal;
-use model::{Emitted, Judged, Lists, Seen};
+use model::{Emitted, Judged, Lists, Seen, Verdict};
 
 // A step on sound tables, in the room lent: what it makes of their index, their representatives and an output; nothing for unsound
 // tables. The output is an argument of the step: a caller learns nothing of what a closure captures by `&mut` and changes.
@@ -98,29 +99,35 @@ fn words_read(used: u16, size: usize) -> usize
     size.min(ROW_WIDTH * used as usize)
 }
 
+// What refuses any call, whatever it asks: 18, then 30 for lists that do not fit and for unsound tables.
+pub fn looked(words: &[u32], lists: Lists) -> Result<(), Refusal>
+    ensures { looked_seen lists result ≡ call_seen words.now lists looks }
+{
+    call::lent_fault(words, lists)?;
+    let used = &words[..words_read(lists.used, words.len())];
+    match read(used, lists, &mut [], |_, _, _| ()) {
+        Some(()) => Ok(()),
+        None => Err(Refusal::Unsound),
+    }
+}
+
 // Looking: 18, 30, then what looking tells.
 pub fn look(words: &[u32], lists: Lists) -> Seen
     ensures { result ≡ call_seen words.now lists looks }
 {
-    if let Err(refusal) = call::lent_fault(words, lists) {
-        return Seen::from(refusal);
-    }
-    let used = &words[..words_read(lists.used, words.len())];
-    match read(used, lists, &mut [], |_, _, _| ()) {
-        Some(()) => call::told(lists),
-        None => Seen::from(Refusal::Unsound),
+    match looked(words, lists) {
+        Ok(()) => call::told(lists),
+        Err(refusal) => Seen::from(refusal),
     }
 }
 
-// The verdict on a listed record: 18, 30, 31, 11 to 15, then the outcome and its place.
-pub fn verdict(words: &[u32], lists: Lists, symbols: &[u8]) -> Judged
-    ensures { result ≡ judge_seen words.now lists symbols.now }
+// The verdict on a listed record, or what refuses it: 18, 30, 31, 11 to 15.
+fn judged(words: &[u32], lists: Lists, symbols: &[u8]) -> Result<Verdict, Refusal>
+    ensures { verdict_as result ≡ judge_seen words.now lists symbols.now }
 {
-    if let Err(refusal) = call::lent_fault(words, lists) {
-        return Judged::from(refusal);
-    }
+    call::lent_fault(words, lists)?;
     let used = &words[..words_read(lists.used, words.len())];
-    let judged = read(
+    let verdict = read(
         used,
         lists,
         &mut [],
@@ -128,22 +135,29 @@ pub fn verdict(words: &[u32], lists: Lists, symbols: &[u8]) -> Judged
             requires { Read used.now lists index.now reps.now }
         { call_verdict::judge_sound(used, lists, symbols, index, reps) },
     );
-    match judged {
-        Some(Ok(verdict)) => Judged::from(verdict),
-        Some(Err(refusal)) => Judged::from(refusal),
-        None => Judged::from(Refusal::Unsound),
+    match verdict {
+        Some(verdict) => verdict,
+        None => Err(Refusal::Unsound),
     }
 }
 
-// Emitting: 18, 30, 31, 20, then the bytes and their count.
-pub fn emit(words: &[u32], lists: Lists, out: &mut [u8]) -> Emitted
-    ensures value { result ≡ emit_seen words.now lists out.old }
+// The verdict on a listed record by its numbers: the outcome and its place.
+pub fn verdict(words: &[u32], lists: Lists, symbols: &[u8]) -> Judged
+    ensures { result ≡ judge_seen words.now lists symbols.now }
+{
+    match judged(words, lists, symbols) {
+        Ok(verdict) => Judged::from(verdict),
+        Err(refusal) => Judged::from(refusal),
+    }
+}
+
+// The list of the proposed automaton: the count of its bytes, or what refuses it: 18, 30, 31, 20.
+fn listed(words: &[u32], lists: Lists, out: &mut [u8]) -> Result<u32, Refusal>
+    ensures value { emitted_as result ≡ emit_seen words.now lists out.old }
     ensures bytes { out.new ≡ emit_out words.now lists out.old }
 {
-    if let Err(refusal) = call::lent_fault(words, lists) {
-        return Emitted::from(refusal);
-    }
-    let emitted = read(
+    call::lent_fault(words, lists)?;
+    let size = read(
         words,
         lists,
         out,
@@ -151,12 +165,19 @@ pub fn emit(words: &[u32], lists: Lists, out: &mut [u8]) -> Emitted
             requires { Read words.now lists index.now reps.now }
         { call_emit::emit_sound(words, lists, reps, out) },
     );
-    match emitted {
-        Some(Ok(size)) => Emitted {
-            number: 0,
-            size: size,
-        },
-        Some(Err(refusal)) => Emitted::from(refusal),
-        None => Emitted::from(Refusal::Unsound),
+    match size {
+        Some(size) => size,
+        None => Err(Refusal::Unsound),
+    }
+}
+
+// Emitting: the bytes and their count.
+pub fn emit(words: &[u32], lists: Lists, out: &mut [u8]) -> Emitted
+    ensures value { result ≡ emit_seen words.now lists out.old }
+    ensures bytes { out.new ≡ emit_out words.now lists out.old }
+{
+    match listed(words, lists, out) {
+        Ok(size) => Emitted { number: 0, size },
+        Err(refusal) => Emitted::from(refusal),
     }
 }

@@ -1,26 +1,27 @@
 // call: offers, answers and acceptance, by value, each in as much working memory as its tables need (§3).
-// Words by reference, lists in and out. A refusal returns its number and leaves both as they were.
+// Words by reference, lists in and out. A refusal leaves both as they were.
 #![tactic(auto)]
 
 ghost use Rattle.std.specs.Prelude.{◌≡◌};
 ghost use Rattle.model.specs.Calls.{answers, offers, accept as accept_call};
 ghost use Rattle.call.specs.Calls.{CallAs};
 
-use call::{Done, Said};
+use call::Said;
 use model::Lists;
+use model::refusal::Refusal;
 use run_lists::change;
 
 mod tried; // tried.rt: the room that an answer or an offer works in
 
 // An offer: 18, 30, its own lines, then the step.
-pub fn offer(words: &mut [u32], lists: Lists, symbols: &[u8], mark: u8) -> Done
+pub fn offer(words: &mut [u32], lists: Lists, symbols: &[u8], mark: u8) -> Result<Lists, Refusal>
     ensures { CallAs words.old lists (offers symbols.now mark) result words.new }
 {
     tried::made(words, lists, symbols, Said::Offer(mark))
 }
 
 // An answer: 18, 30, 31, 16, then the step.
-pub fn answer(words: &mut [u32], lists: Lists, mark: u8) -> Done
+pub fn answer(words: &mut [u32], lists: Lists, mark: u8) -> Result<Lists, Refusal>
     ensures { CallAs words.old lists (answers mark) result words.new }
 {
     let none = [0u8; 1];
@@ -28,22 +29,12 @@ pub fn answer(words: &mut [u32], lists: Lists, mark: u8) -> Done
 }
 
 // Acceptance: 18, 30, 31.
-pub fn accept(words: &mut [u32], lists: Lists) -> Done
+pub fn accept(words: &mut [u32], lists: Lists) -> Result<Lists, Refusal>
     ensures { CallAs words.old lists accept_call result words.new }
 {
-    let seen = call_read::look(words, lists);
-    if seen.number != 0 {
-        return Done {
-            seen: seen,
-            lists: lists,
-        };
+    call_read::looked(words, lists)?;
+    if lists.asked != 0 || lists.accepted == 1 {
+        return Err(Refusal::Phase);
     }
-    if seen.phase != 0 {
-        return call::refuse(31, lists);
-    }
-    let left = change::accepting(lists);
-    Done {
-        seen: call::told(left),
-        lists: left,
-    }
+    Ok(change::accepting(lists))
 }

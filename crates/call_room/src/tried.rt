@@ -1,16 +1,18 @@
 // A call in as much room as its tables want: arrays of one of four sizes, and few rows past the used ones, which are saved.
 // Where these rows are too few the call is refused with 34 and leaves all as it was; then it is made with more, and at last with all.
-ghost use Rattle.std.specs.Prelude.{◌≡◌, true, ◌<◌, ◌+◌, ◌≤◌, length};
+ghost use Rattle.std.specs.Prelude.{◌≡◌, true, ◌<◌, ◌+◌, ◌≤◌, eqb, length};
 ghost use Rattle.call.specs.Ladder.{small_rows, small_rules};
 ghost use Rattle.model.specs.Limits.{most_words, row_width};
 ghost use Rattle.model.specs.Entry.{size_fits, lent_fits};
+ghost use Rattle.model.specs.Refusals.{refused_by};
 ghost use Rattle.call.specs.Calls.{CallAs};
 ghost use Rattle.call.specs.Said.{call_of};
 ghost use Rattle.call_room.specs.Tried.{TriedAs, spare_rows};
 
-use call::{Done, Said, ladder};
+use call::{Said, ladder};
 use model::Lists;
 use model::limits::ROW_WIDTH;
+use model::refusal::Refusal;
 
 // Rows past the used ones that a call is first tried with, and then.
 const SPARE_ROWS: usize = 64;
@@ -30,6 +32,13 @@ fn is_short(used: u16, rules: u16, length: usize) -> bool
     length <= SHORT && ladder::is_small(used as usize + SPARE_ROWS, rules)
 }
 
+// Whether a call ran out of rows.
+fn lacks_rows(done: &Result<Lists, Refusal>) -> bool
+    ensures { result ≡ eqb (refused_by done.now) 34 }
+{
+    matches!(done, Err(Refusal::RowsShort))
+}
+
 // Tried with as many rows past the used ones as can be saved; nothing, and the words as they were, where they are not enough and
 // more are lent.
 fn first(
@@ -38,7 +47,7 @@ fn first(
     symbols: &[u8],
     said: Said,
     saved: &mut [u32],
-) -> Option<Done>
+) -> Option<Result<Lists, Refusal>>
     requires { (size_fits words.old ≡ true)
         × (lent_fits words.old lists ≡ true)
         × (row_width ≤ length saved.old)
@@ -48,8 +57,7 @@ fn first(
     let spare = saved.len() / ROW_WIDTH;
     let n = words.len().min(ROW_WIDTH * (lists.used as usize + spare));
     let done = call_sizes::in_smallest(&mut words[..n], lists, symbols, said, saved);
-    let seen = done.seen;
-    if seen.number == 34 && n < words.len() {
+    if lacks_rows(&done) && n < words.len() {
         return None;
     }
     Some(done)
@@ -57,7 +65,7 @@ fn first(
 
 // Tried with more rows, and where they are not enough and more are lent, made with all.
 #[inline(never)]
-fn tried_more(words: &mut [u32], lists: Lists, symbols: &[u8], said: Said) -> Done
+fn tried_more(words: &mut [u32], lists: Lists, symbols: &[u8], said: Said) -> Result<Lists, Refusal>
     requires { (size_fits words.old ≡ true) × (lent_fits words.old lists ≡ true) }
     ensures { CallAs words.old lists (call_of said symbols.now) result words.new }
 {
@@ -72,12 +80,10 @@ fn tried_more(words: &mut [u32], lists: Lists, symbols: &[u8], said: Said) -> Do
 
 // 18, 30, then the call's own lines and its step: tried with few rows where the call is small, and where they are not enough and
 // more are lent, with more.
-pub fn made(words: &mut [u32], lists: Lists, symbols: &[u8], said: Said) -> Done
+pub fn made(words: &mut [u32], lists: Lists, symbols: &[u8], said: Said) -> Result<Lists, Refusal>
     ensures { CallAs words.old lists (call_of said symbols.now) result words.new }
 {
-    if let Err(refusal) = call::lent_fault(words, lists) {
-        return call::refuse(u8::from(refusal), lists);
-    }
+    call::lent_fault(words, lists)?;
     if is_short(lists.used, lists.rules, symbols.len()) {
         let mut saved = [0u32; ROW_WIDTH * SPARE_ROWS];
         if let Some(done) = first(words, lists, symbols, said, &mut saved) {

@@ -13,9 +13,10 @@ use call::ladder::{
     MID_INDEX, MID_NOTES, MID_TABLE, SMALL_INDEX, SMALL_NOTES, SMALL_TABLE, Size, TINY_INDEX,
     TINY_NOTES, TINY_TABLE, WIDE_INDEX, WIDE_NOTES, WIDE_TABLE, size_for,
 };
-use call::{Done, Said};
+use call::Said;
 use model::Lists;
 use model::limits::{MOST_WORDS, ROW_WIDTH};
+use model::refusal::Refusal;
 
 // In arrays of these lengths. Each size has a frame of its own: a small call touches no page of wide arrays.
 #[inline(never)]
@@ -25,7 +26,7 @@ pub fn in_room<const INDEX: usize, const TABLE: usize, const NOTES: usize>(
     symbols: &[u8],
     said: Said,
     saved: &mut [u32],
-) -> Done
+) -> Result<Lists, Refusal>
     requires { (size_fits words.old ≡ true)
         × (lent_fits words.old lists ≡ true)
         × (length words.old ≤ row_width * lists.used + length saved.old)
@@ -47,7 +48,7 @@ pub fn in_smallest(
     symbols: &[u8],
     said: Said,
     saved: &mut [u32],
-) -> Done
+) -> Result<Lists, Refusal>
     requires { (size_fits words.old ≡ true)
         × (lent_fits words.old lists ≡ true)
         × (length words.old ≤ row_width * lists.used + length saved.old) }
@@ -69,7 +70,7 @@ pub fn in_smallest(
 
 // With all rows saved, in the smallest room that is enough.
 #[inline(never)]
-pub fn with_all(words: &mut [u32], lists: Lists, symbols: &[u8], said: Said) -> Done
+pub fn with_all(words: &mut [u32], lists: Lists, symbols: &[u8], said: Said) -> Result<Lists, Refusal>
     requires { (size_fits words.old ≡ true) × (lent_fits words.old lists ≡ true) }
     ensures { CallAs words.old lists (call_of said symbols.now) result words.new }
 {

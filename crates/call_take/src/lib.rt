@@ -10,8 +10,9 @@ ghost use Rattle.call.specs.Calls.{CallAs};
 ghost use Rattle.call.specs.Said.{call_of};
 
 use bank::notes;
-use call::{Done, Said};
+use call::Said;
 use model::Lists;
+use model::refusal::Refusal;
 
 mod take; // take.rt: what no line refuses is stored, then the step; where it runs short, all is put back
 
@@ -25,7 +26,7 @@ pub fn call_in(
     index: &mut [u16],
     table: &mut [u8],
     notes: &mut [u16],
-) -> Done
+) -> Result<Lists, Refusal>
     requires { (size_fits words.old ≡ true)
         × (lent_fits words.old lists ≡ true)
         × (length words.old ≤ row_width * lists.used + length saved.old)
@@ -34,11 +35,9 @@ pub fn call_in(
     ensures { CallAs words.old lists (call_of said symbols.now) result words.new }
 {
     if !sound::lists_sound(words, lists, index, table, notes) {
-        return call::refuse(30, lists);
+        return Err(Refusal::Unsound);
     }
     let reps = notes::column(notes, 0);
-    if let Err(refusal) = call_faults::fault_of(words, lists, symbols, said, index, reps) {
-        return call::refuse(u8::from(refusal), lists);
-    }
+    call_faults::fault_of(words, lists, symbols, said, index, reps)?;
     take::take(words, lists, symbols, said, saved, index, table, notes)
 }

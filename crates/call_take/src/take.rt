@@ -15,7 +15,8 @@ ghost use Rattle.call_take.specs.Taken.{mark_of, built_for, given_by};
 use bank::rows;
 use bank_fill::add::Added;
 use bank_fill::undo;
-use call::{Done, Said};
+use call::Said;
+use model::refusal::Refusal;
 use model::{Lists, Row};
 use run_lists::change;
 
@@ -76,7 +77,7 @@ pub fn take(
     index: &mut [u16],
     table: &mut [u8],
     notes: &mut [u16],
-) -> Done
+) -> Result<Lists, Refusal>
     requires { let x = tables_of words.old lists in
         (size_fits words.old ≡ true)
         × (lent_fits words.old lists ≡ true)
@@ -91,20 +92,15 @@ pub fn take(
     undo::save(words, used, saved);
     let Some(Added { row, used: n }) = row_for(words, lists, symbols, said, index) else {
         undo::restore(words, used, saved);
-        return call::refuse(34, lists);
+        return Err(Refusal::RowsShort);
     };
     let old = rows::answer_of(words, row);
     rows::set_answer(words, row, u32::from(mark_of(said)) + 1);
     let begun = given(lists, said, row, n);
-    match step::advance(words, begun, index, table, notes) {
-        Ok(left) => Done {
-            seen: call::told(left),
-            lists: left,
-        },
-        Err(short) => {
-            rows::set_answer(words, row, old);
-            undo::restore(words, used, saved);
-            call::refuse(u8::from(short), lists)
-        }
+    let stepped = step::advance(words, begun, index, table, notes);
+    if stepped.is_err() {
+        rows::set_answer(words, row, old);
+        undo::restore(words, used, saved);
     }
+    stepped
 }

@@ -27,9 +27,8 @@ pub extern "C" fn kuldveth_start(words: &mut [u32], lists: &mut Lists, counts: &
     ensures words { words.new ≡ start_words words.old counts.now }
     ensures lists { lists.new ≡ start_lists words.old counts.now lists.old }
 {
-    let started = call::start(words, *lists, counts);
-    *lists = started.lists;
-    started.seen
+    let started = call::start(words, counts);
+    call::finish(lists, started)
 }
 
 // An offer of a record, children before parent, with the archive's mark (§3.4).
@@ -45,8 +44,7 @@ pub extern "C" fn kuldveth_offer(
     ensures lists { lists.new ≡ call_lists words.old lists.old (offers symbols.now mark) }
 {
     let offered = call_room::offer(words, *lists, symbols, mark);
-    *lists = offered.lists;
-    offered.seen
+    call::finish(lists, offered)
 }
 
 // An answer to the open question (§3.5).
@@ -57,8 +55,7 @@ pub extern "C" fn kuldveth_answer(words: &mut [u32], lists: &mut Lists, mark: u8
     ensures lists { lists.new ≡ call_lists words.old lists.old (answers mark) }
 {
     let answered = call_room::answer(words, *lists, mark);
-    *lists = answered.lists;
-    answered.seen
+    call::finish(lists, answered)
 }
 
 // Acceptance of the proposal (§3.6).
@@ -69,8 +66,7 @@ pub extern "C" fn kuldveth_accept(words: &mut [u32], lists: &mut Lists) -> Seen
     ensures lists { lists.new ≡ call_lists words.old lists.old accept_call }
 {
     let accepted = call_room::accept(words, *lists);
-    *lists = accepted.lists;
-    accepted.seen
+    call::finish(lists, accepted)
 }
 
 // Looking (§3.3): changes nothing.

@@ -2,9 +2,11 @@
 // The output line and the script after it. Nothing is required.
 #![tactic(auto)]
 
-ghost use Rattle.std.specs.Prelude.{◌≡◌, ◌≤◌, min, length, drop};
+ghost use Rattle.std.specs.Prelude.{◌≡◌, ◌≤◌, min, eqb, length, drop};
 ghost use Rattle.model.specs.Limits.{most_symbols};
 ghost use Rattle.model.specs.Entry.{judge_seen};
+ghost use Rattle.model.specs.Refusals.{refused_by};
+ghost use Rattle.call.specs.Calls.{done_seen, done_lists, DoneFit};
 ghost use Rattle.text.specs.Bytes.{most_input, reply_room};
 ghost use Rattle.text.specs.Reading.{read_text};
 ghost use Rattle.text.specs.Alphabet.{alphabet_of};
@@ -14,8 +16,8 @@ ghost use Rattle.text_read.specs.Reads.{TextAs};
 ghost use Rattle.text_print.specs.Tells.{Tellable};
 ghost use Rattle.text_reply.specs.Replies.{ReplyAs};
 
-use call::Done;
 use model::limits::MOST_SYMBOLS;
+use model::refusal::Refusal;
 use model::{Lists, Seen};
 use run_lists::change;
 use text::{MOST_INPUT, REPLY_ROOM, Script};
@@ -84,50 +86,61 @@ fn told(words: &[u32], script: Script, seen: Seen, out: &mut [u8]) -> Replied
     }
 }
 
-// A call that was made: the reply tells what was seen of it, and the script goes on with the lists that it left.
-fn made(words: &[u32], script: Script, done: Done, out: &mut [u8]) -> Replied
-    requires { let after = script_of script.stage script.letters done.lists in
-        Tellable words.now (counts_of after) done.lists.used done.seen
+// A call that was made: the reply tells of it, and the script goes on with the lists that it left.
+fn made(
+    words: &[u32],
+    script: Script,
+    done: Result<Lists, Refusal>,
+    out: &mut [u8],
+) -> Replied
+    requires { let after = script_of script.stage script.letters (done_lists script.lists done) in
+        DoneFit done
+        × Tellable words.now (counts_of after) after.lists.used (done_seen done)
         × (reply_room ≤ length out.old) }
-    ensures { let after = script_of script.stage script.letters done.lists in
-        ReplyAs (told_of words.now after done.seen) result words.now out.old out.new }
+    ensures { let after = script_of script.stage script.letters (done_lists script.lists done) in
+        ReplyAs (told_of words.now after (done_seen done)) result words.now out.old out.new }
 {
-    let left = done.lists;
     let mut after = script;
-    after.lists = left;
-    told(words, after, done.seen, out)
+    let seen = call::finish(&mut after.lists, done);
+    told(words, after, seen, out)
 }
 
-// An offer that got 32: the verdict on its record is asked, and its place told. It leaves these lists and the words.
-fn agreed(words: &[u32], script: Script, lists: Lists, symbols: &[u8], out: &mut [u8]) -> Replied
+// An offer that got 32: the verdict on its record is asked, and its place told. It leaves lists and words.
+fn agreed(words: &[u32], script: Script, symbols: &[u8], out: &mut [u8]) -> Replied
     requires { reply_room ≤ length out.old }
-    ensures { let after = script_of script.stage script.letters lists in
-        let text = agreed_text (judge_seen words.now lists symbols.now) in
-        ReplyAs (reply_with text words.now after) result words.now out.old out.new }
+    ensures { let text = agreed_text (judge_seen words.now script.lists symbols.now) in
+        ReplyAs (reply_with text words.now script) result words.now out.old out.new }
 {
-    let judged = call_read::verdict(words, lists, symbols);
+    let judged = call_read::verdict(words, script.lists, symbols);
     let size = tell::tell_agreed(judged, out);
-    let mut after = script;
-    after.lists = lists;
-    Replied {
-        size: size,
-        script: after,
-    }
+    Replied { size, script }
+}
+
+// Whether an offer is refused for what the proposed automaton says already.
+fn agrees(done: &Result<Lists, Refusal>) -> bool
+    ensures { result ≡ eqb (refused_by done.now) 32 }
+{
+    matches!(done, Err(Refusal::Agrees))
 }
 
 // An offer that was made: told as any call, but where it got 32 with the verdict on its record.
-fn offered(words: &[u32], script: Script, done: Done, symbols: &[u8], out: &mut [u8]) -> Replied
-    requires { let after = script_of script.stage script.letters done.lists in
-        Tellable words.now (counts_of after) done.lists.used done.seen
+fn offered(
+    words: &[u32],
+    script: Script,
+    done: Result<Lists, Refusal>,
+    symbols: &[u8],
+    out: &mut [u8],
+) -> Replied
+    requires { let after = script_of script.stage script.letters (done_lists script.lists done) in
+        DoneFit done
+        × Tellable words.now (counts_of after) after.lists.used (done_seen done)
         × (reply_room ≤ length out.old) }
-    ensures { let after = script_of script.stage script.letters done.lists in
-        let reply = offer_told words.now after symbols.now done.seen in
+    ensures { let after = script_of script.stage script.letters (done_lists script.lists done) in
+        let reply = offer_told words.now after symbols.now (done_seen done) in
         ReplyAs reply result words.now out.old out.new }
 {
-    let seen = done.seen;
-    let number = seen.number;
-    if number == 32 {
-        return agreed(words, script, done.lists, symbols, out);
+    if agrees(&done) {
+        return agreed(words, script, symbols, out);
     }
     made(words, script, done, out)
 }
@@ -143,19 +156,17 @@ fn first(words: &mut [u32], script: Script, line: &[u8], out: &mut [u8]) -> Repl
     let Some(n) = open::alphabet_of(line, &mut letters, &mut counts) else {
         return unread(words, at_stage(script, 2), out);
     };
-    let started = call::start(words, script.lists, &counts[..n]);
-    let seen = started.seen;
-    let number = seen.number;
-    if number != 0 {
-        return told(words, at_stage(script, 2), seen, out);
+    match call::start(words, &counts[..n]) {
+        Ok(lists) => {
+            let begun = Script {
+                stage: 1,
+                letters,
+                lists,
+            };
+            told(words, begun, call::told(lists), out)
+        }
+        Err(refusal) => told(words, at_stage(script, 2), Seen::from(refusal), out),
     }
-    let lists = started.lists;
-    let begun = Script {
-        stage: 1,
-        letters: letters,
-        lists: lists,
-    };
-    told(words, begun, seen, out)
 }
 
 // The symbols of the record behind a line's sign and space, at the start of a text; how many there are, if it is read.

@@ -1,19 +1,20 @@
--- Looking, line by line: 18, 30, then what looking tells; and what it tells of lists within their arrays.
--- Each line that does not apply leaves the rest to decide; the counts are the lengths of S, T and C. Looking at the used rows is looking at all, and so is a verdict.
-use mathlib.Core.Path.{◌≡◌, refl, sym, ap}
+-- Looking, line by line: 18, 30, then what looking tells; and what it decides of any call.
+-- Each line that does not apply leaves the rest to decide. Looking at the used rows is looking at all, and so is a verdict.
+use mathlib.Core.Path.{◌≡◌, refl, sym, ap, ◌∙◌}
 use mathlib.Core.Bool.{Bool, true, false, cond}
 use mathlib.Core.List.{List}
 use Prim.Native.Nat.{ℕ, ◌*◌, ◌≤◌}
 use native.Mathlib.Omega.{arith}
-use borrow.Author.Tests.{eq-eqb, ne_eqb}
+use lib.Dec.{eqb}
 use lib.ListN.{length, take}
-use lib.Seq.{length-take-le}
 use Rattle.model.specs.Limits.{row_width}
 use Rattle.model.specs.Sound.{is_sound}
-use Rattle.model.specs.Calls.{Outcome, refuses, leaves, looks, look, phase_of}
-use Rattle.model.specs.Entry.{size_fits, lists_fit, tables_of, seen_of, seen_by, refused, call_seen, judge_seen}
+use Rattle.model.specs.Table.{Tables}
+use Rattle.model.specs.Calls.{Call, Outcome, refuses, leaves, looks, look, fault_of, done_by}
+use Rattle.model.specs.Entry.{size_fits, lists_fit, tables_of, seen_of, seen_by, refused, call_by, call_seen, judge_seen}
 use Rattle.model.specs.declared.Lists.{Lists}
 use Rattle.model.specs.declared.Seen.{Seen}
+use Rattle.call.specs.Calls.{look_told}
 use Rattle.model.proofs.Laws.LentPart.{part_fits, reads_fit, seen_part, judged_part}
 
 module _ (ws : List ℕ) (l : Lists) where
@@ -34,24 +35,37 @@ module _ (ws : List ℕ) (l : Lists) where
       pub looked : is_sound (tables_of ws l) ≡ true → seen_of (look (tables_of ws l)) ≡ call_seen ws l looks
       looked e = sym (λ i. seen_by (told (s i) (f i) (e i)))
 
-  -- the phase
-  pub phase_accepted : l.accepted ≡ 1 → 2 ≡ phase_of (tables_of ws l)
-  phase_accepted e = rw (eq-eqb l.accepted 1 e)
+-- WHAT LOOKING TELLS decides any call: sound tables of a size that fits, in lists that fit; or its number refuses the call
+module _ (ws : List ℕ) (l : Lists) where
+  abbrev X : Tables
+  X = tables_of ws l
 
-  module _ (n : l.accepted ≡ 1 → ⊥) where
-    pub phase_asking : (l.asked ≡ 0 → ⊥) → 1 ≡ phase_of (tables_of ws l)
-    phase_asking e = rw (ne_eqb l.accepted 1 n, ne_eqb l.asked 0 e)
+  abbrev lines : (k : Call) → (size lists sound : Bool) → Outcome
+  lines k a b c = cond a (cond b (cond c (cond (eqb (fault_of X k) 0) (done_by X k) (refuses (fault_of X k))) (refuses 30)) (refuses 30)) (refuses 18)
 
-    pub phase_proposing : l.asked ≡ 0 → 0 ≡ phase_of (tables_of ws l)
-    phase_proposing e = rw (ne_eqb l.accepted 1 n, eq-eqb l.asked 0 e)
+  other : (n m : ℕ) → (n ≡ m → ⊥) → {s : Seen} → s.number ≡ n → s ≡ call_seen ws l looks → refused m ≡ call_seen ws l looks → ⊥
+  other n m d p e q = d (sym p ∙ ap (λ (v : Seen). v.number) (e ∙ sym q))
 
-  pub told_is : l.states ≤ length l.s → l.rules ≤ length l.t → l.contexts ≤ length l.c → (p : ℕ) → p ≡ phase_of (tables_of ws l) →
-      ◌≡◌ {A = Seen} (record { number = 0; phase = p; row = l.asked; states = l.states; rules = l.rules; contexts = l.contexts }) (seen_of (look (tables_of ws l)))
-  told_is a b c p e =
-      let q = sym (length-take-le l.states l.s a) in
-      let n = sym (length-take-le l.rules l.t b) in
-      let m = sym (length-take-le l.contexts l.c c) in
-      λ i. record { number = 0; phase = e i; row = l.asked; states = q i; rules = n i; contexts = m i }
+  pub looked_sound : look_told l ≡ call_seen ws l looks → (size_fits ws ≡ true) × (lists_fit l ≡ true) × (is_sound (tables_of ws l) ≡ true)
+  looked_sound e = go (size_fits ws) (lists_fit l) (is_sound X) refl refl refl
+    where
+      go : (a b c : Bool) → size_fits ws ≡ a → lists_fit l ≡ b → is_sound X ≡ c → (size_fits ws ≡ true) × (lists_fit l ≡ true) × (is_sound X ≡ true)
+      go false b c p q r = absurd (other 0 18 (λ z. absurd (omega (arith, z))) refl e (size_refused ws l p))
+      go true false c p q r = absurd (other 0 30 (λ z. absurd (omega (arith, z))) refl e (lists_refused ws l p q))
+      go true true false p q r = absurd (other 0 30 (λ z. absurd (omega (arith, z))) refl e (unsound_refused ws l p q r))
+      go true true true p q r = (p, q, r)
+
+  pub looked_refused : (n : ℕ) → (n ≡ 0 → ⊥) → refused n ≡ call_seen ws l looks → (k : Call) → call_by ws l k ≡ refuses n
+  looked_refused n d e k = go (size_fits ws) (lists_fit l) (is_sound X) refl refl refl
+    where
+      same : (m : ℕ) → refused m ≡ call_seen ws l looks → m ≡ n
+      same m q = ap (λ (v : Seen). v.number) (q ∙ sym e)
+
+      go : (a b c : Bool) → size_fits ws ≡ a → lists_fit l ≡ b → is_sound X ≡ c → call_by ws l k ≡ refuses n
+      go false b c p q r = (λ i. lines k (p i) (lists_fit l) (is_sound X)) ∙ ap refuses (same 18 (size_refused ws l p))
+      go true false c p q r = (λ i. lines k (p i) (q i) (is_sound X)) ∙ ap refuses (same 30 (lists_refused ws l p q))
+      go true true false p q r = (λ i. lines k (p i) (q i) (r i)) ∙ ap refuses (same 30 (unsound_refused ws l p q r))
+      go true true true p q r = absurd (d (sym (ap (λ (v : Seen). v.number) (looked ws l p q r ∙ sym e))))
 
 -- the used rows alone
 module _ (ws : List ℕ) (l : Lists) (s : size_fits ws ≡ true) (f : lists_fit l ≡ true) (some : 1 ≤ l.used) (within : row_width * l.used ≤ length ws) where

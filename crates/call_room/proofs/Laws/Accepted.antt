@@ -1,94 +1,61 @@
 -- Acceptance by what looking tells: refused where looking is; else by the phase, refused or taken with the flag set and all the rest as it was.
--- Looking is refused by 18 and 30 alone, and these lines come first in acceptance too.
-use mathlib.Core.Path.{◌≡◌, refl, sym, ap, ◌∙◌}
-use mathlib.Core.Bool.{Bool, true, false, ◌&&◌, not, cond}
+use mathlib.Core.Path.{◌≡◌, refl, sym, ap, subst, ◌∙◌}
+use mathlib.Core.Bool.{Bool, true, ◌&&◌, not}
 use mathlib.Core.List.{List}
 use Prim.Native.Nat.{ℕ}
 use native.Mathlib.Omega.{arith}
+use lib.Dec.{eqb}
+use borrow.Author.Tests.{eq-eqb, ne_eqb}
+use Rattle.std.specs.Prelude.{Ok, Err}
 use Rattle.model.specs.Terms.{unless}
 use Rattle.model.specs.Table.{Tables, tables}
-use Rattle.model.specs.Sound.{is_sound}
-use Rattle.model.specs.Calls.{looks, accept, look, is_asking}
-use Rattle.model.specs.Entry.{Arrays, size_fits, lists_fit, tables_of, lists_of, seen_of, refused, call_seen}
+use Rattle.model.specs.Calls.{looks, accept, fault_of}
+use Rattle.model.specs.Entry.{Arrays, lists_fit, tables_of, refused, call_seen}
+use Rattle.model.specs.Refusals.{number_of}
 use Rattle.model.specs.declared.Lists.{Lists}
-use Rattle.model.specs.declared.Seen.{Seen}
+use Rattle.model.specs.declared.refusal.Refusal.{Refusal}
+use Rattle.model.specs.declared.refusal.Refusal.TheVariants.{Phase}
+use Rattle.model.proofs.Laws.Refused.{number_some}
 use Rattle.model.proofs.Laws.Lent.{lists_same, words_same, lists_fit_facts, lists_fit_true}
-use Rattle.call.proofs.Laws.Looked.{size_refused, lists_refused, unsound_refused, looked}
+use Rattle.call.proofs.Laws.Looked.{looked_sound, looked_refused}
 use Rattle.run_lists.specs.Changes.{accepting}
 use Rattle.run_lists.proofs.Laws.Arrays.{few_letters, few_states, few_rules, few_contexts}
 use Rattle.sound.proofs.Laws.Within.{sound_within}
-use Rattle.call.specs.Calls.{CallAs}
-use Rattle.call.specs.declared.Done.{Done}
-use Rattle.call.proofs.Laws.Called.{called_size, called_lists, called_unsound, called_fault, called_left}
+use Rattle.call.specs.Calls.{CallAs, look_told}
+use Rattle.call.proofs.Laws.Called.{refused_by, called_fault, called_left}
 
 pub accepting_fit : (l : Lists) → lists_fit l ≡ true → lists_fit (accepting l) ≡ true
 accepting_fit l e =
     let f = lists_fit_facts l e in
     lists_fit_true (accepting l) (record { letters = f.letters; states = f.states; rules = f.rules; contexts = f.contexts; accepted = omega arith })
 
-module _ (ws : List ℕ) (l : Lists) (seen : Seen) (e : seen ≡ call_seen ws l looks) where
+module _ (ws : List ℕ) (l : Lists) where
   abbrev X : Tables
   X = tables_of ws l
-
-  number_is : (n : ℕ) (s : Seen) → s ≡ call_seen ws l looks → s.number ≡ n → seen.number ≡ n
-  number_is n s p q = ap (λ (r : Seen). r.number) (e ∙ sym p) ∙ q
-
-  abbrev R : Done
-  R = record { seen = seen; lists = l }
 
   abbrev Y : Tables
   Y = tables X.store X.answers X.s X.t X.c X.hand X.asked true
 
   -- LOOKING REFUSED
-  pub look_refused : (seen.number ≡ 0 → ⊥) → CallAs ws l accept (record { seen = seen; lists = l }) ws
-  look_refused n = go (size_fits ws) (lists_fit l) (is_sound X) refl refl refl
-    where
-      go : (a b c : Bool) → size_fits ws ≡ a → lists_fit l ≡ b → is_sound X ≡ c → CallAs ws l accept R ws
-      go false b c p q r = called_size ws l accept R p (e ∙ sym (size_refused ws l p)) refl
-      go true false c p q r = called_lists ws l accept R p q (e ∙ sym (lists_refused ws l p q)) refl
-      go true true false p q r = called_unsound ws l accept R p q r (e ∙ sym (unsound_refused ws l p q r)) refl
-      go true true true p q r = absurd (n (number_is 0 (seen_of (look X)) (looked ws l p q r) refl))
+  pub accept_unlooked : (r : Refusal) → refused (number_of r) ≡ call_seen ws l looks → CallAs ws l accept (Err r) ws
+  accept_unlooked r e = refused_by ws l accept r (looked_refused ws l (number_of r) (number_some r) e accept)
 
-  -- LOOKING TAKEN: sound tables in lists that fit
-  pub look_taken : seen.number ≡ 0 → (size_fits ws ≡ true) × (lists_fit l ≡ true) × (is_sound (tables_of ws l) ≡ true)
-  look_taken n = go (size_fits ws) (lists_fit l) (is_sound X) refl refl refl
-    where
-      other : (k : ℕ) → (k ≡ 0 → ⊥) → refused k ≡ call_seen ws l looks → ⊥
-      other k d p = d (sym (number_is k (refused k) p refl) ∙ n)
+  -- LOOKED: sound tables in lists that fit
+  module _ (e : look_told l ≡ call_seen ws l looks) where
+    abbrev fault : (asks_none accepted : Bool) → ℕ
+    fault a z = unless (not (not a) && not z) 31
 
-      go : (a b c : Bool) → size_fits ws ≡ a → lists_fit l ≡ b → is_sound X ≡ c → (size_fits ws ≡ true) × (lists_fit l ≡ true) × (is_sound X ≡ true)
-      go false b c p q r = absurd (other 18 (λ z. absurd (omega (arith, z))) (size_refused ws l p))
-      go true false c p q r = absurd (other 30 (λ z. absurd (omega (arith, z))) (lists_refused ws l p q))
-      go true true false p q r = absurd (other 30 (λ z. absurd (omega (arith, z))) (unsound_refused ws l p q r))
-      go true true true p q r = (p, q, r)
+    pub accept_asking : (l.asked ≡ 0 → ⊥) → CallAs ws l accept (Err Phase) ws
+    accept_asking n = let t = looked_sound ws l e in called_fault ws l accept t.0 t.1 t.2 Phase (sym (ap (λ (a : Bool). fault a (eqb l.accepted 1)) (ne_eqb l.asked 0 n)))
 
-  module _ (n : seen.number ≡ 0) where
-    phase_is : seen.phase ≡ (look (tables_of ws l)).phase
-    phase_is = let t = look_taken n in ap (λ (r : Seen). r.phase) (e ∙ sym (looked ws l t.0 t.1 t.2))
+    module _ (a : l.asked ≡ 0) where
+      pub accept_again : l.accepted ≡ 1 → CallAs ws l accept (Err Phase) ws
+      accept_again z = let t = looked_sound ws l e in called_fault ws l accept t.0 t.1 t.2 Phase (sym (λ i. fault (eq-eqb l.asked 0 a i) (eq-eqb l.accepted 1 z i)))
 
-    fault_by : (z a : Bool) → (◌≡◌ {A = ℕ} (cond z 2 (cond a 1 0)) 0 → ⊥) → unless (not a && not z) 31 ≡ 31
-    fault_by true true d = refl
-    fault_by true false d = refl
-    fault_by false true d = refl
-    fault_by false false d = absurd (d refl)
-
-    free_by : (z a : Bool) → ◌≡◌ {A = ℕ} (cond z 2 (cond a 1 0)) 0 → unless (not a && not z) 31 ≡ 0
-    free_by true a d = absurd (omega (arith, d))
-    free_by false true d = absurd (omega (arith, d))
-    free_by false false d = refl
-
-    pub accept_refused : (r : Done) → (seen.phase ≡ 0 → ⊥) → r.seen ≡ refused 31 → r.lists ≡ l → CallAs ws l accept r ws
-    accept_refused r d p q =
-        let t = look_taken n in
-        called_fault ws l accept r t.0 t.1 t.2 31 (fault_by X.accepted (is_asking X) (λ z. d (phase_is ∙ z))) (λ z. absurd (omega (arith, z))) p q
-
-    pub accept_taken : (r : Done) → Arrays l → seen.phase ≡ 0 → r.seen ≡ seen_of (look (tables_of ws (accepting l))) → r.lists ≡ accepting l → CallAs ws l accept r ws
-    accept_taken r f z p q =
-        let t = look_taken n in
-        called_left ws l accept r t.0 t.1 t.2 (free_by X.accepted (is_asking X) (sym phase_is ∙ z)) Y refl p (q ∙ same) ws (sym (words_same ws l (sound_within ws l t.2)))
-      where
-        fit : lists_fit l ≡ true
-        fit = (look_taken n).1
-
-        same : accepting l ≡ lists_of l Y
-        same = sym (lists_same ws (accepting l) (few_letters fit f) (few_states fit f) (few_rules fit f) (few_contexts fit f) (omega arith))
+      pub accept_taken : (l.accepted ≡ 1 → ⊥) → Arrays l → (m : Lists) → m ≡ accepting l → CallAs ws l accept (Ok m) ws
+      accept_taken z f m p =
+          let t = looked_sound ws l e in
+          let free : fault_of X accept ≡ 0 = λ i. fault (eq-eqb l.asked 0 a i) (ne_eqb l.accepted 1 z i) in
+          let same = sym (lists_same ws (accepting l) (few_letters t.1 f) (few_states t.1 f) (few_rules t.1 f) (few_contexts t.1 f) (omega arith)) in
+          called_left ws l accept t.0 t.1 t.2 free Y refl m (subst (λ (o : Lists). lists_fit o ≡ true) (sym p) (accepting_fit l t.1)) (ap look_told p) (p ∙ same) ws
+          (sym (words_same ws l (sound_within ws l t.2)))

@@ -10,15 +10,22 @@ use lib.ListN.{length, take, drop, take-append-drop}
 use lib.Seq.{take-length, drop-length}
 use lib.Dec.{leb}
 use borrow.Author.Tests.{leb-true, leb-false}
+use Rattle.std.specs.Prelude.{Result, Ok, Err}
 use Rattle.model.specs.Limits.{row_width}
 use Rattle.model.specs.Calls.{Call, Outcome, refuses, leaves, number_of}
 use Rattle.model.specs.Entry.{size_fits, lent_fits, seen_by, words_by, call_by}
+use Rattle.model.specs.Refusals.{refused_by}
 use Rattle.model.specs.declared.Lists.{Lists}
+use Rattle.model.specs.declared.refusal.Refusal.{Refusal}
 use Rattle.model.specs.declared.Seen.{Seen}
 use Rattle.model.proofs.Laws.LentPart.{seen_part, lists_part, words_part}
-use Rattle.call.specs.declared.Done.{Done}
-use Rattle.call.specs.Calls.{CallAs}
+use Rattle.call.specs.Calls.{CallAs, done_seen}
 use Rattle.call_room.specs.Tried.{FirstAs}
+
+-- the number told of a call
+done_number : (r : Result Lists Refusal) → (done_seen r).number ≡ refused_by r
+done_number (Ok m) = refl
+done_number (Err e) = refl
 
 seen_number : (o : Outcome) → (seen_by o).number ≡ number_of o
 seen_number (refuses n) = refl
@@ -28,7 +35,7 @@ refused_words : (ws : List ℕ) (o : Outcome) → number_of o ≡ 34 → words_b
 refused_words ws (refuses n) e = refl
 refused_words ws (leaves y) e = absurd (omega (arith, e))
 
-module _ (ws : List ℕ) (l : Lists) (k : Call) (r : Done) (us : List ℕ) where
+module _ (ws : List ℕ) (l : Lists) (k : Call) (r : Result Lists Refusal) (us : List ℕ) where
   -- n words: what the call does there, said of all words
   abbrev Said : (n : ℕ) → Type 0
   Said n = CallAs (take n ws) l k r us → FirstAs ws n l k r (us ++ drop n ws)
@@ -40,7 +47,7 @@ module _ (ws : List ℕ) (l : Lists) (k : Call) (r : Done) (us : List ℕ) where
       whole : CallAs ws l k r us → FirstAs ws (length ws) l k r us
       whole d =
           record {
-            short = λ e. d.words ∙ refused_words ws (call_by ws l k) (sym (ap (λ (s : Seen). s.number) d.seen ∙ seen_number (call_by ws l k)) ∙ e);
+            short = λ e. d.words ∙ refused_words ws (call_by ws l k) (sym (sym (done_number r) ∙ ap (λ (s : Seen). s.number) d.seen ∙ seen_number (call_by ws l k)) ∙ e);
             done = λ e. d;
             all = λ h. d;
           }
@@ -67,12 +74,13 @@ module _ (ws : List ℕ) (l : Lists) (k : Call) (r : Done) (us : List ℕ) where
                   seen = c.seen ∙ sym (seen_part ws l m size lent some enough held k d');
                   lists = c.lists ∙ sym (lists_part ws l m size lent some enough held k d');
                   words = ap behind c.words ∙ sym (words_part ws l m size lent some enough held k d');
+                  fit = c.fit;
                 };
             all = λ h. absurd (omega arith);
           }
         where
-          number : r.seen.number ≡ number_of (call_by part l k)
-          number = ap (λ (s : Seen). s.number) c.seen ∙ seen_number (call_by part l k)
+          number : refused_by r ≡ number_of (call_by part l k)
+          number = sym (done_number r) ∙ ap (λ (s : Seen). s.number) c.seen ∙ seen_number (call_by part l k)
 
     -- as many as are lent
     pub first_as : (n : ℕ) → (length ws ≤ row_width * m → n ≡ length ws) → (row_width * m < length ws → n ≡ row_width * m) → Said n

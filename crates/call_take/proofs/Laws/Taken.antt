@@ -15,7 +15,7 @@ use Rattle.model.specs.Sound.{is_sound}
 use Rattle.model.specs.Calls.{fault_of, done_by, refuses, end_of, look}
 use Rattle.model.specs.TableFacts.{Few, Whole, HandFits}
 use Rattle.model.specs.Phase.{Sounds}
-use Rattle.model.specs.Entry.{Arrays, store_of, answers_in, size_fits, lent_fits, lists_fit, tables_of, lists_of, rows_lent, refused, seen_of}
+use Rattle.model.specs.Entry.{Arrays, store_of, answers_in, size_fits, lent_fits, lists_fit, tables_of, lists_of, rows_lent, seen_of}
 use Rattle.model.specs.declared.Lists.{Lists}
 use Rattle.model.proofs.Laws.Lent.{good_four, rows_within, lists_fit_facts, lists_fit_true, lists_of_within}
 use Rattle.model.proofs.Laws.Sounds.{sound_facts}
@@ -30,8 +30,9 @@ use Rattle.bank.proofs.Laws.Notes.{column_long}
 use Rattle.bank_fill.specs.Adding.{added_row}
 use Rattle.bank_fill.specs.Left.{Left}
 use Rattle.bank_fill.specs.Saved.{Saved, PutBack}
-use Rattle.std.specs.Prelude.{Result, Ok, Err, None}
+use Rattle.std.specs.Prelude.{Result, Ok, Err, None, is_err}
 use Rattle.model.specs.declared.refusal.Refusal.{Refusal}
+use Rattle.model.specs.declared.refusal.Refusal.TheVariants.{RowsShort}
 use Rattle.model.specs.Refusals.{number_of}
 use Rattle.bank_fill.proofs.Laws.Coming.{Comes, Stage, stage, not_full, store_room}
 use Rattle.bank_fill.proofs.Laws.SavedWords.{undone}
@@ -51,7 +52,6 @@ use Rattle.step_settle.specs.Stepped.{KnownTable}
 use Rattle.step_settle.proofs.Laws.Ends.{Ends}
 use Rattle.step_settle.proofs.Laws.Lists.{tables_left}
 use Rattle.step.specs.InHand.{InHand}
-use Rattle.call.specs.declared.Done.{Done}
 use Rattle.call.specs.declared.Said.{Said}
 use Rattle.call.specs.Said.{call_of}
 use Rattle.call.specs.Calls.{CallAs}
@@ -60,6 +60,15 @@ use Rattle.call_take.specs.Taken.{mark_of, built_for, given_by}
 use Rattle.call_take.proofs.Laws.Ends.{ends_short, EndsLeft, ends_left, ends_leaves, ends_ok, kept_back}
 use Rattle.call_take.proofs.Laws.Marked.{handling_marked}
 use Rattle.call_take.proofs.Laws.Begun.{hand_for, given_tables, taken_for, taken_done, Begins, begins, begins_step}
+
+-- a step that ended in a refusal, or in lists
+pub short_by : (r : Result Lists Refusal) → is_err r ≡ true → (why : Refusal) × (r ≡ Err why)
+short_by (Ok m) e = cc
+short_by (Err why) e = (why, refl)
+
+pub left_by : (r : Result Lists Refusal) → is_err r ≡ false → (m : Lists) × (r ≡ Ok m)
+left_by (Ok m) e = (m, refl)
+left_by (Err why) e = cc
 
 -- WHAT IS GIVEN: sound tables in lists that fit, what the soundness test worked out, something said that no line refuses
 pub record Given (ws : List ℕ) (l : Lists) (k : Said) (xs index table notes : List ℕ) : Type 0 where
@@ -111,10 +120,10 @@ module _ {ws : List ℕ} {l : Lists} {k : Said} {xs index table notes : List ℕ
         go full c = (refl, c.came.1)
         go (built i y) c = absurd (let e = c.came.0 in let z : ◌≡◌ {A = ℕ} 0 1 = cc in omega arith)
 
-    pub full_called : {vs after : List ℕ} {r : Done} → Saved ws l.used vs → PutBack us l.used vs after → r.seen ≡ refused 34 → r.lists ≡ l → CallAs ws l (call_of k xs) r after
-    full_called {vs} {after} {r} s p a b =
-        subst (CallAs ws l (call_of k xs) r) (sym (undone ws l.used vs us after s no_rows.1 p))
-        (called_short ws l (call_of k xs) r t.size fits t.sound t.free 34 no_rows.0 a b)
+    pub full_called : {vs after : List ℕ} → Saved ws l.used vs → PutBack us l.used vs after → CallAs ws l (call_of k xs) (Err RowsShort) after
+    full_called {vs} {after} s p =
+        subst (CallAs ws l (call_of k xs) (Err RowsShort)) (sym (undone ws l.used vs us after s no_rows.1 p))
+        (called_short ws l (call_of k xs) t.size fits t.sound t.free RowsShort no_rows.0)
 
   -- BUILT
   pub built_at : {j v : ℕ} {us ix : List ℕ} → Comes ws (counts_in l) l.used (built_for (tables_of ws l) k xs) (added_row j v) us ix → BuiltAt ws l k xs j v us ix
@@ -294,11 +303,11 @@ module _ {ws : List ℕ} {l : Lists} {k : Said} {xs index table notes : List ℕ
             pub back_held : row_width * l.used ≤ length vs'
             back_held = omega (arith, rows_held, back_size)
 
-            pub short_called : {zs after : List ℕ} {o : Done} → Saved ws l.used zs → PutBack vs' l.used zs after → o.seen ≡ refused (number_of why) → o.lists ≡ l →
-                CallAs ws l (call_of k xs) o after
-            short_called {zs} {after} {o} s b seen lists =
-                subst (CallAs ws l (call_of k xs) o) (sym (undone ws l.used zs vs' after s kept_again b))
-                (called_short ws l (call_of k xs) o t.size fits t.sound t.free (number_of why) (done_by_law ∙ ran_short.0) seen lists)
+            pub short_called : {zs after : List ℕ} → Saved ws l.used zs → PutBack vs' l.used zs after → CallAs ws l (call_of k xs) r after
+            short_called {zs} {after} s b =
+                subst (λ (o : Result Lists Refusal). CallAs ws l (call_of k xs) o after) (sym n)
+                (subst (CallAs ws l (call_of k xs) (Err why)) (sym (undone ws l.used zs vs' after s kept_again b))
+                (called_short ws l (call_of k xs) t.size fits t.sound t.free why (done_by_law ∙ ran_short.0)))
 
         -- LEFT: the tables with which the step ends
         module _ {m : Lists} (n : r ≡ Ok m) where
@@ -324,10 +333,11 @@ module _ {ws : List ℕ} {l : Lists} {k : Said} {xs index table notes : List ℕ
               let f = ok.nearly.tidy in
               ap lists_fit lists ∙ lists_fit_true (lists_of l Y) (lists_of_within l Y ok.nearly.core.good.letters f.few_s f.few_t (omega (arith, f.few_s, f.few_t, f.few_c)))
 
-          pub left_called : {o : Done} → o.seen ≡ seen_of (look (tables_of vs m)) → o.lists ≡ m → CallAs ws l (call_of k xs) o vs
-          left_called {o} seen same =
+          pub left_called : CallAs ws l (call_of k xs) r vs
+          left_called =
               let counts : Y.store.counts ≡ counts_in l = ok.keeps.ext.counts ∙ q.begun.ext.counts in
               let held : used Y.store ≤ rows_lent ws = omega (arith, ok.nearly.core.good.fits, ok.keeps.ext.room, q.begun.ext.room) in
-              called_left ws l (call_of k xs) o t.size fits t.sound t.free Y (done_by_law ∙ ends_leaves ended)
-              (seen ∙ ap (λ (z : Tables). seen_of (look z)) (ap (tables_of vs) lists ∙ tables_left ws vs l Y counts left_all)) (same ∙ lists) vs
-              (left_words ws (counts_in l) vs Y left_all (rows_within ws (used Y.store) held))
+              subst (λ (o : Result Lists Refusal). CallAs ws l (call_of k xs) o vs) (sym n)
+              (called_left ws l (call_of k xs) t.size fits t.sound t.free Y (done_by_law ∙ ends_leaves ended) m left_fit
+              (ap (λ (z : Tables). seen_of (look z)) (ap (tables_of vs) lists ∙ tables_left ws vs l Y counts left_all)) lists vs
+              (left_words ws (counts_in l) vs Y left_all (rows_within ws (used Y.store) held)))

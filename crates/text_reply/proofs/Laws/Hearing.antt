@@ -12,14 +12,16 @@ use lib.ListN.{length, get_or, take, drop, length-take, length-drop}
 use Rattle.model.specs.Limits.{most_symbols}
 use Rattle.model.specs.Base.{same}
 use Rattle.model.specs.Entry.{judge_seen}
+use Rattle.model.specs.Refusals.{refused_by}
+use Rattle.model.specs.declared.Lists.{Lists}
 use Rattle.model.specs.declared.Seen.{Seen}
+use Rattle.model.specs.declared.refusal.Refusal.{Refusal}
 use Rattle.model.specs.Calls.{Call, offers, answers, accept}
 use Rattle.model.proofs.Laws.Tests.{both_true, and_right}
 use Rattle.model.proofs.Laws.Lent.{take_over}
 use Rattle.list.specs.Put.{put_at}
 use Rattle.list.proofs.Put.{put_over, put_length}
-use Rattle.call.specs.Calls.{CallAs}
-use Rattle.call.specs.declared.Done.{Done}
+use Rattle.call.specs.Calls.{CallAs, done_seen, done_lists}
 use Rattle.text.specs.Bytes.{space, plus, minus, yes_word, no_word, ok_word, most_input}
 use Rattle.text.specs.Reading.{read_text}
 use Rattle.text.specs.Lines.{Line, unread_line, calls, is_offer, sign_mark, offering, line_of, unread_text, agreed_text}
@@ -28,6 +30,7 @@ use Rattle.text.specs.declared.Script.{Script}
 use Rattle.text_lines.specs.declared.lines.Asked.{Asked}
 use Rattle.text_reply.specs.declared.Replied.{Replied}
 use Rattle.std.proofs.Common.{Option, Some, None}
+use Rattle.std.specs.Prelude.{Result, Ok, Err}
 use Rattle.text_read.specs.Reads.{TextAs}
 use Rattle.text_print.specs.Tells.{Tellable}
 use Rattle.text_lines.specs.Asks.{asked_of}
@@ -90,24 +93,37 @@ module _ (line : List ℕ) where
   offer_fits m e = subst OfferFits (sym e) asked_fits
 
 -- A CALL MADE: what it left can be told, and is what is heard
-module _ (ws : List ℕ) (z : Script) (k : Call) (d : Done) (ws' : List ℕ) (s : CallAs ws z.lists k d ws') where
-  pub made_tellable : Tellable ws' (counts_of (script z.stage z.letters d.lists)) d.lists.used d.seen
+module _ (ws : List ℕ) (z : Script) (k : Call) (d : Result Lists Refusal) (ws' : List ℕ) (s : CallAs ws z.lists k d ws') where
+  pub made_tellable : Tellable ws' (counts_of (script z.stage z.letters (done_lists z.lists d))) (done_lists z.lists d).used (done_seen d)
   made_tellable = rw (s.words, s.lists, s.seen) (call_tellable ws z.lists k)
 
-  pub made_heard : {r : Replied} {out out' : List ℕ} → ReplyAs (call_told ws' (script z.stage z.letters d.lists) k d.seen) r ws' out out' → ReplyAs (heard ws z (calls k)) r ws' out out'
+  pub made_heard : {r : Replied} {out out' : List ℕ} → ReplyAs (call_told ws' (script z.stage z.letters (done_lists z.lists d)) k (done_seen d)) r ws' out out' →
+      ReplyAs (heard ws z (calls k)) r ws' out out'
   made_heard u = reply_by (λ i. call_told (s.words i) (script z.stage z.letters (s.lists i)) k (s.seen i)) u
 
--- AN OFFER MADE: by whether it got 32
-module _ (ws : List ℕ) (z : Script) (xs : List ℕ) (v : Seen) where
-  abbrev told_if : Bool → Reply
-  told_if b = cond b (reply (agreed_text (judge_seen ws z.lists xs)) ws z) (told ws z v)
+-- AN OFFER MADE: by whether it got 32, which leaves the lists
+module _ (ws : List ℕ) (z : Script) (xs : List ℕ) (d : Result Lists Refusal) where
+  abbrev told_if : Script → Seen → Bool → Reply
+  told_if y v b = cond b (reply (agreed_text (judge_seen ws y.lists xs)) ws y) (told ws y v)
 
-  pub told_agreed : v.number ≡ 32 → {r : Replied} {out out' : List ℕ} →
-      ReplyAs (reply (agreed_text (judge_seen ws z.lists xs)) ws z) r ws out out' → ReplyAs (offer_told ws z xs v) r ws out out'
-  told_agreed e u = reply_by (sym (ap told_if (eq-eqb v.number 32 e))) u
+  number : (d : Result Lists Refusal) → (done_seen d).number ≡ refused_by d
+  number (Ok m) = refl
+  number (Err e) = refl
 
-  pub told_other : (v.number ≡ 32 → ⊥) → {r : Replied} {out out' : List ℕ} → ReplyAs (told ws z v) r ws out out' → ReplyAs (offer_told ws z xs v) r ws out out'
-  told_other n u = reply_by (sym (ap told_if (ne_eqb v.number 32 n))) u
+  stays : (d : Result Lists Refusal) → (refused_by d ≡ 0 → ⊥) → done_lists z.lists d ≡ z.lists
+  stays (Ok m) n = absurd (n refl)
+  stays (Err e) n = refl
+
+  pub told_agreed : refused_by d ≡ 32 → {r : Replied} {out out' : List ℕ} →
+      ReplyAs (reply (agreed_text (judge_seen ws z.lists xs)) ws z) r ws out out' →
+      ReplyAs (offer_told ws (script z.stage z.letters (done_lists z.lists d)) xs (done_seen d)) r ws out out'
+  told_agreed e u =
+      let l = stays d (λ n. absurd (omega (arith, e, n))) in
+      let v = done_seen d in
+      reply_by (sym (ap (told_if (script z.stage z.letters (done_lists z.lists d)) v) (eq-eqb v.number 32 (number d ∙ e)) ∙ ap (λ (m : Lists). told_if (script z.stage z.letters m) v true) l)) u
+
+  pub told_other : (refused_by d ≡ 32 → ⊥) → {y : Script} {r : Replied} {out out' : List ℕ} → ReplyAs (told ws y (done_seen d)) r ws out out' → ReplyAs (offer_told ws y xs (done_seen d)) r ws out out'
+  told_other n {y} u = let v = done_seen d in reply_by (sym (ap (told_if y v) (ne_eqb v.number 32 (λ e. n (sym (number d) ∙ e))))) u
 
 -- AN OFFER: its record is copied, and its symbols are read over the copy
 module _ (line old : List ℕ) {after : List ℕ} {len : ℕ} (put : after ≡ put_at 0 (take (length line - 2) (drop 2 line)) old) (is : len ≡ 0 + length (take (length line - 2) (drop 2 line)))

@@ -12,10 +12,13 @@ use lib.Seq.{take_all, length-take-le}
 use Rattle.model.specs.Limits.{most_symbols}
 use Rattle.model.specs.Base.{over}
 use Rattle.model.specs.Calls.{refuses, leaves, started}
-use Rattle.model.specs.Entry.{rows_lent, store_of, seen_by, words_by, start_number, start_seen, start_words, start_lists}
+use Rattle.model.specs.Entry.{rows_lent, store_of, seen_by, refused, words_by, start_number, start_seen, start_words, start_lists}
+use Rattle.model.specs.Refusals.{number_of}
+use Rattle.model.specs.declared.Lists.{Lists}
 use Rattle.model.specs.declared.Seen.{Seen}
-use Rattle.call.specs.Calls.{StartAs}
-use Rattle.call.specs.declared.Done.{Done}
+use Rattle.model.specs.declared.refusal.Refusal.{Refusal}
+use Rattle.model.proofs.Laws.Refused.{number_some}
+use Rattle.call.specs.Calls.{StartAs, look_told, done_seen, done_lists}
 use Rattle.text.specs.Bytes.{reply_room}
 use Rattle.text.specs.Alphabet.{Alphabet, no_alphabet, alphabet, alphabet_of}
 use Rattle.text.specs.Lines.{line_of, seen_text, unread_text}
@@ -23,6 +26,7 @@ use Rattle.text.specs.Script.{Reply, reply, script, letters_of, counts_of, told,
 use Rattle.text.specs.declared.Script.{Script}
 use Rattle.text_reply.specs.declared.Replied.{Replied}
 use Rattle.std.proofs.Common.{Some, None}
+use Rattle.std.specs.Prelude.{Result, Ok, Err}
 use Rattle.text_lines.specs.Opens.{OpenedAs}
 use Rattle.text_print.specs.Tells.{Tellable}
 use Rattle.text_reply.specs.Replies.{ReplyAs}
@@ -100,10 +104,7 @@ start_number_law ws ns = go (start_number ws ns) (eqb (start_number ws ns) 0) re
 start_refused : (ws ns : List ℕ) → eqb (start_number ws ns) 0 ≡ false → start_words ws ns ≡ ws
 start_refused ws ns e = ap (λ (b : Bool). words_by ws (cond b (leaves (started (rows_lent ws) ns)) (refuses (start_number ws ns)))) e
 
-module _ (ws ks : List ℕ) (z : Script) (d : Done) (ws' : List ℕ) (s : StartAs ws ks z.lists d ws') {a : Alphabet} {ls' : List ℕ} (f : Lettered a z.letters ls' ks) where
-  number_told : d.seen.number ≡ start_number ws ks
-  number_told = ap (λ (v : Seen). v.number) s.seen ∙ start_number_law ws ks
-
+module _ (ws ks : List ℕ) (z : Script) (d : Result Lists Refusal) (ws' : List ℕ) (s : StartAs ws ks z.lists d ws') {a : Alphabet} {ls' : List ℕ} (f : Lettered a z.letters ls' ks) where
   abbrev Taken : Reply
   Taken = told (start_words ws ks) (script 1 (over f.letters z.letters) (start_lists ws ks z.lists)) (start_seen ws ks)
 
@@ -113,17 +114,23 @@ module _ (ws ks : List ℕ) (z : Script) (d : Done) (ws' : List ℕ) (s : StartA
   opened_by : (b : Bool) → eqb (start_number ws ks) 0 ≡ b → cond b Taken Ended ≡ opened ws z a
   opened_by b e = ap (λ (b' : Bool). cond b' Taken Ended) (sym e) ∙ ap (opened ws z) (sym f.read)
 
-  pub opened_refused : (d.seen.number ≡ 0 → ⊥) → (y : Script) → y ≡ script 2 z.letters z.lists → {r : Replied} {out out' : List ℕ} →
-      ReplyAs (told ws' y d.seen) r ws' out out' → ReplyAs (opened ws z a) r ws' out out'
-  opened_refused n y e u =
-      let q = ne_eqb (start_number ws ks) 0 (λ k. n (number_told ∙ k)) in
-      reply_by ((λ i. told ((s.words ∙ start_refused ws ks q) i) (e i) (s.seen i)) ∙ opened_by false q) u
+  number_told : (n : ℕ) → (done_seen d).number ≡ n → start_number ws ks ≡ n
+  number_told n e = sym (ap (λ (v : Seen). v.number) s.seen ∙ start_number_law ws ks) ∙ e
 
-  pub opened_taken : d.seen.number ≡ 0 → {r : Replied} {out out' : List ℕ} →
-      ReplyAs (told ws' (script 1 ls' d.lists) d.seen) r ws' out out' → ReplyAs (opened ws z a) r ws' out out'
-  opened_taken n u =
-      let q = eq-eqb (start_number ws ks) 0 (sym number_told ∙ n) in
-      reply_by ((λ i. told (s.words i) (script 1 (f.left i) (s.lists i)) (s.seen i)) ∙ opened_by true q) u
+  pub opened_refused : (e : Refusal) → d ≡ Err e → {v : Seen} → v ≡ refused (number_of e) → (y : Script) → y ≡ script 2 z.letters z.lists → {r : Replied} {out out' : List ℕ} →
+      ReplyAs (told ws' y v) r ws' out out' → ReplyAs (opened ws z a) r ws' out out'
+  opened_refused e p w y q u =
+      let n = ne_eqb (start_number ws ks) 0 (λ k. number_some e (sym (number_told (number_of e) (ap (λ (o : Result Lists Refusal). (done_seen o).number) p)) ∙ k)) in
+      let v = w ∙ sym (ap done_seen p) ∙ s.seen in
+      reply_by ((λ i. told ((s.words ∙ start_refused ws ks n) i) (q i) (v i)) ∙ opened_by false n) u
+
+  pub opened_taken : (m : Lists) → d ≡ Ok m → {v : Seen} → v ≡ look_told m → {r : Replied} {out out' : List ℕ} →
+      ReplyAs (told ws' (script 1 ls' m) v) r ws' out out' → ReplyAs (opened ws z a) r ws' out out'
+  opened_taken m p w u =
+      let n = eq-eqb (start_number ws ks) 0 (number_told 0 (ap (λ (o : Result Lists Refusal). (done_seen o).number) p)) in
+      let v = w ∙ sym (ap done_seen p) ∙ s.seen in
+      let l = sym (ap (done_lists z.lists) p) ∙ s.lists in
+      reply_by ((λ i. told (s.words i) (script 1 (f.left i) (l i)) (v i)) ∙ opened_by true n) u
 
 -- ANY LINE: none where it might not fit, then by the stage
 module _ (ws : List ℕ) (z : Script) (line out : List ℕ) where

@@ -19,7 +19,7 @@ slice_bounds-offered-end c =
 pub offered-requires : goal.offered-requires
 offered-requires c =
     let d = c.offer-done in
-    (made_tellable c.args.words.now c.args.script (offers (take c.in-Some.size c.record_in.new.text) c.args.mark) d.result d.new.words d.ensures, c.requires.0)
+    (d.ensures.fit, made_tellable c.args.words.now c.args.script (offers (take c.in-Some.size c.record_in.new.text) c.args.mark) d.result d.new.words d.ensures, c.requires.0)
 
 pub returns : goal.returns
 returns c =
