@@ -144,23 +144,17 @@ fn emit_proposed(words: &[u32], lists: Lists, reps: &[u16], out: &mut [u8]) -> R
     ensures value { emitted_as result ≡ emit_seen words.now lists out.old }
     ensures bytes { out.new ≡ emit_out words.now lists out.old }
 {
-    let letters = lists.letters as usize;
-    let states = lists.states as usize;
-    let rules = lists.rules as usize;
-    let all_counts = lists.counts;
-    let all_s = lists.s;
-    let all_t = lists.t;
-    let counts = &all_counts[..letters];
-    let s = &all_s[..states];
-    let t = &all_t[..rules];
+    let counts = lists.alphabet();
+    let s = lists.state_rows();
+    let t = lists.rule_rows();
     let mut finals = [0u8; MOST_STATES];
     let mut flat = [0u8; list::RULE_WIDTH * MOST_RULES];
     write_finals(words, lists.used, s, &mut finals);
     write_rules(words, counts, lists.used, s, t, reps, &mut flat);
     write_listed(
         counts,
-        &finals[..states],
-        &flat[..list::RULE_WIDTH * rules],
+        &finals[..s.len()],
+        &flat[..list::RULE_WIDTH * t.len()],
         out,
     )
 }

@@ -31,9 +31,7 @@ fn input_fault(lists: Lists, symbols: &[u8], mark: u8) -> Result<(), Refusal>
     if lists.accepted == 1 {
         return Err(Refusal::Phase);
     }
-    let letters = lists.letters as usize;
-    let counts = lists.counts;
-    bank_listed::record_fault(&counts[..letters], symbols)?;
+    bank_listed::record_fault(lists.alphabet(), symbols)?;
     if 1 < mark {
         return Err(Refusal::Mark);
     }
@@ -109,9 +107,7 @@ fn offer_fault(
     ensures { refused_by result ≡ offer_fault (tables_of words.now lists) symbols.now mark }
 {
     input_fault(lists, symbols, mark)?;
-    let letters = lists.letters as usize;
-    let counts = lists.counts;
-    let row = bank_listed::known_row(words, &counts[..letters], lists.used, index, symbols);
+    let row = bank_listed::known_row(words, lists.alphabet(), lists.used, index, symbols);
     let answer = rows::answer_of(words, row);
     if contradicts(answer, mark) {
         return Err(Refusal::Contradicts);

@@ -31,9 +31,7 @@ pub fn verdict_of(
         × (record_fault (counts_in lists) symbols.now ≡ 0) }
     ensures { result ≡ verdict_on (automaton_of (tables_of words.now lists)) symbols.now }
 {
-    let letters = lists.letters as usize;
-    let counts = lists.counts;
-    let bank = Terms::new(words, &counts[..letters], lists.used, index);
+    let bank = Terms::new(words, lists.alphabet(), lists.used, index);
     table_verdict::verdict_on(&bank, reps, symbols)
 }
 
@@ -45,9 +43,7 @@ fn judge_fault(lists: Lists, symbols: &[u8]) -> Result<(), Refusal>
     if lists.asked != 0 {
         return Err(Refusal::Phase);
     }
-    let letters = lists.letters as usize;
-    let counts = lists.counts;
-    bank_listed::record_fault(&counts[..letters], symbols)
+    bank_listed::record_fault(lists.alphabet(), symbols)
 }
 
 // The verdict asked of sound tables: 31, 11 to 15, then the verdict.

@@ -3,13 +3,10 @@
 use mathlib.Core.Path.{◌≡◌, refl, sym, ap, ◌∙◌}
 use mathlib.Core.Bool.{Bool, true, false, not, cond}
 use mathlib.Core.List.{List}
-use Prim.Native.Nat.{ℕ, ◌*◌, ◌≤◌, ◌<◌}
-use native.Mathlib.Omega.{arith}
-use borrow.Author.Tests.{le-leb, lt-leb, eq-eqb, ne_eqb}
+use Prim.Native.Nat.{ℕ}
+use borrow.Author.Tests.{eq-eqb}
 use lib.Dec.{leb, eqb}
-use lib.ListN.{length, take}
-use lib.Seq.{length-take-le}
-use Rattle.model.specs.Limits.{most_rules, most_states, most_symbols}
+use lib.ListN.{length}
 use Rattle.model.specs.Base.{over}
 use Rattle.model.specs.Sound.{is_sound}
 use Rattle.model.specs.Listing.{Sheet, emitted}
@@ -17,15 +14,7 @@ use Rattle.model.specs.Calls.{Outcome, refuses, leaves, emits, sheet_of, emit_fa
 use Rattle.model.specs.Entry.{size_fits, lists_fit, tables_of, call_by, emitted_by, out_by, emit_seen, emit_out}
 use Rattle.model.specs.declared.Lists.{Lists}
 use Rattle.model.specs.declared.Emitted.{Emitted}
-use Rattle.list.specs.Flat.{Short, rule_width}
 use Rattle.call_emit.specs.Proposal.{listed_seen, listed_out}
-
--- A LIST put into an output, or 20; its parts are short
-pub parts_short : (ns fs us : List ℕ) (q n : ℕ) → length ns ≤ most_symbols → length fs ≡ most_states → q ≤ most_states → length us ≡ rule_width * most_rules → n ≤ most_rules → Short ns (take q fs) (take (rule_width * n) us)
-parts_short ns fs us q n k f l u m =
-    let a = length-take-le q fs (omega (arith, f, l)) in
-    let b = length-take-le (rule_width * n) us (omega (arith, u, m)) in
-    record { symbols = k; states = omega (arith, a, l); rules = omega (arith, b, m) }
 
 -- THE LINES
 module _ (ws : List ℕ) (l : Lists) (o : List ℕ) where

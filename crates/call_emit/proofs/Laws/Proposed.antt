@@ -1,11 +1,10 @@
 -- The proposed automaton by its representatives: the finals and the flat rules that were written are the automaton's.
 -- The automaton by representatives is the proposed one, and the representative of every state is a used row.
-use mathlib.Core.Path.{◌≡◌, sym, ap, ◌∙◌}
+use mathlib.Core.Path.{◌≡◌, ap, ◌∙◌}
 use mathlib.Core.List.{List}
 use Prim.Native.Nat.{ℕ, ◌*◌, ◌≤◌, ◌<◌}
 use native.Mathlib.Omega.{arith}
 use lib.ListN.{length, get_or, take}
-use lib.Seq.{length-take-le}
 use Rattle.model.specs.Limits.{most_rules}
 use Rattle.model.specs.Automata.{Rule, Automaton}
 use Rattle.model.specs.Table.{finals_of}
@@ -16,7 +15,7 @@ use Rattle.model.proofs.Laws.Lists.{at_place}
 use Rattle.bank.proofs.Laws.Words.{used_of}
 use Rattle.run_lists.specs.Members.{counts_in, states_in, rules_in}
 use Rattle.table_verdict.specs.Rules.{rule_by, rules_by}
-use Rattle.list.specs.Flat.{flat_rules_in, flat_rules, flat_sheet, rule_width}
+use Rattle.list.specs.Flat.{flat_rules, flat_sheet, rule_width}
 use Rattle.list.proofs.Flat.{flat_part, flat_each}
 use Rattle.sound.specs.Proposal.{Proposal}
 use Rattle.call_emit.specs.Proposal.{Flat}
@@ -28,21 +27,16 @@ module _ {ws : List ℕ} (l : Lists) {reps : List ℕ} (p : Proposal ws l reps) 
       let r = p.ruled.row k (p.ruled.among k (at_place (states_in l) i h)) in
       omega (arith, r.1, used_of ws (counts_in l) l.used)
 
-  -- the members of S and T are within their arrays, and the rules within their bytes
-  module _ (few_s : l.states ≤ length l.s) (few_t : l.rules ≤ length l.t) (few : l.rules ≤ most_rules) where
+  module _ (few : length (rules_in l) ≤ most_rules) where
     rules_are : (us : List ℕ) → Flat (store_of ws (counts_in l) l.used) (states_in l) (rules_in l) reps (length (rules_in l)) us →
-        flat_rules (counts_in l) (take (rule_width * l.rules) us) ≡ rules_by (store_of ws (counts_in l) l.used) (states_in l) (rules_in l) reps
+        flat_rules (counts_in l) (take (rule_width * length (rules_in l)) us) ≡ rules_by (store_of ws (counts_in l) l.used) (states_in l) (rules_in l) reps
     rules_are us f =
-        let e = length-take-le l.rules l.t few_t in
         let rule : ℕ → Rule = rule_by (store_of ws (counts_in l) l.used) (states_in l) reps in
-        flat_part l.rules (counts_in l) us (omega (arith, f.long, few)) ∙ ap (λ (n : ℕ). flat_rules_in n (counts_in l) us) (sym e) ∙
-        flat_each rule (counts_in l) (rules_in l) us f.rule
+        flat_part (length (rules_in l)) (counts_in l) us (omega (arith, f.long, few)) ∙ flat_each rule (counts_in l) (rules_in l) us f.rule
 
     pub proposal_is : (fs us : List ℕ) → take (length (states_in l)) fs ≡ finals_of (answers_in l.used ws) (states_in l) →
         Flat (store_of ws (counts_in l) l.used) (states_in l) (rules_in l) reps (length (rules_in l)) us →
-        flat_sheet (counts_in l) (take l.states fs) (take (rule_width * l.rules) us) ≡ sheet_of (tables_of ws l)
+        flat_sheet (counts_in l) (take (length (states_in l)) fs) (take (rule_width * length (rules_in l)) us) ≡ sheet_of (tables_of ws l)
     proposal_is fs us e f =
         let r = rules_are us f in
-        let n = length-take-le l.states l.s few_s in
-        let finals : take l.states fs ≡ finals_of (answers_in l.used ws) (states_in l) = ap (λ (q : ℕ). take q fs) (sym n) ∙ e in
-        (λ i. record { automaton = record { counts = counts_in l; finals = finals i; rules = r i } }) ∙ ap (λ (d : Automaton). record { automaton = d }) p.is
+        (λ i. record { automaton = record { counts = counts_in l; finals = e i; rules = r i } }) ∙ ap (λ (d : Automaton). record { automaton = d }) p.is
