@@ -24,6 +24,7 @@ fn count_of(counts: &[u8], symbol: u32) -> u8
 }
 
 // A record: its letter, then its children in brackets.
+// By room and place, no `Line`: the clauses that PROMISES.md names speak of both, so a `Line` would only be made and taken apart here.
 #[cycle(print_list_print_record)]
 pub fn print_record(
     words: &[u32],

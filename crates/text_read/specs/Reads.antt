@@ -3,37 +3,32 @@ use Rattle.std.specs.Prelude.{◌≡◌, List, [], ◌∷◌, Option, Some, None
 use Rattle.text.specs.Bytes.{most_input}
 use Rattle.text.specs.Reading.{Reading, unread, read, known_places}
 
--- a place in the first `len` bytes, with a number of symbols written at their start
-pub record Reads (text : List ℕ) (len : ℕ) (known : List ℕ) (at size : ℕ) : Type 0 where
-  pub room : length text ≡ most_input
-  pub few : len ≤ most_input
+-- a place in a text, with a number of symbols written at its start
+pub record Reads (text known : List ℕ) (at size : ℕ) : Type 0 where
+  pub few : length text ≤ most_input
   pub long : length known ≡ known_places
-  pub within : at ≤ len
+  pub within : at ≤ length text
   pub before : size ≤ at
-
--- what is left of the first `len` bytes
-abbrev pub left_at : (text : List ℕ) → (len at : ℕ) → List ℕ
-left_at bs len at = drop at (take len bs)
 
 -- the place after a record and the symbols read, as one number
 abbrev pub read_code : (next size : ℕ) → ℕ
 read_code next n = 131072 * next + n
 
 -- the symbols at the start, the rest of the text behind a place past `from`; nothing is said of the bytes between
-pub record Reached (xs bs : List ℕ) (result len from : ℕ) (after : List ℕ) : Type 0 where
+pub record Reached (xs bs : List ℕ) (result from : ℕ) (old after : List ℕ) : Type 0 where
   pub next : ℕ
   pub size : ℕ
   pub code : result ≡ read_code next size
   pub past : from < next
-  pub within : next ≤ len
+  pub within : next ≤ length after
   pub before : size ≤ next
-  pub room : length after ≡ most_input
+  pub room : length after ≡ length old
   pub symbols : take size after ≡ xs
-  pub rest : left_at after len next ≡ bs
+  pub rest : drop next after ≡ bs
 
-abbrev pub ReadAs : Reading → (result len from : ℕ) → (after : List ℕ) → Type 0
-ReadAs unread r len from after = (r ≡ 0) × (length after ≡ most_input)
-ReadAs (read xs bs) r len from after = Reached xs bs r len from after
+abbrev pub ReadAs : Reading → (result from : ℕ) → (old after : List ℕ) → Type 0
+ReadAs unread r from old after = (r ≡ 0) × (length after ≡ length old)
+ReadAs (read xs bs) r from old after = Reached xs bs r from old after
 
 -- how many symbols a text has, or none for no record
 abbrev pub counted : (symbols : List ℕ) → Option ℕ
@@ -44,4 +39,3 @@ counted (x ∷ xs) = Some (length (x ∷ xs))
 pub record TextAs (xs : List ℕ) (r : Option ℕ) (after : List ℕ) : Type 0 where
   pub count : r ≡ counted xs
   pub symbols : take (length xs) after ≡ xs
-  pub room : length after ≡ most_input

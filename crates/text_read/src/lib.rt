@@ -2,13 +2,13 @@
 // What is left of the text falls. Symbols are written over the text that has been read: there are never more of them than bytes before them.
 #![tactic(auto)]
 
-ghost use Rattle.std.specs.Prelude.{◌≡◌, ◌+◌, ◌-◌, ◌≤◌, length, take};
+ghost use Rattle.std.specs.Prelude.{◌≡◌, ◌+◌, ◌-◌, ◌≤◌, length, take, drop};
 ghost use Rattle.model.specs.Limits.{most_symbols};
 ghost use Rattle.text.specs.Bytes.{most_input};
 ghost use Rattle.text.specs.Reading.{known_of, balanced_from, record_at, list_at, closed, read_text};
-ghost use Rattle.text_read.specs.Reads.{Reads, left_at, read_code, ReadAs, TextAs};
+ghost use Rattle.text_read.specs.Reads.{Reads, read_code, ReadAs, TextAs};
 
-use text::{KNOWN_PLACES, MOST_INPUT};
+use text::KNOWN_PLACES;
 
 // What a reader gives, in one number: the place after a record, above the last 17 bits, and how many symbols are read; 0 for no record.
 // Not an Option of two numbers: that goes through memory, so the last calls of the readers are no jumps, and each sibling takes stack.
@@ -56,17 +56,16 @@ fn is_balanced(text: &[u8]) -> bool
 
 // A record's letter and children have been read: its symbol is looked up by both.
 fn close(
-    text: &mut [u8; MOST_INPUT],
-    len: u32,
+    text: &mut [u8],
     known: &[u8; KNOWN_PLACES],
     letter: u8,
     count: u8,
     next: u32,
     size: u32,
 ) -> u64
-    requires { Reads text.old len known.now next size × (count ≤ 4) × (size + 1 ≤ next) }
-    ensures { let left = left_at text.old len next in
-        ReadAs (closed known.now letter count (take size text.old) left) result len (next - 1) text.new }
+    requires { Reads text.old known.now next size × (count ≤ 4) × (size + 1 ≤ next) }
+    ensures { let reading = closed known.now letter count (take size text.old) (drop next text.old) in
+        ReadAs reading result (next - 1) text.old text.new }
 {
     let place = 5 * letter as usize + count as usize;
     let symbol = known[place];
@@ -79,89 +78,62 @@ fn close(
 
 // A record: a letter, then its children if a bracket opens.
 #[cycle(read_list_read_record)]
-fn read_record(
-    text: &mut [u8; MOST_INPUT],
-    len: u32,
-    known: &[u8; KNOWN_PLACES],
-    at: u32,
-    size: u32,
-) -> u64
-    requires { Reads text.old len known.now at size }
-    ensures { let left = left_at text.old len at in
-        ReadAs (record_at known.now (take size text.old) left) result len at text.new }
+fn read_record(text: &mut [u8], known: &[u8; KNOWN_PLACES], at: u32, size: u32) -> u64
+    requires { Reads text.old known.now at size }
+    ensures { let reading = record_at known.now (take size text.old) (drop at text.old) in
+        ReadAs reading result at text.old text.new }
 {
-    if at == len {
+    let Some(letter) = text.get(at as usize).copied() else {
         return 0;
+    };
+    if text.get(at as usize + 1).copied() == Some(b'[') {
+        return read_list(text, known, letter, 1, at + 2, size);
     }
-    let i = at as usize;
-    let letter = text[i];
-    if at + 1 < len {
-        let behind = i + 1;
-        if text[behind] == b'[' {
-            return read_list(text, len, known, letter, 1, at + 2, size);
-        }
-    }
-    close(text, len, known, letter, 0, at + 1, size)
+    close(text, known, letter, 0, at + 1, size)
 }
 
 // The k-th child of a record and those after it, up to the closing bracket.
 #[cycle(read_list_read_record)]
 fn read_list(
-    text: &mut [u8; MOST_INPUT],
-    len: u32,
+    text: &mut [u8],
     known: &[u8; KNOWN_PLACES],
     letter: u8,
     child: u8,
     at: u32,
     size: u32,
 ) -> u64
-    requires { Reads text.old len known.now at size × (child ≤ 4) × (size + 1 ≤ at) }
-    ensures { let left = left_at text.old len at in
-        ReadAs (list_at known.now letter child (take size text.old) left) result len at text.new }
+    requires { Reads text.old known.now at size × (child ≤ 4) × (size + 1 ≤ at) }
+    ensures { let reading = list_at known.now letter child (take size text.old) (drop at text.old) in
+        ReadAs reading result at text.old text.new }
 {
-    let child_read = read_record(text, len, known, at, size);
+    let child_read = read_record(text, known, at, size);
     if child_read == 0 {
         return 0;
     }
     let next = (child_read / 131072) as u32;
     let n = (child_read % 131072) as u32;
-    if next == len {
-        return 0;
+    match text.get(next as usize).copied() {
+        Some(b']') => close(text, known, letter, child, next + 1, n),
+        Some(b',') if child < 4 => read_list(text, known, letter, child + 1, next + 1, n),
+        _ => 0,
     }
-    let i = next as usize;
-    let byte = text[i];
-    if byte == b']' {
-        return close(text, len, known, letter, child, next + 1, n);
-    }
-    if byte != b',' {
-        return 0;
-    }
-    if child == 4 {
-        return 0;
-    }
-    read_list(text, len, known, letter, child + 1, next + 1, n)
 }
 
 // Reads a whole text as one record: its symbols, children before parent, over the start of the text; how many there are, or no record.
-pub fn read_text(
-    text: &mut [u8; MOST_INPUT],
-    len: u32,
-    letters: &[u8],
-    counts: &[u8],
-) -> Option<usize>
-    requires { (length text.old ≡ most_input)
-        × (len ≤ most_input)
+pub fn read_text(text: &mut [u8], letters: &[u8], counts: &[u8]) -> Option<usize>
+    requires { (length text.old ≤ most_input)
         × (length letters.now ≡ length counts.now)
         × (length letters.now ≤ most_symbols) }
-    ensures { TextAs (read_text letters.now counts.now (take len text.old)) result text.new }
+    ensures text { TextAs (read_text letters.now counts.now text.old) result text.new }
+    ensures room { length text.new ≡ length text.old }
 {
-    if !is_balanced(&text[..len as usize]) {
+    if !is_balanced(text) {
         return None;
     }
     let known = index(letters, counts);
-    let whole = read_record(text, len, &known, 0, 0);
+    let whole = read_record(text, &known, 0, 0);
     let size = (whole % 131072) as usize;
-    if (whole / 131072) as u32 != len || size == 0 {
+    if (whole / 131072) as usize != text.len() || size == 0 {
         return None;
     }
     Some(size)

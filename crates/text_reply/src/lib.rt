@@ -180,8 +180,9 @@ fn record_in(script: Script, line: &[u8], text: &mut [u8; MOST_INPUT]) -> Option
     let lists = script.lists;
     let counts = lists.counts;
     let n = letters_in(lists.letters);
-    let len = list::put_bytes(text, 0, &line[2..]);
-    text_read::read_text(text, len as u32, &letters[..n], &counts[..n])
+    let read = &mut text[..line.len() - 2];
+    read.copy_from_slice(&line[2..]);
+    text_read::read_text(read, &letters[..n], &counts[..n])
 }
 
 // An offer: its record is read, and it is made if there is one.
