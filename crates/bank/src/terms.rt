@@ -1,6 +1,6 @@
 // The record table of a run with its index, as a call reads it (§2.1): good rows, the place of each row's hole, an index that finds each row.
 // What the four parts are to one another is said once, here: a value of the type has it.
-ghost use Rattle.std.specs.Prelude.{◌≡◌, ◌<◌, length, get_or};
+ghost use Rattle.std.specs.Prelude.{◌≡◌, ◌-◌, ◌<◌, length, get_or};
 ghost use Rattle.model.specs.Store.{kids_at, next_row};
 ghost use Rattle.model.specs.Entry.{store_of};
 ghost use Rattle.bank.specs.Rows.{symbol_in, answer_in, kid_in, places_in};
@@ -126,7 +126,7 @@ impl<'a> Terms<'a> {
         let symbol = rows::symbol_of(self.words, row);
         let mut places = rows::places_of(self.words, row);
         places[place] = u32::from(with.0);
-        index::find(self.words, self.used, self.index, symbol, places)
+        self.find(symbol, places)
     }
 
     // The index, for tests that read it and no row.
@@ -142,5 +142,50 @@ impl<'a> Terms<'a> {
         ensures { result ≡ get_or self.now.index (hole_of row.0) 0 }
     {
         index::hole_of(self.index, row)
+    }
+
+    // The place of the child of a used row that has the hole, where one has.
+    fn hole_place(&self, row: Row) -> usize
+        requires { (row.0 < self.now.used) × (get_or self.now.index (hole_of row.0) 0 ≡ 0 → ⊥) }
+        ensures place { let x = store_of self.now.words self.now.counts self.now.used in
+            (result ≡ get_or self.now.index (hole_of row.0) 0 - 1)
+            × (result < length (kids_at x row.0))
+            × (0 < row.0) }
+        ensures ready { Bank self.now.words self.now.counts self.now.used self.now.index }
+    {
+        let mark = index::hole_of(self.index, row);
+        mark as usize - 1
+    }
+
+    // The child of a used row that has the hole, where one has: an earlier row.
+    pub fn hole_kid(&self, row: Row) -> Row
+        requires { (row.0 < self.now.used) × (get_or self.now.index (hole_of row.0) 0 ≡ 0 → ⊥) }
+        ensures kid { let x = store_of self.now.words self.now.counts self.now.used in
+            let place = get_or self.now.index (hole_of row.0) 0 - 1 in
+            (result.0 ≡ get_or (kids_at x row.0) place 0) × (result.0 < row.0) }
+        ensures ready { Bank self.now.words self.now.counts self.now.used self.now.index }
+    {
+        let kid = rows::kid_of(self.words, row, self.hole_place(row));
+        Row(kid as u16)
+    }
+
+    // The row that is `row` but for its hole child, which is `with`; row 0 where that is not stored.
+    pub fn refilled(&self, row: Row, with: Row) -> Row
+        requires { (row.0 < self.now.used) × (get_or self.now.index (hole_of row.0) 0 ≡ 0 → ⊥) }
+        ensures row { let x = store_of self.now.words self.now.counts self.now.used in
+            let place = get_or self.now.index (hole_of row.0) 0 - 1 in
+            (result.0 ≡ next_row x (frame_at x row.0 place) with.0)
+            × (result.0 < self.now.used) }
+        ensures ready { Bank self.now.words self.now.counts self.now.used self.now.index }
+    {
+        let place = self.hole_place(row);
+        self.exchanged(row, place, with)
+    }
+
+    // The words that the rows lie in.
+    pub fn words(&self) -> &'a [u32]
+        ensures { result.now ≡ self.now.words }
+    {
+        self.words
     }
 }

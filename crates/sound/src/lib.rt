@@ -87,7 +87,7 @@ fn prepare(
     if !judge::roles_fit(&bank, s, t, c) {
         return false;
     }
-    table_answers::observe(words, counts, used, index, t, c, table, notes);
+    table_answers::observe(&bank, t, c, table, notes);
     true
 }
 

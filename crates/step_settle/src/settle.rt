@@ -10,6 +10,7 @@ ghost use Rattle.run_lists.specs.Run.{Run};
 ghost use Rattle.step_settle.specs.Stepped.{KnownTable, EndedAs};
 
 use crate::{opened, propose};
+use bank::terms::Terms;
 use bank_fill::context;
 use model::refusal::Refusal;
 use model::{Lists, Row};
@@ -39,7 +40,8 @@ pub fn settled(
     let t = &t[..lists.rules as usize];
     let c = lists.c;
     let c = &c[..contexts];
-    let n = table_answers::observe_to_gap(words, counts, used, index, t, c, table, notes);
+    let bank = Terms::new(words, counts, used, index);
+    let n = table_answers::observe_to_gap(&bank, t, c, table, notes);
     let Some(gap) = table::first_unknown(table, n, contexts) else {
         return propose::proposed(lists, table);
     };

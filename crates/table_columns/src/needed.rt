@@ -1,32 +1,31 @@
 // The needed rows: the members of C and the rows with a hole that they lead down to, in ascending order (§1.5).
 // From each member the way down is marked, up to a row that is marked already; the marked rows get positions upwards.
-ghost use Rattle.std.specs.Prelude.{◌≡◌, ◌<◌, ◌≤◌, length, get_or};
+ghost use Rattle.std.specs.Prelude.{◌≡◌, ℕ, ◌<◌, ◌≤◌, length, get_or};
 ghost use Rattle.model.specs.Limits.{most_rows};
 ghost use Rattle.model.specs.Entry.{store_of};
 ghost use Rattle.bank.specs.Index.{hole_of};
-ghost use Rattle.bank.specs.Bank.{Bank};
-ghost use Rattle.table_columns.specs.Columns.{Contexts};
+ghost use Rattle.table_columns.specs.Columns.{Contexts, Used};
 ghost use Rattle.bank.specs.Notes.{room_in};
-ghost use Rattle.table_columns.specs.Notes.{row_note, mark_note, SameNotes, MembersMarked, HoledMarks, KidsMarked, StayMarked, NeedMarks, NeededRows, AllSeated, hole_first, needed_more, Runs, Tops, AllBelow, TopsRead};
+ghost use Rattle.table_columns.specs.Notes.{row_note, mark_note, SameNotes, MembersMarked, HoledMarks, KidsMarked, StayMarked, NeededRows, AllSeated, hole_first, needed_more, Runs, Tops, AllBelow, TopsRead};
 
-use crate::{clear_run, hole_kid};
+use crate::clear_run;
 use bank::notes::NOTE_WIDTH;
+use bank::terms::Terms;
 use model::Row;
 
 // Marks a row with a hole and the rows that it leads down to, up to one that is marked already.
-fn mark_from(words: &[u32], counts: &[u8], used: u16, index: &[u16], row: Row, notes: &mut [u16])
-    requires { let x = store_of words.now counts.now used in
+fn mark_from(bank: &Terms<'_>, row: Row, notes: &mut [u16])
+    requires { let x = store_of bank.now.words bank.now.counts bank.now.used in
         let z = room_in notes.old in
-        Bank words.now counts.now used index.now
-        × HoledMarks index.now z used notes.old
-        × KidsMarked x index.now z used 1 notes.old
-        × (row.0 < used)
-        × (0 < row.0 → get_or index.now (hole_of row.0) 0 ≡ 0 → ⊥)
-        × (used ≤ z) }
-    ensures { let x = store_of words.now counts.now used in
+        HoledMarks bank.now.index z bank.now.used notes.old
+        × KidsMarked x bank.now.index z bank.now.used 1 notes.old
+        × (row.0 < bank.now.used)
+        × (0 < row.0 → get_or bank.now.index (hole_of row.0) 0 ≡ 0 → ⊥)
+        × (bank.now.used ≤ z) }
+    ensures { let x = store_of bank.now.words bank.now.counts bank.now.used in
         let z = room_in notes.old in
-        HoledMarks index.now z used notes.new
-        × KidsMarked x index.now z used 1 notes.new
+        HoledMarks bank.now.index z bank.now.used notes.new
+        × KidsMarked x bank.now.index z bank.now.used 1 notes.new
         × StayMarked z notes.old notes.new
         × (0 < row.0 → mark_note z notes.new row.0 ≡ 0 → ⊥) }
 {
@@ -37,35 +36,29 @@ fn mark_from(words: &[u32], counts: &[u8], used: u16, index: &[u16], row: Row, n
             return;
         }
         notes[last + at as usize] = 1;
-        let kid = hole_kid(words, counts, used, index, Row(at));
+        let kid = bank.hole_kid(Row(at));
         at = kid.0;
     }
 }
 
 // Marks the members of C and all rows that they lead down to, where no row is marked yet.
-fn mark_members(
-    words: &[u32],
-    counts: &[u8],
-    used: u16,
-    index: &[u16],
-    c: &[u16],
-    notes: &mut [u16],
-)
-    requires { let x = store_of words.now counts.now used in
+fn mark_members(bank: &Terms<'_>, c: &[u16], notes: &mut [u16])
+    requires { let x = store_of bank.now.words bank.now.counts bank.now.used in
         let z = room_in notes.old in
-        Bank words.now counts.now used index.now
-        × HoledMarks index.now z used notes.old
-        × KidsMarked x index.now z used 1 notes.old
-        × Contexts x c.now (length c.now)
-        × (used ≤ z) }
-    ensures { let x = store_of words.now counts.now used in
+        HoledMarks bank.now.index z bank.now.used notes.old
+        × KidsMarked x bank.now.index z bank.now.used 1 notes.old
+        × Used bank.now.used c.now (length c.now)
+        × ((j : ℕ) → j < length c.now → 0 < get_or c.now j 0
+        → get_or bank.now.index (hole_of (get_or c.now j 0)) 0 ≡ 0 → ⊥)
+        × (bank.now.used ≤ z) }
+    ensures { let x = store_of bank.now.words bank.now.counts bank.now.used in
         let z = room_in notes.old in
-        HoledMarks index.now z used notes.new
-        × KidsMarked x index.now z used 1 notes.new
+        HoledMarks bank.now.index z bank.now.used notes.new
+        × KidsMarked x bank.now.index z bank.now.used 1 notes.new
         × MembersMarked z c.now (length c.now) notes.new }
 {
     for row in c {
-        mark_from(words, counts, used, index, Row(*row), notes);
+        mark_from(bank, Row(*row), notes);
     }
 }
 
@@ -77,21 +70,6 @@ fn put_hole(notes: &mut [u16])
     let last = 3 * (notes.len() / NOTE_WIDTH);
     notes[0] = 0;
     notes[last] = 0;
-}
-
-// Marks the members of C and all rows that they lead down to, and puts row 0 at position 0.
-fn mark_needed(words: &[u32], counts: &[u8], used: u16, index: &[u16], c: &[u16], notes: &mut [u16])
-    requires { let x = store_of words.now counts.now used in
-        Bank words.now counts.now used index.now
-        × Contexts x c.now (length c.now)
-        × (used ≤ room_in notes.old) }
-    ensures { let x = store_of words.now counts.now used in
-        let z = room_in notes.old in
-        NeedMarks x index.now z used c.now notes.new }
-{
-    clear_run(0, used as usize, notes);
-    mark_members(words, counts, used, index, c, notes);
-    put_hole(notes);
 }
 
 // Puts a row behind the needed rows, at position n, with the position of its hole child.
@@ -112,25 +90,24 @@ fn put_needed(n: usize, row: Row, kid: Row, notes: &mut [u16])
 }
 
 // Gives the marked rows beyond row 0 their positions, from 1 on: how many they are.
-fn list_marked(words: &[u32], counts: &[u8], used: u16, index: &[u16], notes: &mut [u16]) -> usize
-    requires { let x = store_of words.now counts.now used in
+fn list_marked(bank: &Terms<'_>, notes: &mut [u16]) -> usize
+    requires { let x = store_of bank.now.words bank.now.counts bank.now.used in
         let z = room_in notes.old in
-        Bank words.now counts.now used index.now
-        × HoledMarks index.now z used notes.old
-        × KidsMarked x index.now z used 1 notes.old
+        HoledMarks bank.now.index z bank.now.used notes.old
+        × KidsMarked x bank.now.index z bank.now.used 1 notes.old
         × (row_note notes.old 0 ≡ 0)
         × (mark_note z notes.old 0 ≡ 0)
-        × (used ≤ z) }
-    ensures { let x = store_of words.now counts.now used in
+        × (bank.now.used ≤ z) }
+    ensures { let x = store_of bank.now.words bank.now.counts bank.now.used in
         let z = room_in notes.old in
-        NeededRows x index.now used z notes.new result
-        × AllSeated z used notes.old notes.new result }
+        NeededRows x bank.now.index bank.now.used z notes.new result
+        × AllSeated z bank.now.used notes.old notes.new result }
 {
     let last = 3 * (notes.len() / NOTE_WIDTH);
     let mut n = 0;
-    for i in 1..used {
+    for i in 1..bank.used() {
         if notes[last + i as usize] != 0 {
-            let kid = hole_kid(words, counts, used, index, Row(i));
+            let kid = bank.hole_kid(Row(i));
             n += 1;
             put_needed(n, Row(i), kid, notes);
         }
@@ -170,28 +147,21 @@ fn find_tops(c: &[u16], notes: &[u16], tops: &mut [u16])
 }
 
 // The needed rows of C with their runs, into the notes, and the positions of its members: how many needed rows there are.
-pub fn needed_rows(
-    words: &[u32],
-    counts: &[u8],
-    used: u16,
-    index: &[u16],
-    c: &[u16],
-    notes: &mut [u16],
-    tops: &mut [u16],
-) -> usize
-    requires { let x = store_of words.now counts.now used in
-        Bank words.now counts.now used index.now
-        × Contexts x c.now (length c.now)
-        × (used ≤ room_in notes.old)
+pub fn needed_rows(bank: &Terms<'_>, c: &[u16], notes: &mut [u16], tops: &mut [u16]) -> usize
+    requires { let x = store_of bank.now.words bank.now.counts bank.now.used in
+        Contexts x c.now (length c.now)
+        × (bank.now.used ≤ room_in notes.old)
         × (length c.now ≤ length tops.old) }
-    ensures { let x = store_of words.now counts.now used in
+    ensures { let x = store_of bank.now.words bank.now.counts bank.now.used in
         let z = room_in notes.old in
-        NeededRows x index.now used z notes.new result
+        NeededRows x bank.now.index bank.now.used z notes.new result
         × Runs z notes.new 1 result
         × Tops c.now notes.new result tops.new }
 {
-    mark_needed(words, counts, used, index, c, notes);
-    let n = list_marked(words, counts, used, index, notes);
+    clear_run(0, usize::from(bank.used()), notes);
+    mark_members(bank, c, notes);
+    put_hole(notes);
+    let n = list_marked(bank, notes);
     find_tops(c, notes, tops);
     find_runs(n, notes);
     n

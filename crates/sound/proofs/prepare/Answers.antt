@@ -14,8 +14,8 @@ observe-requires c =
     let few = c.requires.1 in
     let room = c.requires.2 in
     let bank = c.if-not-t1.ensures.bank refl in
-    let roles = sym (rw c.new-bank.ensures at c.if-not-roles_fit.ensures) in (
-      bank,
+    let roles = sym (rw c.new-bank.ensures at c.if-not-roles_fit.ensures) in
+    rw c.new-bank.ensures (
       t1_answered ws ns u s t cs (sym c.if-not-t1.ensures.result_value),
       t_used ws ns u s t cs roles,
       c_contexts ws ns u s t cs roles,

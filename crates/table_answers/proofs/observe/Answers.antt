@@ -9,26 +9,29 @@ use Rattle.table_answers.proofs.observe.Goals as goal
 pub read_column-requires : goal.read_column-requires
 read_column-requires c =
     let a = c.args in
+    let b = a.bank.now in
     let h = c.loop-k.invariant.needed in
     let f = c.fill_column.ensures in
-    let enough : length a.c.now ≤ length c.needed_rows-n.new.tops = omega (arith, c.needed_rows-n.auto.tops, c.requires.4) in
-    let long = length-take-le (length a.c.now) c.needed_rows-n.new.tops enough in (
-      c.requires.0.finding.room,
-      c.requires.1,
-      tops_below a.words.now a.counts.now a.used h f.1 f.0 enough,
-      tops_fill a.words.now a.counts.now a.used h f.1 f.0 enough,
-      omega (arith, long, c.loop-k.auto.table, c.requires.4, c.loop-k-test.true, c.requires.6),
+    let enough : length a.c.now ≤ length c.needed_rows-n.new.tops = omega (arith, c.needed_rows-n.auto.tops, c.requires.3) in
+    let long = length-take-le (length a.c.now) c.needed_rows-n.new.tops enough in
+    rw (c.words-words.ensures, c.used-used.ensures.value) (
+      c.used-used.ensures.ready.finding.room,
+      c.requires.0,
+      tops_below b.words b.counts b.used h f.1 f.0 enough,
+      tops_fill b.words b.counts b.used h f.1 f.0 enough,
+      omega (arith, long, c.loop-k.auto.table, c.requires.3, c.loop-k-test.true, c.requires.5),
     )
 
 pub loop-k-preserved : goal.loop-k-preserved
 loop-k-preserved c =
     let a = c.args in
+    let b = a.bank.now in
     let l = c.loop-k in
     let h = l.invariant.needed in
     let f = c.fill_column.ensures in
-    let enough : length a.c.now ≤ length c.needed_rows-n.new.tops = omega (arith, c.needed_rows-n.auto.tops, c.requires.4) in
-    let row = row_read a.words.now a.counts.now a.used h f.1 f.0 enough l.table (most_contexts * l.k) c.read_column.ensures in
+    let enough : length a.c.now ≤ length c.needed_rows-n.new.tops = omega (arith, c.needed_rows-n.auto.tops, c.requires.3) in
+    let row = row_read b.words b.counts b.used h f.1 f.0 enough l.table (most_contexts * l.k) (rw c.words-words.ensures at c.read_column.ensures) in
     record {
-      observed = rw row (observed_more l.invariant.observed (omega (arith, c.loop-k-test.true, c.requires.5)) (omega (arith, c.loop-k-test.true, l.auto.table, c.requires.6)) (omega arith));
-      needed = next a.words.now a.counts.now a.used h f.1 f.0 enough;
+      observed = rw row (observed_more l.invariant.observed (omega (arith, c.loop-k-test.true, c.requires.4)) (omega (arith, c.loop-k-test.true, l.auto.table, c.requires.5)) (omega arith));
+      needed = next b.words b.counts b.used h f.1 f.0 enough;
     }

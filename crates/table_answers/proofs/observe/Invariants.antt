@@ -7,9 +7,9 @@ use Rattle.table_answers.proofs.observe.Given as goal
 
 abbrev pub invariant-loop-k : goal.invariant-loop-k
 invariant-loop-k l =
-    let x = store_of l.words l.counts l.used in
-    let w = answers_in l.used l.words in
+    let x = store_of l.bank.words l.bank.counts l.bank.used in
+    let w = answers_in l.bank.used l.bank.words in
     record {
       observed : Observed x w l.t l.k l.c (length l.c) l.table;
-      needed : NeededFor x l.index l.used l.c l.notes l.n l.tops;
+      needed : NeededFor x l.bank.index l.bank.used l.c l.notes l.n l.tops;
     }

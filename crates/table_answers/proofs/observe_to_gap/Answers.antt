@@ -11,26 +11,29 @@ use Rattle.table_answers.proofs.observe_to_gap.Goals as goal
 pub read_column-requires : goal.read_column-requires
 read_column-requires c =
     let a = c.args in
+    let b = a.bank.now in
     let l = c.loop-k in
     let h = l.invariant.needed in
     let f = c.fill_column.ensures in
-    let enough : length a.c.now ≤ length c.needed_rows-n.new.tops = omega (arith, c.needed_rows-n.auto.tops, c.requires.4) in
-    let long = length-take-le (length a.c.now) c.needed_rows-n.new.tops enough in (
-      c.requires.0.finding.room,
-      c.requires.1,
-      tops_below a.words.now a.counts.now a.used h f.1 f.0 enough,
-      tops_fill a.words.now a.counts.now a.used h f.1 f.0 enough,
-      omega (arith, long, c.requires.4, c.loop-k-test.true, l.invariant.known.sized.long),
+    let enough : length a.c.now ≤ length c.needed_rows-n.new.tops = omega (arith, c.needed_rows-n.auto.tops, c.requires.3) in
+    let long = length-take-le (length a.c.now) c.needed_rows-n.new.tops enough in
+    rw (c.words-words.ensures, c.used-used.ensures.value) (
+      c.used-used.ensures.ready.finding.room,
+      c.requires.0,
+      tops_below b.words b.counts b.used h f.1 f.0 enough,
+      tops_fill b.words b.counts b.used h f.1 f.0 enough,
+      omega (arith, long, c.requires.3, c.loop-k-test.true, l.invariant.known.sized.long),
     )
 
 pub returns-then-has_answer : goal.returns-then-has_answer
 returns-then-has_answer c =
     let a = c.args in
+    let b = a.bank.now in
     let l = c.loop-k in
     let z = l.invariant.known.sized in
     let f = c.fill_column.ensures in
-    let enough : length a.c.now ≤ length c.needed_rows-n.new.tops = omega (arith, c.needed_rows-n.auto.tops, c.requires.4) in
-    let row = row_read a.words.now a.counts.now a.used l.invariant.needed f.1 f.0 enough l.table (most_contexts * l.k) c.read_column.ensures in
+    let enough : length a.c.now ≤ length c.needed_rows-n.new.tops = omega (arith, c.needed_rows-n.auto.tops, c.requires.3) in
+    let row = row_read b.words b.counts b.used l.invariant.needed f.1 f.0 enough l.table (most_contexts * l.k) (rw c.words-words.ensures at c.read_column.ensures) in
     let gap = sym c.has_answer-in-loop-k.ensures ∙ c.if-has_answer.true in
     record {
       few = omega (arith, c.loop-k-test.true);
@@ -41,14 +44,15 @@ returns-then-has_answer c =
 pub loop-k-preserved : goal.loop-k-preserved
 loop-k-preserved c =
     let a = c.args in
+    let b = a.bank.now in
     let l = c.loop-k in
     let z = l.invariant.known.sized in
     let h = l.invariant.needed in
     let f = c.fill_column.ensures in
-    let enough : length a.c.now ≤ length c.needed_rows-n.new.tops = omega (arith, c.needed_rows-n.auto.tops, c.requires.4) in
-    let row = row_read a.words.now a.counts.now a.used h f.1 f.0 enough l.table (most_contexts * l.k) c.read_column.ensures in
+    let enough : length a.c.now ≤ length c.needed_rows-n.new.tops = omega (arith, c.needed_rows-n.auto.tops, c.requires.3) in
+    let row = row_read b.words b.counts b.used h f.1 f.0 enough l.table (most_contexts * l.k) (rw c.words-words.ensures at c.read_column.ensures) in
     record {
       observed = rw row (observed_more l.invariant.observed (omega (arith, c.loop-k-test.true, z.few_t)) (omega (arith, c.loop-k-test.true, z.long)) (omega arith));
       known = rw row (known_more l.invariant.known l.k c.loop-k-test.true (omega arith));
-      needed = next a.words.now a.counts.now a.used h f.1 f.0 enough;
+      needed = next b.words b.counts b.used h f.1 f.0 enough;
     }

@@ -54,9 +54,6 @@ module _ {ws ns : List ℕ} {u : ℕ} {ix : List ℕ} (r : Bank ws ns u ix) {z :
     kid_right : RightEntry (store_of ws ns u) (hole_kid (store_of ws ns u) ix (row_note us p)) row (filled_note z us (below_note z us p))
     kid_right = subst (λ (i : ℕ). RightEntry x i row (filled_note z us (below_note z us p))) (h.kid p some low) (f.right (below_note z us p) (h.early p some low))
 
-    pub kid_used : filled_note z us (below_note z us p) < u
-    kid_used = omega (arith, kid_right.within, used_of ws ns u)
-
     module _ (v : ℕ) (is : v ≡ next_row (store_of ws ns u) (frame_at (store_of ws ns u) (row_note us p) (get_or ix (hole_of (row_note us p)) 0 - 1)) (filled_note z us (below_note z us p))) (b : v < u)
         (fits : u ≤ z) (long : 4 * z ≤ length us) where
       entry_right : RightEntry (store_of ws ns u) (row_note us p) row v
@@ -129,9 +126,6 @@ first_filled z us v l = let e : 3 * z + 0 ≡ 3 * z = omega arith in ap (λ (k :
 
 pub same_cleared : {z : ℕ} {us vs : List ℕ} {from end : ℕ} → Cleared z us from end vs → length vs ≡ length us → SameNotes 3 z us vs
 same_cleared g e = record { size = e; same = λ i l. g.before i (omega arith) }
-
-pub same_both : {z : ℕ} {ns us vs : List ℕ} → SameNotes 3 z ns us → SameNotes 3 z us vs → SameNotes 3 z ns vs
-same_both a b = record { size = b.size ∙ a.size; same = λ i l. b.same i l ∙ a.same i l }
 
 -- THE ANSWERS at the members of C, from a column
 module _ (ws ns : List ℕ) (u : ℕ) {row z : ℕ} {us : List ℕ} {n : ℕ} {c tops : List ℕ} (f : Column (store_of ws ns u) row z us (n + 1)) (t : Tops c us n tops) (enough : length c ≤ length tops) where

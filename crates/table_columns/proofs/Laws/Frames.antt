@@ -1,30 +1,24 @@
 -- A context in a store that is ready, one step down: its frame around the hole child, then the frames of that child.
 -- The mark of a row names the first child with a hole, which is where the way down to the hole goes.
-use mathlib.Core.Path.{◌≡◌, refl, sym, ap, subst, ◌∙◌}
+use mathlib.Core.Path.{◌≡◌, refl, sym, ap, ◌∙◌}
 use mathlib.Core.Bool.{Bool, true, not, cond, true≢false}
 use mathlib.Core.List.{List, [], ◌∷◌}
 use Prim.Native.Nat.{ℕ, ◌-◌, ◌<◌}
 use native.Mathlib.Omega.{arith}
 use lib.Dec.{ltb, eqb}
 use borrow.Author.Tests.{ltb-true, eq-eqb, ne_eqb}
-use lib.ListN.{get_or, set}
+use lib.ListN.{get_or}
 use Rattle.model.specs.Base.{Below, none_below, one_below}
-use Rattle.model.specs.Store.{Store, split_at, Spot, Frame, down_by, down_from, used, symbol_at, kids_at, has_hole, is_context, padded, filled_kids, find_row, next_row, filled_row, frames_of}
-use Rattle.model.specs.Facts.{Good, FrameFits, Fits}
+use Rattle.model.specs.Store.{Store, split_at, Spot, Frame, down_by, down_from, used, symbol_at, kids_at, has_hole, is_context, filled_kids, find_row, next_row, filled_row, frames_of}
+use Rattle.model.specs.Facts.{Good}
 use Rattle.model.specs.Entry.{store_of}
-use Rattle.model.proofs.Laws.Tests.{both_true, or_right, by_equal}
+use Rattle.model.proofs.Laws.Tests.{both_true, or_right}
 use Rattle.model.proofs.Laws.Fold.{earlier}
-use Rattle.model.proofs.Laws.Down.{context_fits}
-use Rattle.bank.specs.Rows.{symbol_in, kid_in, places_in}
-use Rattle.bank.specs.Index.{find_in, hole_of}
+use Rattle.bank.specs.Index.{hole_of}
 use Rattle.bank.specs.Bank.{Bank, frame_at}
-use Rattle.bank.proofs.Laws.Words.{used_of, symbol_in_law}
-use Rattle.bank.proofs.Laws.Children.{bank_stored, row_kid}
+use Rattle.bank.proofs.Laws.Words.{used_of}
 use Rattle.bank.proofs.Laws.Down.{StepsTo, step_some}
-use Rattle.bank.proofs.Laws.Finding.{found_in}
 use Rattle.bank_t1.proofs.Laws.T1.{hole_ready}
-use Rattle.bank_fill.proofs.Laws.Above.{frame_four, above_kids, above_asks}
-use Rattle.bank_fill.proofs.Laws.Paths.{fits_head}
 use Rattle.table_columns.specs.Columns.{hole_kid}
 
 pub frames_none : (x : Store) → Good x → frames_of x 0 ≡ []
@@ -55,22 +49,12 @@ module _ {ws ns : List ℕ} {n : ℕ} {ix : List ℕ} (r : Bank ws ns n ix) (i :
   pub frames_step : frames_of (store_of ws ns n) i ≡ frame_at (store_of ws ns n) i (get_or ix (hole_of i) 0 - 1) ∷ frames_of (store_of ws ns n) (hole_kid (store_of ws ns n) ix i)
   frames_step = ap (λ (s : Spot). s.around) step.is_under
 
-  -- its frame around the hole fits
-  pub frame_fits : FrameFits (store_of ws ns n) (frame_at (store_of ws ns n) i (get_or ix (hole_of i) 0 - 1))
-  frame_fits = fits_head (subst (λ (fs : List Frame). Fits x fs) frames_step (context_fits x r.good i low context_marked))
-
-  pub place_four : get_or ix (hole_of i) 0 - 1 < 4
-  place_four = frame_four x r.good i place low frame_fits
-
   -- the hole child: an earlier context
   pub kid_early : hole_kid (store_of ws ns n) ix i < i
   kid_early = step.before
 
   pub kid_hole : has_hole (store_of ws ns n) (hole_kid (store_of ws ns n) ix i) ≡ true
   kid_hole = step.has
-
-  pub kid_read : kid_in ws i (get_or ix (hole_of i) 0 - 1) ≡ hole_kid (store_of ws ns n) ix i
-  kid_read = row_kid (bank_stored r) i l (omega (arith, step.before)) place step.within
 
   -- filled, from the hole child filled
   pub filled_step : (j : ℕ) → filled_row (store_of ws ns n) (frames_of (store_of ws ns n) i) j ≡
@@ -81,22 +65,6 @@ module _ {ws ns : List ℕ} {n : ℕ} {ix : List ℕ} (r : Bank ws ns n ix) (i :
   -- THE ROW with another one at the hole
   pub next_none : (j : ℕ) → j ≡ 0 → next_row (store_of ws ns n) (frame_at (store_of ws ns n) i (get_or ix (hole_of i) 0 - 1)) j ≡ 0
   next_none j e = ap (λ (b : Bool). cond b 0 (find_row x (symbol_at x i) (filled_kids (frame_at x i place) j))) (eq-eqb j 0 e)
-
-  module _ (j : ℕ) (v : j < n) (some : j ≡ 0 → ⊥) (a : ℕ) (ps : List ℕ) (p : a ≡ symbol_in ws i) (s : ps ≡ places_in ws i) where
-    next_found : next_row (store_of ws ns n) (frame_at (store_of ws ns n) i (get_or ix (hole_of i) 0 - 1)) j ≡ find_in ws n a (set ps (get_or ix (hole_of i) 0 - 1) j)
-    next_found =
-        let q = (above_asks r i place j l v frame_fits).unused in
-        let k = above_kids r i place j l v frame_fits in
-        let e = q ∙ ap padded k in
-        ap (λ (b : Bool). cond b 0 (find_row x (symbol_at x i) (filled_kids (frame_at x i place) j))) (ne_eqb j 0 some) ∙
-        (λ t. find_in ws n ((symbol_in_law ws ns n i l ∙ sym p) t) ((sym e ∙ ap (λ (l : List ℕ). set l place j) (sym s)) t))
-
-    pub next_row_law : (f : ℕ) → f ≡ find_in ws n a (set ps (get_or ix (hole_of i) 0 - 1) j) →
-        (f ≡ next_row (store_of ws ns n) (frame_at (store_of ws ns n) i (get_or ix (hole_of i) 0 - 1)) j) × (f < n)
-    next_row_law f e = (e ∙ sym next_found, within)
-      where
-        within : f < n
-        within = by_equal f 0 (λ o. omega (arith, r.finding.some)) (λ o. omega (arith, e, (found_in ws n r.finding.room a (set ps place j) (λ y. o (e ∙ y))).0))
 
 -- A CONTEXT is used and has a hole; row 0 is one, and the others are marked
 module _ (x : Store) (i : ℕ) (c : is_context x i ≡ true) where

@@ -16,7 +16,6 @@ use Rattle.table_columns.specs.Columns.{hole_kid, Contexts}
 use Rattle.table_columns.specs.Notes.{row_note, mark_note, Cleared, MembersMarked, HoledMarks, KidsMarked, StayMarked, hole_first, NeedMarks}
 use Rattle.table_columns.proofs.Laws.Frames.{kid_early, kid_hole, hole_marked, context_within, context_hole}
 
--- CLEARED from one position up to another, one after another
 -- A MARK SET
 module _ (z : ℕ) (us : List ℕ) (k : ℕ) (fits : 3 * z + k < length us) where
   pub mark_own : (i : ℕ) → i ≡ k → mark_note z (set us (3 * z + k) 1) i ≡ 1

@@ -11,34 +11,34 @@ pub observe_to_gap-n-requires : goal.observe_to_gap-n-requires
 observe_to_gap-n-requires c =
     let a : Arrays c.args.lists = record { counts = search rules; s = search rules; t = search rules; c = search rules } in
     let run = c.requires.1 in
-    (c.requires.0, answered run, used_rules run, are_contexts run, contexts_few_law run a, known run a c.requires.3, noted c.requires.0 c.args.notes.now c.requires.2)
+    rw c.new-bank.ensures (answered run, used_rules run, are_contexts run, contexts_few_law run a, known run a c.requires.3, noted c.requires.0 c.args.notes.now c.requires.2)
 
 pub proposed-requires : goal.proposed-requires
 proposed-requires c =
     let a : Arrays c.args.lists = record { counts = search rules; s = search rules; t = search rules; c = search rules } in
     let run = c.requires.1 in
-    (run.fit, states_among run, closed_sized run a (record { to_gap = c.observe_to_gap-n.ensures }) (sym c.first_unknown.ensures ∙ c.in_default.is))
+    (run.fit, states_among run, closed_sized run a (record { to_gap = rw c.new-bank.ensures at c.observe_to_gap-n.ensures }) (sym c.first_unknown.ensures ∙ c.in_default.is))
 
 pub returns-in_default : goal.returns-in_default
 returns-in_default c =
     let a : Arrays c.args.lists = record { counts = search rules; s = search rules; t = search rules; c = search rules } in
-    (closed_ends c.requires.1 a (record { to_gap = c.observe_to_gap-n.ensures }) (sym c.first_unknown.ensures ∙ c.in_default.is) c.requires.4 c.requires.5 c.requires.6 c.proposed.result c.proposed.ensures).ended
+    (closed_ends c.requires.1 a (record { to_gap = rw c.new-bank.ensures at c.observe_to_gap-n.ensures }) (sym c.first_unknown.ensures ∙ c.in_default.is) c.requires.4 c.requires.5 c.requires.6 c.proposed.result c.proposed.ensures).ended
 
 pub bounds-c-gap : goal.bounds-c-gap
 bounds-c-gap c =
     let a : Arrays c.args.lists = record { counts = search rules; s = search rules; t = search rules; c = search rules } in
-    context_within c.requires.1 a (record { to_gap = c.observe_to_gap-n.ensures }) (sym c.first_unknown.ensures ∙ c.in-Some.is)
+    context_within c.requires.1 a (record { to_gap = rw c.new-bank.ensures at c.observe_to_gap-n.ensures }) (sym c.first_unknown.ensures ∙ c.in-Some.is)
 
 pub bounds-t-gap : goal.bounds-t-gap
 bounds-t-gap c =
     let a : Arrays c.args.lists = record { counts = search rules; s = search rules; t = search rules; c = search rules } in
-    rule_within c.requires.1 a (record { to_gap = c.observe_to_gap-n.ensures }) (sym c.first_unknown.ensures ∙ c.in-Some.is)
+    rule_within c.requires.1 a (record { to_gap = rw c.new-bank.ensures at c.observe_to_gap-n.ensures }) (sym c.first_unknown.ensures ∙ c.in-Some.is)
 
 pub fill_context-added-requires : goal.fill_context-added-requires
 fill_context-added-requires c =
     let a : Arrays c.args.lists = record { counts = search rules; s = search rules; t = search rules; c = search rules } in
     let run = c.requires.1 in
-    let w : Worked c.args.words.now c.args.lists c.observe_to_gap-n.new.table c.observe_to_gap-n.result = record { to_gap = c.observe_to_gap-n.ensures } in
+    let w : Worked c.args.words.now c.args.lists c.observe_to_gap-n.new.table c.observe_to_gap-n.result = record { to_gap = rw c.new-bank.ensures at c.observe_to_gap-n.ensures } in
     let is = sym c.first_unknown.ensures ∙ c.in-Some.is in
     let room = noted c.requires.0 c.args.notes.now c.requires.2 in
     (c.requires.0, context_used run a w is, context_holed run a w is, rule_used run a w is, omega (arith, room, c.observe_to_gap-n.auto.notes))
@@ -47,4 +47,4 @@ pub returns : goal.returns
 returns c =
     let a : Arrays c.args.lists = record { counts = search rules; s = search rules; t = search rules; c = search rules } in
     let is = sym c.first_unknown.ensures ∙ c.in-Some.is in
-    (open_ends c.requires.1 a (record { to_gap = c.observe_to_gap-n.ensures }) is c.requires.4 c.requires.5 c.requires.6 (record { came = c.fill_context-added.ensures }) c.opened.result c.opened.ensures).ended
+    (open_ends c.requires.1 a (record { to_gap = rw c.new-bank.ensures at c.observe_to_gap-n.ensures }) is c.requires.4 c.requires.5 c.requires.6 (record { came = c.fill_context-added.ensures }) c.opened.result c.opened.ensures).ended

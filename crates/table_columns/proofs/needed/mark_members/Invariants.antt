@@ -7,7 +7,7 @@ use Rattle.table_columns.proofs.needed.mark_members.Given as goal
 abbrev pub invariant-loop-row : goal.invariant-loop-row
 invariant-loop-row l =
     record {
-      holed : HoledMarks l.index (room_in l.fn.notes) l.used l.notes;
-      kids : KidsMarked (store_of l.words l.counts l.used) l.index (room_in l.fn.notes) l.used 1 l.notes;
+      holed : HoledMarks l.bank.index (room_in l.fn.notes) l.bank.used l.notes;
+      kids : KidsMarked (store_of l.bank.words l.bank.counts l.bank.used) l.bank.index (room_in l.fn.notes) l.bank.used 1 l.notes;
       members : MembersMarked (room_in l.fn.notes) l.c l.row-index l.notes;
     }
