@@ -2,7 +2,7 @@
 // A column is for each needed row the row that it fills to. A row comes after its hole child, and is found by what that one fills to.
 #![tactic(auto)]
 
-ghost use Rattle.std.specs.Prelude.{◌≡◌, ◌+◌, ◌*◌, ◌-◌, ◌<◌, ◌≤◌, length, get_or};
+ghost use Rattle.std.specs.Prelude.{◌≡◌, ◌+◌, ◌*◌, ◌<◌, ◌≤◌, length};
 ghost use Rattle.std.proofs.lemmas.List.Edits.{sets};
 ghost use Rattle.model.specs.Limits.{most_contexts, row_width};
 ghost use Rattle.model.specs.Entry.{store_of};
@@ -74,7 +74,7 @@ pub fn fill_column(bank: &Terms<'_>, n: usize, with: Row, notes: &mut [u16])
         Column x with.0 z notes.new (n + 1)
         × SameNotes 3 z notes.old notes.new }
 {
-    // What `bank` is, `used` says: in row 0 nothing is below the hole.
+    // For the proof: `used` says what `bank` is, and so that row 0 has no child.
     let _ = bank.used();
     notes[3 * (notes.len() / NOTE_WIDTH)] = with.0;
     let mut p = 1;
