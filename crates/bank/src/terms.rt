@@ -130,10 +130,10 @@ impl<'a> Terms<'a> {
     }
 
     // The index, for tests that read it and no row.
-    pub fn index(&self) -> &[u16]
+    pub fn index(&self) -> &'a [u16]
         ensures { result.now ≡ self.now.index }
     {
-        &self.index[..]
+        self.index
     }
 
     // The place, plus one, of the child of a used row that has the hole; 0 where none has.
