@@ -114,7 +114,7 @@ print_record-print_list-requires t c =
     let n = count_read c.requires.0 s.row.0 c.requires.1 s.letters.now c.symbol_of-symbol.ensures c.count_of.ensures in
     let some : 0 < get_or s.counts.now (symbol_in s.words.now s.row.0) 0 = omega (arith, c.if-count_of-eq0.false, n) in
     let v = c.print_record-next.ensures in
-    (omega (arith, c.decreases), (c.requires.0, c.requires.1, omega (arith, some, count_is c.requires.0 s.row.0 c.requires.1), rest_fits c.requires.0 s.row.0 c.requires.1 s.letters.now c.letter_of.result some s.at s.out.now c.requires.2 c.kid_of-first.result c.kid_of-first.ensures v.value v.out))
+    (omega (arith, c.decreases), (c.requires.0, c.requires.1, omega (arith, some, count_is c.requires.0 s.row.0 c.requires.1), omega (arith, rest_fits c.requires.0 s.row.0 c.requires.1 s.letters.now c.letter_of.result some s.at s.out.now c.requires.2 c.kid_of-first.result c.kid_of-first.ensures v.value v.out)))
 
 pub print_record-returns : goal.print_record-returns
 print_record-returns t c =
