@@ -7,7 +7,7 @@ use Prim.Native.Nat.{ℕ}
 use native.Mathlib.Omega.{arith}
 use lib.Dec.{eqb}
 use borrow.Author.Tests.{eq-eqb, ne_eqb, eqb-true, not-true, not-false}
-use Rattle.model.specs.Terms.{unless, or_else, record_fault}
+use Rattle.model.specs.Terms.{unless, record_fault}
 use Rattle.model.specs.Automata.{Automaton, verdict_on}
 use Rattle.model.specs.Table.{automaton_of}
 use Rattle.model.specs.Sound.{is_sound}

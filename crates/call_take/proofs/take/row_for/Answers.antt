@@ -22,6 +22,6 @@ store-requires c =
 pub returns-in-Answer : goal.returns-in-Answer
 returns-in-Answer c =
     subst (λ (k : Said).
-        Came c.args.words.now (counts_in c.args.lists) c.args.lists.used (built_for (tables_of c.args.words.now c.args.lists) k c.args.symbols.now)
-        (added_row c.args.lists.asked c.args.lists.used) c.args.words.now c.args.index.now)
+    Came c.args.words.now (counts_in c.args.lists) c.args.lists.used (built_for (tables_of c.args.words.now c.args.lists) k c.args.symbols.now)
+    (added_row c.args.lists.asked c.args.lists.used) c.args.words.now c.args.index.now)
     (sym c.in-Answer.is) (comes_same c.requires.1 c.args.lists.asked).came
