@@ -1,7 +1,7 @@
 -- A call, line by line: refused by the first line that applies, short in its step, or taken with the tables that it leaves.
 -- Each line that does not apply leaves the rest to decide.
-use mathlib.Core.Path.{◌≡◌, refl, sym, ap, ◌∙◌}
-use mathlib.Core.Bool.{Bool, true, false, cond}
+use mathlib.Core.Path.{◌≡◌, sym, ap, ◌∙◌}
+use mathlib.Core.Bool.{Bool, true, cond}
 use mathlib.Core.List.{List}
 use Prim.Native.Nat.{ℕ}
 use borrow.Author.Tests.{eq-eqb, ne_eqb}
@@ -14,7 +14,6 @@ use Rattle.model.specs.Entry.{size_fits, lists_fit, lent_fault, tables_of, lists
 use Rattle.model.specs.Refusals.{number_of}
 use Rattle.model.specs.declared.Lists.{Lists}
 use Rattle.model.specs.declared.refusal.Refusal.{Refusal}
-use Rattle.model.specs.declared.refusal.Refusal.TheVariants.{Unsound}
 use Rattle.model.proofs.Laws.Refused.{number_some}
 use Rattle.call.specs.Calls.{CallAs, look_told}
 use Rattle.call.proofs.Laws.LentFault.{lent_refused}
@@ -33,9 +32,6 @@ module _ (ws : List ℕ) (l : Lists) (k : Call) where
   called_lent r e = refused_by r (lent_refused ws l k (number_of r) e (number_some r))
 
   module _ (a : size_fits ws ≡ true) (b : lists_fit l ≡ true) where
-    pub called_unsound : is_sound (tables_of ws l) ≡ false → CallAs ws l k (Err Unsound) ws
-    called_unsound c = refused_by Unsound (λ i. lines (a i) (b i) (c i) (fault_of X k) (eqb (fault_of X k) 0))
-
     module _ (c : is_sound (tables_of ws l) ≡ true) where
       pub called_fault : (r : Refusal) → number_of r ≡ fault_of (tables_of ws l) k → CallAs ws l k (Err r) ws
       called_fault r e =
