@@ -3,7 +3,7 @@
 use Rattle.std.specs.Prelude.{◌≡◌, true, List, [], ℕ, Result, Ok, Err, IfOk}
 use Rattle.model.specs.Calls.{Call, look}
 use Rattle.model.specs.Entry.{lists_fit, tables_of, seen_of, refused, call_seen, call_lists, call_words, start_seen, start_lists, start_words}
-use Rattle.model.specs.Refusals.{number_of}
+use Rattle.model.specs.Refusals.{reason_number}
 use Rattle.model.specs.declared.Lists.{Lists}
 use Rattle.model.specs.declared.Seen.{Seen}
 use Rattle.model.specs.declared.refusal.Refusal.{Refusal}
@@ -15,7 +15,7 @@ look_told l = seen_of (look (tables_of [] l))
 -- what is told of a call: what looking tells of the lists that it left, or the number of what refused it
 abbrev pub done_seen : Result Lists Refusal → Seen
 done_seen (Ok left) = look_told left
-done_seen (Err e) = refused (number_of e)
+done_seen (Err e) = refused (reason_number e)
 
 -- and the lists after it: those that it left, or those that the caller has
 abbrev pub done_lists : Lists → Result Lists Refusal → Lists

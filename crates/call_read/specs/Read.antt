@@ -4,7 +4,7 @@ use Rattle.std.specs.Borrow.{Bor, MutBor}
 use Rattle.model.specs.Limits.{row_width}
 use Rattle.model.specs.Sound.{is_sound}
 use Rattle.model.specs.Entry.{size_fits, lent_fits, tables_of, refused}
-use Rattle.model.specs.Refusals.{number_of}
+use Rattle.model.specs.Refusals.{reason_number}
 use Rattle.model.specs.declared.Lists.{Lists}
 use Rattle.model.specs.declared.Seen.{Seen}
 use Rattle.model.specs.declared.refusal.Refusal.{Refusal}
@@ -40,4 +40,4 @@ ReadTo u n m = (m ≡ n) ⊎ ((1 ≤ u) × (m ≡ row_width * u) × (row_width *
 -- what looking tells of lists that nothing refuses, or the number of what refused
 abbrev pub looked_seen : {A : Type 0} → Lists → Result A Refusal → Seen
 looked_seen l (Ok u) = look_told l
-looked_seen l (Err r) = refused (number_of r)
+looked_seen l (Err r) = refused (reason_number r)

@@ -9,11 +9,11 @@ ghost use Rattle.call.specs.Ladder.{Enough};
 ghost use Rattle.call.specs.Calls.{CallAs};
 ghost use Rattle.call.specs.Said.{call_of};
 
+use call::Said;
 use call::ladder::{
     MID_INDEX, MID_NOTES, MID_TABLE, SMALL_INDEX, SMALL_NOTES, SMALL_TABLE, Size, TINY_INDEX,
     TINY_NOTES, TINY_TABLE, WIDE_INDEX, WIDE_NOTES, WIDE_TABLE, size_for,
 };
-use call::Said;
 use model::Lists;
 use model::limits::{MOST_WORDS, ROW_WIDTH};
 use model::refusal::Refusal;
@@ -70,7 +70,12 @@ pub fn in_smallest(
 
 // With all rows saved, in the smallest room that is enough.
 #[inline(never)]
-pub fn with_all(words: &mut [u32], lists: Lists, symbols: &[u8], said: Said) -> Result<Lists, Refusal>
+pub fn with_all(
+    words: &mut [u32],
+    lists: Lists,
+    symbols: &[u8],
+    said: Said,
+) -> Result<Lists, Refusal>
     requires { (size_fits words.old ≡ true) × (lent_fits words.old lists ≡ true) }
     ensures { CallAs words.old lists (call_of said symbols.now) result words.new }
 {

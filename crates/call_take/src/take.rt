@@ -50,9 +50,7 @@ fn row_for(
             used: lists.used,
         }),
         Said::Offer(_) => {
-            let letters = lists.letters as usize;
-            let counts = lists.counts;
-            bank_listed::store(words, &counts[..letters], lists.used, index, symbols)
+            bank_listed::store(words, lists.alphabet(), lists.used, index, symbols)
         }
     }
 }

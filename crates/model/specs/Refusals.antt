@@ -8,29 +8,29 @@ use Rattle.model.specs.declared.refusal.Refusal.{Refusal}
 use Rattle.model.specs.declared.refusal.Refusal.TheVariants.{NoSymbols, TooManySymbols, UnknownSymbol, ChildrenMissing, NotOneTree, Mark, Alphabet, Size, ListRoom, NoList, Unsound, Phase, Agrees, Contradicts, RowsShort, StatesShort, RulesShort}
 
 -- the number of a reason
-abbrev pub number_of : Refusal → ℕ
-number_of NoSymbols = 11
-number_of TooManySymbols = 12
-number_of UnknownSymbol = 13
-number_of ChildrenMissing = 14
-number_of NotOneTree = 15
-number_of Mark = 16
-number_of Alphabet = 17
-number_of Size = 18
-number_of ListRoom = 20
-number_of NoList = 21
-number_of Unsound = 30
-number_of Phase = 31
-number_of Agrees = 32
-number_of Contradicts = 33
-number_of RowsShort = 34
-number_of StatesShort = 35
-number_of RulesShort = 36
+abbrev pub reason_number : Refusal → ℕ
+reason_number NoSymbols = 11
+reason_number TooManySymbols = 12
+reason_number UnknownSymbol = 13
+reason_number ChildrenMissing = 14
+reason_number NotOneTree = 15
+reason_number Mark = 16
+reason_number Alphabet = 17
+reason_number Size = 18
+reason_number ListRoom = 20
+reason_number NoList = 21
+reason_number Unsound = 30
+reason_number Phase = 31
+reason_number Agrees = 32
+reason_number Contradicts = 33
+reason_number RowsShort = 34
+reason_number StatesShort = 35
+reason_number RulesShort = 36
 
 -- the number of what refused, and 0 where nothing did
 abbrev pub refused_by : {A : Type 0} → Result A Refusal → ℕ
 refused_by (Ok x) = 0
-refused_by (Err r) = number_of r
+refused_by (Err r) = reason_number r
 
 -- WHAT IS TOLD of a list: its bytes, or the number of what refused it
 abbrev pub unlisted : (number : ℕ) → Emitted
@@ -38,9 +38,9 @@ unlisted n = record { number = n; size = 0 }
 
 abbrev pub emitted_as : Result ℕ Refusal → Emitted
 emitted_as (Ok n) = record { number = 0; size = n }
-emitted_as (Err r) = unlisted (number_of r)
+emitted_as (Err r) = unlisted (reason_number r)
 
 -- and of a verdict
 abbrev pub verdict_as : Result Verdict Refusal → Judged
 verdict_as (Ok v) = judged_as v
-verdict_as (Err r) = judged (number_of r) 0 0
+verdict_as (Err r) = judged (reason_number r) 0 0

@@ -1,6 +1,6 @@
 // Why a call is refused (§5.3): each reason under a name, and its number.
 ghost use Rattle.std.specs.Prelude.{◌≡◌};
-ghost use Rattle.model.specs.Refusals.{number_of};
+ghost use Rattle.model.specs.Refusals.{reason_number};
 
 #[derive(Clone, Copy, Debug, PartialEq, Eq)]
 pub enum Refusal {
@@ -24,7 +24,7 @@ pub enum Refusal {
 }
 
 impl From<Refusal> for u8 {
-    ghost from_gives = { λ r n. n ≡ number_of r };
+    ghost from_gives = { λ r n. n ≡ reason_number r };
 
     // The number by which the specification tells the reason.
     fn from(refusal: Refusal) -> u8 {

@@ -1,7 +1,7 @@
 // What a host is told by numbers: a verdict (§3.8), and a refusal in each of the structs that a call returns (§5.3).
 ghost use Rattle.std.specs.Prelude.{◌≡◌};
 ghost use Rattle.model.specs.Entry.{refused, judged, judged_as};
-ghost use Rattle.model.specs.Refusals.{number_of, unlisted};
+ghost use Rattle.model.specs.Refusals.{reason_number, unlisted};
 
 use crate::refusal::Refusal;
 use crate::{Emitted, Judged, Seen, Verdict};
@@ -32,7 +32,7 @@ impl From<Verdict> for Judged {
 }
 
 impl From<Refusal> for Judged {
-    ghost from_gives = { λ r j. j ≡ judged (number_of r) 0 0 };
+    ghost from_gives = { λ r j. j ≡ judged (reason_number r) 0 0 };
 
     // No verdict: the number and nothing else.
     fn from(refusal: Refusal) -> Judged {
@@ -45,7 +45,7 @@ impl From<Refusal> for Judged {
 }
 
 impl From<Refusal> for Emitted {
-    ghost from_gives = { λ r e. e ≡ unlisted (number_of r) };
+    ghost from_gives = { λ r e. e ≡ unlisted (reason_number r) };
 
     // No list: the number and nothing else.
     fn from(refusal: Refusal) -> Emitted {
@@ -57,7 +57,7 @@ impl From<Refusal> for Emitted {
 }
 
 impl From<Refusal> for Seen {
-    ghost from_gives = { λ r s. s ≡ refused (number_of r) };
+    ghost from_gives = { λ r s. s ≡ refused (reason_number r) };
 
     // A call refused: the number and nothing else.
     fn from(refusal: Refusal) -> Seen {

@@ -87,12 +87,7 @@ fn told(words: &[u32], script: Script, seen: Seen, out: &mut [u8]) -> Replied
 }
 
 // A call that was made: the reply tells of it, and the script goes on with the lists that it left.
-fn made(
-    words: &[u32],
-    script: Script,
-    done: Result<Lists, Refusal>,
-    out: &mut [u8],
-) -> Replied
+fn made(words: &[u32], script: Script, done: Result<Lists, Refusal>, out: &mut [u8]) -> Replied
     requires { let after = script_of script.stage script.letters (done_lists script.lists done) in
         DoneFit done
         × Tellable words.now (counts_of after) after.lists.used (done_seen done)

@@ -1,7 +1,7 @@
--- A start, line by line: refused by 18 or 17, or taken with row 0 written and the lists of a run that has learnt nothing.
+-- A start that 18 and 17 do not refuse: row 0 is written, and the lists are those of a run that has learnt nothing.
 -- The alphabet is spread by one number after the other; the row written is the hole's.
 use mathlib.Core.Path.{◌≡◌, refl, sym, ap, ◌∙◌}
-use mathlib.Core.Bool.{Bool, true, false, cond}
+use mathlib.Core.Bool.{Bool, true, cond}
 use mathlib.Core.List.{List, [], ◌∷◌}
 use Prim.Native.Nat.{ℕ, ◌≤◌}
 use native.Mathlib.Omega.{arith}
@@ -9,17 +9,14 @@ use borrow.Author.Tests.{leb-true}
 use lib.Dec.{leb, eqb}
 use lib.ListN.{length}
 use lib.Seq.{sets-eq}
-use Rattle.std.specs.Prelude.{Ok, Err}
+use Rattle.std.specs.Prelude.{Ok}
 use Rattle.model.specs.Limits.{hole_symbol, most_symbols, most_children}
 use Rattle.model.specs.Base.{all}
 use Rattle.model.specs.Terms.{unless}
 use Rattle.model.specs.Sound.{alphabet_fits}
 use Rattle.model.specs.Calls.{Outcome, refuses, leaves, look, started}
 use Rattle.model.specs.Entry.{rows_lent, size_fits, lists_fit, row_words, words_of, lists_of, zero_lists, seen_of, seen_by, words_by, zeroed_by, start_by}
-use Rattle.model.specs.Refusals.{number_of}
 use Rattle.model.specs.declared.Lists.{Lists}
-use Rattle.model.specs.declared.refusal.Refusal.{Refusal}
-use Rattle.model.specs.declared.refusal.Refusal.TheVariants.{Size, Alphabet}
 use Rattle.model.proofs.Laws.Lent.{lists_fit_true}
 use Rattle.model.proofs.Laws.Tests.{and_left, and_right}
 use Rattle.bank.specs.Rows.{with_row, Within}
@@ -47,21 +44,12 @@ pub hole_written : (ws ns : List ℕ) → Within ws 0 → with_row ws 0 hole_sym
 unfolding row_words
 hole_written ws ns h = sets-eq (hole_symbol ∷ 0 ∷ 0 ∷ 0 ∷ 0 ∷ 0 ∷ []) ws 0 h
 
--- LINE BY LINE
+-- TAKEN
 module _ (ws ns : List ℕ) (l : Lists) where
   abbrev lines : (size alphabet : Bool) → Outcome
   lines a b = cond (eqb (cond a (unless b 17) 18) 0) (leaves (started (rows_lent ws) ns)) (refuses (cond a (unless b 17) 18))
 
-  refused_by : (r : Refusal) → start_by ws ns ≡ refuses (number_of r) → StartAs ws ns l (Err r) ws
-  refused_by r e = record { seen = sym (ap seen_by e); lists = sym (ap (zeroed_by l) e); words = sym (ap (words_by ws) e); fit = tt }
-
-  pub start_size : size_fits ws ≡ false → StartAs ws ns l (Err Size) ws
-  start_size a = refused_by Size (ap (λ (b : Bool). lines b (alphabet_fits ns)) a)
-
   module _ (a : size_fits ws ≡ true) where
-    pub start_alphabet : alphabet_fits ns ≡ false → StartAs ws ns l (Err Alphabet) ws
-    start_alphabet b = refused_by Alphabet (λ i. lines (a i) (b i))
-
     pub start_taken : alphabet_fits ns ≡ true → (m : Lists) → lists_fit m ≡ true → look_told m ≡ seen_of (look (started (rows_lent ws) ns)) →
         m ≡ lists_of zero_lists (started (rows_lent ws) ns) → (us : List ℕ) → us ≡ words_of ws (started (rows_lent ws) ns) → StartAs ws ns l (Ok m) us
     start_taken b m t p q us w =

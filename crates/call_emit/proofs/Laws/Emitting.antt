@@ -36,17 +36,8 @@ module _ (ws : List ℕ) (l : Lists) (o : List ℕ) where
   abbrev fits : Bool
   fits = leb (length (emitted (sheet_of (tables_of ws l)))) (length o)
 
-  pub size_refused : size_fits ws ≡ false → call_by ws l (emits (length o)) ≡ refuses 18
-  size_refused e = ap (λ (a : Bool). told a (lists_fit l) sound line) e
-
   module _ (s : size_fits ws ≡ true) where
-    pub lists_refused : lists_fit l ≡ false → call_by ws l (emits (length o)) ≡ refuses 30
-    lists_refused e = λ i. told (s i) (e i) sound line
-
     module _ (f : lists_fit l ≡ true) where
-      pub unsound_refused : is_sound (tables_of ws l) ≡ false → call_by ws l (emits (length o)) ≡ refuses 30
-      unsound_refused e = λ i. told (s i) (f i) (e i) line
-
       module _ (g : is_sound (tables_of ws l) ≡ true) where
         module _ (e : l.asked ≡ 0) where
           idle : eqb l.asked 0 ≡ true
@@ -57,10 +48,6 @@ module _ (ws : List ℕ) (l : Lists) (o : List ℕ) where
 
           pub taken : leb (length (emitted (sheet_of (tables_of ws l)))) (length o) ≡ true → call_by ws l (emits (length o)) ≡ leaves (tables_of ws l)
           taken b = λ i. told (s i) (f i) (g i) (fault (idle i) (b i))
-
-  -- a refusal tells its number and leaves the output
-  pub refusal : (n : ℕ) → call_by ws l (emits (length o)) ≡ refuses n → (r : Emitted) → (r.number ≡ n) × (r.size ≡ 0) → (r ≡ emit_seen ws l o) × (o ≡ emit_out ws l o)
-  refusal n e r p = ((λ i. record { number = p.0 i; size = p.1 i }) ∙ sym (ap emitted_by e), sym (ap (out_by o) e))
 
   -- the list of the proposal, or 20
   abbrev seen : Bool → Emitted

@@ -2,7 +2,7 @@
 use Rattle.std.proofs.Common.{◌≡◌, rules, ap, sym, ◌∙◌, take}
 use Rattle.model.specs.Calls.{judges}
 use Rattle.model.specs.Entry.{judged_by, judge_seen}
-use Rattle.model.specs.Refusals.{number_of, verdict_as}
+use Rattle.model.specs.Refusals.{reason_number, verdict_as}
 use Rattle.model.proofs.Laws.Refused.{number_some, handed_on}
 use Rattle.call.proofs.Laws.LentFault.{size_lent, lists_lent, lent_refused}
 use Rattle.call_read.proofs.Laws.Used.{read_same, part_unjudged}
@@ -14,7 +14,7 @@ returns-in_err-lent_fault c =
     let l = c.args.lists in
     let xs = c.args.symbols.now in
     let r = c.in_err-lent_fault.field-0.0 in
-    ap verdict_as (handed_on _ r c.from_residual.ensures.1) ∙ sym (ap (judged_by xs) (lent_refused ws l (judges xs) (number_of r) c.in_err-lent_fault.ensures (number_some r)))
+    ap verdict_as (handed_on _ r c.from_residual.ensures.1) ∙ sym (ap (judged_by xs) (lent_refused ws l (judges xs) (reason_number r) c.in_err-lent_fault.ensures (number_some r)))
 
 pub returns-in-None : goal.returns-in-None
 returns-in-None c =

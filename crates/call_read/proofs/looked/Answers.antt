@@ -2,7 +2,7 @@
 use Rattle.std.proofs.Common.{ap, sym, ◌∙◌}
 use Rattle.model.specs.Calls.{looks}
 use Rattle.model.specs.Entry.{seen_by}
-use Rattle.model.specs.Refusals.{number_of}
+use Rattle.model.specs.Refusals.{reason_number}
 use Rattle.model.proofs.Laws.Refused.{number_some, handed_on}
 use Rattle.call.proofs.Laws.LentFault.{size_lent, lists_lent, lent_refused}
 use Rattle.call_read.specs.Read.{looked_seen}
@@ -32,4 +32,4 @@ returns-in_err-lent_fault c =
     let ws = c.args.words.now in
     let l = c.args.lists in
     let r = c.in_err-lent_fault.field-0.0 in
-    ap (looked_seen l) (handed_on _ r c.from_residual.ensures.1) ∙ sym (ap seen_by (lent_refused ws l looks (number_of r) c.in_err-lent_fault.ensures (number_some r)))
+    ap (looked_seen l) (handed_on _ r c.from_residual.ensures.1) ∙ sym (ap seen_by (lent_refused ws l looks (reason_number r) c.in_err-lent_fault.ensures (number_some r)))

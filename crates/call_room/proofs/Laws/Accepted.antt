@@ -11,7 +11,7 @@ use Rattle.model.specs.Terms.{unless}
 use Rattle.model.specs.Table.{Tables, tables}
 use Rattle.model.specs.Calls.{looks, accept, fault_of}
 use Rattle.model.specs.Entry.{Arrays, lists_fit, tables_of, refused, call_seen}
-use Rattle.model.specs.Refusals.{number_of}
+use Rattle.model.specs.Refusals.{reason_number}
 use Rattle.model.specs.declared.Lists.{Lists}
 use Rattle.model.specs.declared.refusal.Refusal.{Refusal}
 use Rattle.model.specs.declared.refusal.Refusal.TheVariants.{Phase}
@@ -37,8 +37,8 @@ module _ (ws : List ℕ) (l : Lists) where
   Y = tables X.store X.answers X.s X.t X.c X.hand X.asked true
 
   -- LOOKING REFUSED
-  pub accept_unlooked : (r : Refusal) → refused (number_of r) ≡ call_seen ws l looks → CallAs ws l accept (Err r) ws
-  accept_unlooked r e = refused_by ws l accept r (looked_refused ws l (number_of r) (number_some r) e accept)
+  pub accept_unlooked : (r : Refusal) → refused (reason_number r) ≡ call_seen ws l looks → CallAs ws l accept (Err r) ws
+  accept_unlooked r e = refused_by ws l accept r (looked_refused ws l (reason_number r) (number_some r) e accept)
 
   -- LOOKED: sound tables in lists that fit
   module _ (e : look_told l ≡ call_seen ws l looks) where

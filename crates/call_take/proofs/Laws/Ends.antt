@@ -23,7 +23,7 @@ use Rattle.run_lists.specs.Members.{counts_in}
 use Rattle.bank_fill.specs.Left.{Left}
 use Rattle.std.specs.Prelude.{Result, Ok, Err}
 use Rattle.model.specs.declared.refusal.Refusal.{Refusal}
-use Rattle.model.specs.Refusals.{number_of, refused_by}
+use Rattle.model.specs.Refusals.{reason_number, refused_by}
 use Rattle.step_settle.proofs.Laws.Ends.{Ends}
 
 number_some : (k : Shortage) → shortage_number k ≡ 0 → ⊥
@@ -33,7 +33,7 @@ number_some of_transitions e = omega arith
 number_some of_turns e = omega arith
 
 module _ {ws : List ℕ} {l : Lists} {r : Result Lists Refusal} {ws' : List ℕ} {why : Refusal} where
-  pub ends_short : (e : Ended) → Ends ws l e r ws' → r ≡ Err why → (end_of e ≡ refuses (number_of why)) × Kept ws l.used ws'
+  pub ends_short : (e : Ended) → Ends ws l e r ws' → r ≡ Err why → (end_of e ≡ refuses (reason_number why)) × Kept ws l.used ws'
   ends_short (short k) t n = (ap refuses (sym t.ended.0 ∙ ap refused_by n), t.ended.1)
   ends_short (asks y) t n = absurd (let e = t.ended.0 in let z : ◌≡◌ {A = ℕ} 0 1 = cc in omega arith)
   ends_short (proposes y) t n = absurd (let e = t.ended.0 in let z : ◌≡◌ {A = ℕ} 0 1 = cc in omega arith)

@@ -33,7 +33,7 @@ use Rattle.bank_fill.specs.Saved.{Saved, PutBack}
 use Rattle.std.specs.Prelude.{Result, Ok, Err, None, is_err}
 use Rattle.model.specs.declared.refusal.Refusal.{Refusal}
 use Rattle.model.specs.declared.refusal.Refusal.TheVariants.{RowsShort}
-use Rattle.model.specs.Refusals.{number_of}
+use Rattle.model.specs.Refusals.{reason_number}
 use Rattle.bank_fill.proofs.Laws.Coming.{Comes, Stage, stage, not_full, store_room}
 use Rattle.bank_fill.proofs.Laws.SavedWords.{undone}
 use Rattle.bank_fill.proofs.Laws.Left.{left_words, left_then, left_rows, left_answer, ready_answered}
@@ -282,7 +282,7 @@ module _ {ws : List ℕ} {l : Lists} {k : Said} {xs index table notes : List ℕ
       module _ {r : Result Lists Refusal} {vs : List ℕ} (d : Ends us' l' (advance (tables_of us' l')) r vs) where
         -- SHORT: the answer is set back, and the rows behind
         module _ {why : Refusal} (n : r ≡ Err why) where
-          ran_short : (end_of (advance (tables_of us' l')) ≡ refuses (number_of why)) × Kept us' l'.used vs
+          ran_short : (end_of (advance (tables_of us' l')) ≡ refuses (reason_number why)) × Kept us' l'.used vs
           ran_short = ends_short (advance (tables_of us' l')) d n
 
           kept_short : Kept (with_answer us j mark) v vs

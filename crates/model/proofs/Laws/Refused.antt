@@ -2,11 +2,11 @@
 use Rattle.std.proofs.Common.{◌≡◌, ◌≢◌, false, refl, ap, arith}
 use Rattle.std.specs.Prelude.{Result, Ok, Err, is_err}
 use Rattle.std.specs.Result.{IsErrAnd}
-use Rattle.model.specs.Refusals.{number_of, refused_by}
+use Rattle.model.specs.Refusals.{reason_number, refused_by}
 use Rattle.model.specs.declared.refusal.Refusal.{Refusal}
 use Rattle.model.specs.declared.refusal.Refusal.TheVariants.{NoSymbols}
 
-pub number_some : (r : Refusal) → number_of r ≢ 0
+pub number_some : (r : Refusal) → reason_number r ≢ 0
 number_some NoSymbols e = omega arith
 number_some r e = omega arith
 

@@ -10,10 +10,10 @@ loop-i-preserved c =
     let l = c.loop-i in
     let bs = c.args.input.now in
     elim c.if-input-i-eq10.branch [
-      then-input-i-eq10 w ↦
-        ap (λ (k : ℕ). whole_from (l.i + 1) k (drop (l.i + 1) bs)) w.end-is ∙ sym (whole_here bs l.i l.end (omega arith) w.if-input-i-eq10.true) ∙ l.invariant
+      | then-input-i-eq10 w ↦
+          ap (λ (k : ℕ). whole_from (l.i + 1) k (drop (l.i + 1) bs)) w.end-is ∙ sym (whole_here bs l.i l.end (omega arith) w.if-input-i-eq10.true) ∙ l.invariant
       | else-input-i-eq10 w ↦
-        ap (λ (k : ℕ). whole_from (l.i + 1) k (drop (l.i + 1) bs)) w.end-is ∙ sym (whole_later bs l.i l.end (omega arith) w.if-input-i-eq10.false) ∙ l.invariant
+          ap (λ (k : ℕ). whole_from (l.i + 1) k (drop (l.i + 1) bs)) w.end-is ∙ sym (whole_later bs l.i l.end (omega arith) w.if-input-i-eq10.false) ∙ l.invariant
     ]
 
 pub returns : goal.returns

@@ -17,7 +17,7 @@ use Rattle.model.specs.Store.{has_hole, frames_of, fill}
 use Rattle.model.specs.Table.{Tables, tables, row_of}
 use Rattle.model.specs.Steps.{Sought, seek, grow, proposed, settled_by, settled}
 use Rattle.model.specs.Facts.{IsContext, Fits}
-use Rattle.model.specs.Entry.{Arrays, tables_of, lists_of}
+use Rattle.model.specs.Entry.{Arrays, store_of, answers_in, tables_of, lists_of}
 use Rattle.model.specs.declared.Lists.{Lists}
 use Rattle.model.specs.declared.refusal.Refusal.{Refusal}
 use Rattle.model.specs.Refusals.{refused_by}
@@ -69,6 +69,11 @@ module _ {ws : List ℕ} {l : Lists} (run : Run ws l) where
 -- THE TABLE worked out up to its first gap
 pub record Worked (ws : List ℕ) (l : Lists) (tb : List ℕ) (rows : ℕ) : Type 0 where
   pub to_gap : ToGap (tables_of ws l).store (tables_of ws l).answers (rules_in l) (length (rules_in l)) (contexts_in l) (length (contexts_in l)) tb rows
+
+-- by the members as the methods of the lists give them
+pub worked : {ws : List ℕ} {l : Lists} {ns t c tb : List ℕ} {rows : ℕ} → ns ≡ counts_in l → t ≡ rules_in l → c ≡ contexts_in l →
+    ToGap (store_of ws ns l.used) (answers_in l.used ws) t (length t) c (length c) tb rows → Worked ws l tb rows
+worked e f h g = record { to_gap = rw (e, f, h) at g }
 
 module _ {ws : List ℕ} {l : Lists} (run : Run ws l) (a : Arrays l) {tb : List ℕ} {rows : ℕ} (w : Worked ws l tb rows) where
   told : length (contexts_in l) ≡ l.contexts

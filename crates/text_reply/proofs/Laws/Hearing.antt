@@ -6,7 +6,7 @@ use mathlib.Core.List.{List, [], ◌∷◌}
 use Prim.Native.Nat.{ℕ, ◌+◌, ◌-◌, ◌≤◌, min}
 use native.Mathlib.Omega.{arith}
 use lib.Dec.{leb, eqb}
-use borrow.Author.Tests.{leb-true, eq-eqb, ne_eqb}
+use borrow.Author.Tests.{leb-true, eq-eqb}
 use borrow.Author.Rules.{part_to_end}
 use lib.ListN.{length, get_or, take, drop, length-take, length-drop}
 use Rattle.model.specs.Limits.{most_symbols}
@@ -121,9 +121,6 @@ module _ (ws : List ℕ) (z : Script) (xs : List ℕ) (d : Result Lists Refusal)
       let l = stays d (λ n. absurd (omega (arith, e, n))) in
       let v = done_seen d in
       reply_by (sym (ap (told_if (script z.stage z.letters (done_lists z.lists d)) v) (eq-eqb v.number 32 (number d ∙ e)) ∙ ap (λ (m : Lists). told_if (script z.stage z.letters m) v true) l)) u
-
-  pub told_other : (refused_by d ≡ 32 → ⊥) → {y : Script} {r : Replied} {out out' : List ℕ} → ReplyAs (told ws y (done_seen d)) r ws out out' → ReplyAs (offer_told ws y xs (done_seen d)) r ws out out'
-  told_other n {y} u = let v = done_seen d in reply_by (sym (ap (told_if y v) (ne_eqb v.number 32 (λ e. n (sym (number d) ∙ e))))) u
 
 -- AN OFFER: its record is copied, and its symbols are read over the copy
 module _ (line old : List ℕ) {after : List ℕ} {len : ℕ} (put : after ≡ put_at 0 (take (length line - 2) (drop 2 line)) old) (is : len ≡ 0 + length (take (length line - 2) (drop 2 line)))

@@ -13,7 +13,7 @@ use Rattle.model.specs.Limits.{most_symbols}
 use Rattle.model.specs.Base.{over}
 use Rattle.model.specs.Calls.{refuses, leaves, started}
 use Rattle.model.specs.Entry.{rows_lent, store_of, seen_by, refused, words_by, start_number, start_seen, start_words, start_lists}
-use Rattle.model.specs.Refusals.{number_of}
+use Rattle.model.specs.Refusals.{reason_number}
 use Rattle.model.specs.declared.Lists.{Lists}
 use Rattle.model.specs.declared.Seen.{Seen}
 use Rattle.model.specs.declared.refusal.Refusal.{Refusal}
@@ -117,10 +117,10 @@ module _ (ws ks : List ℕ) (z : Script) (d : Result Lists Refusal) (ws' : List 
   number_told : (n : ℕ) → (done_seen d).number ≡ n → start_number ws ks ≡ n
   number_told n e = sym (ap (λ (v : Seen). v.number) s.seen ∙ start_number_law ws ks) ∙ e
 
-  pub opened_refused : (e : Refusal) → d ≡ Err e → {v : Seen} → v ≡ refused (number_of e) → (y : Script) → y ≡ script 2 z.letters z.lists → {r : Replied} {out out' : List ℕ} →
+  pub opened_refused : (e : Refusal) → d ≡ Err e → {v : Seen} → v ≡ refused (reason_number e) → (y : Script) → y ≡ script 2 z.letters z.lists → {r : Replied} {out out' : List ℕ} →
       ReplyAs (told ws' y v) r ws' out out' → ReplyAs (opened ws z a) r ws' out out'
   opened_refused e p w y q u =
-      let n = ne_eqb (start_number ws ks) 0 (λ k. number_some e (sym (number_told (number_of e) (ap (λ (o : Result Lists Refusal). (done_seen o).number) p)) ∙ k)) in
+      let n = ne_eqb (start_number ws ks) 0 (λ k. number_some e (sym (number_told (reason_number e) (ap (λ (o : Result Lists Refusal). (done_seen o).number) p)) ∙ k)) in
       let v = w ∙ sym (ap done_seen p) ∙ s.seen in
       reply_by ((λ i. told ((s.words ∙ start_refused ws ks n) i) (q i) (v i)) ∙ opened_by false n) u
 

@@ -17,7 +17,7 @@ store-requires c =
     let x = tables_of c.args.words.now c.args.lists in
     let free = ap (λ (k : Said). fault_of x (call_of k c.args.symbols.now)) (sym c.in-Offer.is) ∙ c.requires.2 in
     let p = record_fault_parses (counts_in c.args.lists) c.args.symbols.now (listed_well x c.args.symbols.now c.in-Offer.field-0 free) in
-    (c.requires.1, p.0, p.2)
+    rw c.alphabet.ensures (c.requires.1, p.0, p.2)
 
 pub returns-in-Answer : goal.returns-in-Answer
 returns-in-Answer c =

@@ -1,12 +1,11 @@
 -- `take::take`: rows that run out are put back; else the step goes on from the tables with the mark stored,
 -- and where it runs short the answer is set back and the rows put back.
-use mathlib.Core.Path.{◌≡◌, refl, ap, sym, ◌∙◌}
+use mathlib.Core.Path.{◌≡◌, ap, sym, ◌∙◌}
 use mathlib.Core.List.{List}
 use Prim.Native.Nat.{ℕ, ◌+◌}
 use native.Mathlib.Omega.{arith}
 use borrow.Author.Rules.{rules}
 use Rattle.std.specs.Prelude.{Option}
-use Rattle.model.specs.Calls.{fault_of}
 use Rattle.model.specs.Entry.{Arrays, tables_of}
 use Rattle.model.specs.declared.Lists.{Lists}
 use Rattle.bank.specs.Rows.{with_answer}
@@ -33,7 +32,7 @@ returns-in_default c =
     let a : Arrays c.args.lists = record { counts = search rules; s = search rules; t = search rules; c = search rules } in
     let r = c.requires in
     let t : Given c.args.words.now c.args.lists c.args.said c.args.symbols.now c.args.index.now c.args.table.now c.args.notes.now =
-        record { size = r.0; lent = r.1; sound = r.2; free = r.3; working = r.4; wide = r.6; arrays = a } in
+    record { size = r.0; lent = r.1; sound = r.2; free = r.3; working = r.4; wide = r.6; arrays = a } in
     full_called t (came c.args.words.now c.args.lists c.args.said c.args.symbols.now c.in_default.is c.row_for.ensures) c.save.ensures c.restore.ensures
 
 pub answer_of-old-requires : goal.answer_of-old-requires
@@ -41,7 +40,7 @@ answer_of-old-requires c =
     let a : Arrays c.args.lists = record { counts = search rules; s = search rules; t = search rules; c = search rules } in
     let r = c.requires in
     let t : Given c.args.words.now c.args.lists c.args.said c.args.symbols.now c.args.index.now c.args.table.now c.args.notes.now =
-        record { size = r.0; lent = r.1; sound = r.2; free = r.3; working = r.4; wide = r.6; arrays = a } in
+    record { size = r.0; lent = r.1; sound = r.2; free = r.3; working = r.4; wide = r.6; arrays = a } in
     row_within t (built_at t (came c.args.words.now c.args.lists c.args.said c.args.symbols.now c.in-Some.is c.row_for.ensures))
 
 pub set_answer-requires : goal.set_answer-requires
@@ -49,7 +48,7 @@ set_answer-requires c =
     let a : Arrays c.args.lists = record { counts = search rules; s = search rules; t = search rules; c = search rules } in
     let r = c.requires in
     let t : Given c.args.words.now c.args.lists c.args.said c.args.symbols.now c.args.index.now c.args.table.now c.args.notes.now =
-        record { size = r.0; lent = r.1; sound = r.2; free = r.3; working = r.4; wide = r.6; arrays = a } in
+    record { size = r.0; lent = r.1; sound = r.2; free = r.3; working = r.4; wide = r.6; arrays = a } in
     row_within t (built_at t (came c.args.words.now c.args.lists c.args.said c.args.symbols.now c.in-Some.is c.row_for.ensures))
 
 pub advance-stepped-requires : goal.advance-stepped-requires
@@ -57,7 +56,7 @@ advance-stepped-requires c =
     let a : Arrays c.args.lists = record { counts = search rules; s = search rules; t = search rules; c = search rules } in
     let r = c.requires in
     let t : Given c.args.words.now c.args.lists c.args.said c.args.symbols.now c.args.index.now c.args.table.now c.args.notes.now =
-        record { size = r.0; lent = r.1; sound = r.2; free = r.3; working = r.4; wide = r.6; arrays = a } in
+    record { size = r.0; lent = r.1; sound = r.2; free = r.3; working = r.4; wide = r.6; arrays = a } in
     let q = built_at t (came c.args.words.now c.args.lists c.args.said c.args.symbols.now c.in-Some.is c.row_for.ensures) in
     let m = marked c.row_for.new.words c.in-Some.field-0.row.0 c.args.said c.mark_of.ensures c.from.ensures c.set_answer.ensures.words in
     steps_on t q m c.given-begun.ensures
@@ -67,7 +66,7 @@ set_answer-requires-then-is_err c =
     let a : Arrays c.args.lists = record { counts = search rules; s = search rules; t = search rules; c = search rules } in
     let r = c.requires in
     let t : Given c.args.words.now c.args.lists c.args.said c.args.symbols.now c.args.index.now c.args.table.now c.args.notes.now =
-        record { size = r.0; lent = r.1; sound = r.2; free = r.3; working = r.4; wide = r.6; arrays = a } in
+    record { size = r.0; lent = r.1; sound = r.2; free = r.3; working = r.4; wide = r.6; arrays = a } in
     let q = built_at t (came c.args.words.now c.args.lists c.args.said c.args.symbols.now c.in-Some.is c.row_for.ensures) in
     let m = marked c.row_for.new.words c.in-Some.field-0.row.0 c.args.said c.mark_of.ensures c.from.ensures c.set_answer.ensures.words in
     let w = short_by c.advance-stepped.result (sym c.is_err.ensures.value ∙ c.if-is_err.true) in
@@ -78,14 +77,13 @@ restore-requires-then-is_err c =
     let a : Arrays c.args.lists = record { counts = search rules; s = search rules; t = search rules; c = search rules } in
     let r = c.requires in
     let t : Given c.args.words.now c.args.lists c.args.said c.args.symbols.now c.args.index.now c.args.table.now c.args.notes.now =
-        record { size = r.0; lent = r.1; sound = r.2; free = r.3; working = r.4; wide = r.6; arrays = a } in
+    record { size = r.0; lent = r.1; sound = r.2; free = r.3; working = r.4; wide = r.6; arrays = a } in
     let q = built_at t (came c.args.words.now c.args.lists c.args.said c.args.symbols.now c.in-Some.is c.row_for.ensures) in
     let m = marked c.row_for.new.words c.in-Some.field-0.row.0 c.args.said c.mark_of.ensures c.from.ensures c.set_answer.ensures.words in
     let g = c.given-begun.ensures in
     let w = short_by c.advance-stepped.result (sym c.is_err.ensures.value ∙ c.if-is_err.true) in
     let o = c.answer_of-old.ensures in
-    let b = c.set_answer-then-is_err.ensures.words in
-    (
+    let b = c.set_answer-then-is_err.ensures.words in (
       back_held t q m g (record { ended = c.advance-stepped.ensures }) w.1 o b,
       omega (arith, back_size t q m g (record { ended = c.advance-stepped.ensures }) w.1 o b, c.save.ensures.long),
     )
@@ -95,7 +93,7 @@ returns-then-is_err c =
     let a : Arrays c.args.lists = record { counts = search rules; s = search rules; t = search rules; c = search rules } in
     let r = c.requires in
     let t : Given c.args.words.now c.args.lists c.args.said c.args.symbols.now c.args.index.now c.args.table.now c.args.notes.now =
-        record { size = r.0; lent = r.1; sound = r.2; free = r.3; working = r.4; wide = r.6; arrays = a } in
+    record { size = r.0; lent = r.1; sound = r.2; free = r.3; working = r.4; wide = r.6; arrays = a } in
     let q = built_at t (came c.args.words.now c.args.lists c.args.said c.args.symbols.now c.in-Some.is c.row_for.ensures) in
     let m = marked c.row_for.new.words c.in-Some.field-0.row.0 c.args.said c.mark_of.ensures c.from.ensures c.set_answer.ensures.words in
     let g = c.given-begun.ensures in
@@ -107,7 +105,7 @@ returns-else-is_err c =
     let a : Arrays c.args.lists = record { counts = search rules; s = search rules; t = search rules; c = search rules } in
     let r = c.requires in
     let t : Given c.args.words.now c.args.lists c.args.said c.args.symbols.now c.args.index.now c.args.table.now c.args.notes.now =
-        record { size = r.0; lent = r.1; sound = r.2; free = r.3; working = r.4; wide = r.6; arrays = a } in
+    record { size = r.0; lent = r.1; sound = r.2; free = r.3; working = r.4; wide = r.6; arrays = a } in
     let q = built_at t (came c.args.words.now c.args.lists c.args.said c.args.symbols.now c.in-Some.is c.row_for.ensures) in
     let m = marked c.row_for.new.words c.in-Some.field-0.row.0 c.args.said c.mark_of.ensures c.from.ensures c.set_answer.ensures.words in
     let g = c.given-begun.ensures in

@@ -3,7 +3,7 @@
 use Rattle.std.proofs.Common.{sym, ◌∙◌, rules, arith}
 use Rattle.model.specs.Entry.{Arrays}
 use Rattle.step_settle.proofs.Laws.Lists.{noted}
-use Rattle.step_settle.proofs.Laws.Settled.{answered, used_rules, are_contexts, contexts_few_law, known, states_among, Worked, closed_sized, closed_ends}
+use Rattle.step_settle.proofs.Laws.Settled.{answered, used_rules, are_contexts, contexts_few_law, known, states_among, Worked, worked, closed_sized, closed_ends}
 use Rattle.step_settle.proofs.Laws.Settled.{rule_within, context_within, context_used, context_holed, rule_used, open_ends}
 use Rattle.step_settle.proofs.settle.settled.Goals as goal
 
@@ -18,28 +18,28 @@ pub proposed-requires : goal.proposed-requires
 proposed-requires c =
     let a : Arrays c.args.lists = record { counts = search rules; s = search rules; t = search rules; c = search rules } in
     let run = c.requires.1 in
-    (run.fit, states_among run, closed_sized run a (record { to_gap = rw (c.new-bank.ensures, c.alphabet-counts.ensures, c.rule_rows-t.ensures, c.context_rows-c.ensures) at c.observe_to_gap-n.ensures }) (sym c.first_unknown.ensures ∙ c.in_default.is))
+    (run.fit, states_among run, closed_sized run a (worked c.alphabet-counts.ensures c.rule_rows-t.ensures c.context_rows-c.ensures (rw c.new-bank.ensures at c.observe_to_gap-n.ensures)) (sym c.first_unknown.ensures ∙ c.in_default.is))
 
 pub returns-in_default : goal.returns-in_default
 returns-in_default c =
     let a : Arrays c.args.lists = record { counts = search rules; s = search rules; t = search rules; c = search rules } in
-    (closed_ends c.requires.1 a (record { to_gap = rw (c.new-bank.ensures, c.alphabet-counts.ensures, c.rule_rows-t.ensures, c.context_rows-c.ensures) at c.observe_to_gap-n.ensures }) (sym c.first_unknown.ensures ∙ c.in_default.is) c.requires.4 c.requires.5 c.requires.6 c.proposed.result c.proposed.ensures).ended
+    (closed_ends c.requires.1 a (worked c.alphabet-counts.ensures c.rule_rows-t.ensures c.context_rows-c.ensures (rw c.new-bank.ensures at c.observe_to_gap-n.ensures)) (sym c.first_unknown.ensures ∙ c.in_default.is) c.requires.4 c.requires.5 c.requires.6 c.proposed.result c.proposed.ensures).ended
 
 pub bounds-c-gap : goal.bounds-c-gap
 bounds-c-gap c =
     let a : Arrays c.args.lists = record { counts = search rules; s = search rules; t = search rules; c = search rules } in
-    rw c.context_rows-c.ensures (context_within c.requires.1 a (record { to_gap = rw (c.new-bank.ensures, c.alphabet-counts.ensures, c.rule_rows-t.ensures, c.context_rows-c.ensures) at c.observe_to_gap-n.ensures }) (sym c.first_unknown.ensures ∙ c.in-Some.is))
+    rw c.context_rows-c.ensures (context_within c.requires.1 a (worked c.alphabet-counts.ensures c.rule_rows-t.ensures c.context_rows-c.ensures (rw c.new-bank.ensures at c.observe_to_gap-n.ensures)) (sym c.first_unknown.ensures ∙ c.in-Some.is))
 
 pub bounds-t-gap : goal.bounds-t-gap
 bounds-t-gap c =
     let a : Arrays c.args.lists = record { counts = search rules; s = search rules; t = search rules; c = search rules } in
-    rw c.rule_rows-t.ensures (rule_within c.requires.1 a (record { to_gap = rw (c.new-bank.ensures, c.alphabet-counts.ensures, c.rule_rows-t.ensures, c.context_rows-c.ensures) at c.observe_to_gap-n.ensures }) (sym c.first_unknown.ensures ∙ c.in-Some.is))
+    rw c.rule_rows-t.ensures (rule_within c.requires.1 a (worked c.alphabet-counts.ensures c.rule_rows-t.ensures c.context_rows-c.ensures (rw c.new-bank.ensures at c.observe_to_gap-n.ensures)) (sym c.first_unknown.ensures ∙ c.in-Some.is))
 
 pub fill_context-added-requires : goal.fill_context-added-requires
 fill_context-added-requires c =
     let a : Arrays c.args.lists = record { counts = search rules; s = search rules; t = search rules; c = search rules } in
     let run = c.requires.1 in
-    let w : Worked c.args.words.now c.args.lists c.observe_to_gap-n.new.table c.observe_to_gap-n.result = record { to_gap = rw (c.new-bank.ensures, c.alphabet-counts.ensures, c.rule_rows-t.ensures, c.context_rows-c.ensures) at c.observe_to_gap-n.ensures } in
+    let w : Worked c.args.words.now c.args.lists c.observe_to_gap-n.new.table c.observe_to_gap-n.result = worked c.alphabet-counts.ensures c.rule_rows-t.ensures c.context_rows-c.ensures (rw c.new-bank.ensures at c.observe_to_gap-n.ensures) in
     let is = sym c.first_unknown.ensures ∙ c.in-Some.is in
     let room = noted c.requires.0 c.args.notes.now c.requires.2 in
     rw (c.alphabet-counts.ensures, c.rule_rows-t.ensures, c.context_rows-c.ensures)
@@ -49,4 +49,4 @@ pub returns : goal.returns
 returns c =
     let a : Arrays c.args.lists = record { counts = search rules; s = search rules; t = search rules; c = search rules } in
     let is = sym c.first_unknown.ensures ∙ c.in-Some.is in
-    (open_ends c.requires.1 a (record { to_gap = rw (c.new-bank.ensures, c.alphabet-counts.ensures, c.rule_rows-t.ensures, c.context_rows-c.ensures) at c.observe_to_gap-n.ensures }) is c.requires.4 c.requires.5 c.requires.6 (record { came = rw (c.alphabet-counts.ensures, c.rule_rows-t.ensures, c.context_rows-c.ensures) at c.fill_context-added.ensures }) c.opened.result c.opened.ensures).ended
+    (open_ends c.requires.1 a (worked c.alphabet-counts.ensures c.rule_rows-t.ensures c.context_rows-c.ensures (rw c.new-bank.ensures at c.observe_to_gap-n.ensures)) is c.requires.4 c.requires.5 c.requires.6 (record { came = rw (c.alphabet-counts.ensures, c.rule_rows-t.ensures, c.context_rows-c.ensures) at c.fill_context-added.ensures }) c.opened.result c.opened.ensures).ended
