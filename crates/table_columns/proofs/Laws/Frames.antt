@@ -7,17 +7,19 @@ use Prim.Native.Nat.{ℕ, ◌-◌, ◌<◌}
 use native.Mathlib.Omega.{arith}
 use lib.Dec.{ltb, eqb}
 use borrow.Author.Tests.{ltb-true, eq-eqb, ne_eqb}
-use lib.ListN.{get_or}
+use lib.ListN.{get_or, set}
 use Rattle.model.specs.Base.{Below, none_below, one_below}
 use Rattle.model.specs.Store.{Store, split_at, Spot, Frame, down_by, down_from, used, symbol_at, kids_at, has_hole, is_context, filled_kids, find_row, next_row, filled_row, frames_of}
 use Rattle.model.specs.Facts.{Good}
 use Rattle.model.specs.Entry.{store_of}
 use Rattle.model.proofs.Laws.Tests.{both_true, or_right}
 use Rattle.model.proofs.Laws.Fold.{earlier}
-use Rattle.bank.specs.Index.{hole_of}
+use Rattle.bank.specs.Rows.{symbol_in, places_in}
+use Rattle.bank.specs.Index.{find_in, hole_of}
 use Rattle.bank.specs.Bank.{Bank, frame_at}
 use Rattle.bank.proofs.Laws.Words.{used_of}
 use Rattle.bank.proofs.Laws.Down.{StepsTo, step_some}
+use Rattle.bank.proofs.Laws.Exchanged.{child_set}
 use Rattle.bank_t1.proofs.Laws.T1.{hole_ready}
 use Rattle.table_columns.specs.Columns.{hole_kid}
 
@@ -65,6 +67,12 @@ module _ {ws ns : List ℕ} {n : ℕ} {ix : List ℕ} (r : Bank ws ns n ix) (i :
   -- THE ROW with another one at the hole
   pub next_none : (j : ℕ) → j ≡ 0 → next_row (store_of ws ns n) (frame_at (store_of ws ns n) i (get_or ix (hole_of i) 0 - 1)) j ≡ 0
   next_none j e = ap (λ (b : Bool). cond b 0 (find_row x (symbol_at x i) (filled_kids (frame_at x i place) j))) (eq-eqb j 0 e)
+
+  -- looked for by its places
+  pub next_row_law : (j : ℕ) → j < n → (j ≡ 0 → ⊥) → (a : ℕ) (ps : List ℕ) → a ≡ symbol_in ws i → ps ≡ places_in ws i →
+      (f : ℕ) → f ≡ find_in ws n a (set ps (get_or ix (hole_of i) 0 - 1) j) →
+      (f ≡ next_row (store_of ws ns n) (frame_at (store_of ws ns n) i (get_or ix (hole_of i) 0 - 1)) j) × (f < n)
+  next_row_law j v some a ps p s f e = child_set r i l (omega (arith, step.before)) place step.within a ps p s j some f e
 
 -- A CONTEXT is used and has a hole; row 0 is one, and the others are marked
 module _ (x : Store) (i : ℕ) (c : is_context x i ≡ true) where
