@@ -17,7 +17,7 @@ use run_lists::{change, fit};
 
 pub mod ladder; // ladder.rt: how long the arrays are that a call works in
 
-// What the archive said: an answer to the open question, or its mark for the record offered.
+// What the archive said: an answer to the open question, or its mark for the record offered. It is data: a host may give any number as mark (16).
 #[derive(Clone, Copy)]
 pub enum Said {
     Answer(u8),

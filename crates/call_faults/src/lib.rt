@@ -68,7 +68,7 @@ fn verdict_is(
     is_yes(verdict) == (mark == 1)
 }
 
-// Whether the mark contradicts the stored answer, in six cases (§5.2).
+// Whether the mark contradicts the stored answer: a table of six cases, for §5.2 and `contradicts` of model have them so.
 fn contradicts(stored: u32, mark: u8) -> bool
     ensures { result ≡ contradicts stored mark }
 {

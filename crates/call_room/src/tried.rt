@@ -32,7 +32,7 @@ fn is_short(used: u16, rules: u16, length: usize) -> bool
     length <= SHORT && ladder::is_small(used as usize + SPARE_ROWS, rules)
 }
 
-// Whether a call ran out of rows.
+// Whether a call ran out of rows. A function of its own: of `matches!` in place a proof learns nothing about the other reasons.
 fn lacks_rows(done: &Result<Lists, Refusal>) -> bool
     ensures { result ≡ eqb (refused_by done.now) 34 }
 {

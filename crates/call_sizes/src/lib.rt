@@ -41,7 +41,7 @@ pub fn in_room<const INDEX: usize, const TABLE: usize, const NOTES: usize>(
     )
 }
 
-// In the smallest room that is enough.
+// In the smallest room that is enough. The arms stand here and in call_read: each makes arrays of another size for another step.
 pub fn in_smallest(
     words: &mut [u32],
     lists: Lists,

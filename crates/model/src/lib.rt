@@ -1,5 +1,5 @@
 // model: what a host lends and what a call returns; the definitions of the calls, the laws about them and the promises.
-// The only functions are conversions: specs/ has the definitions, proofs/ the laws and the proofs of the promises.
+// Its functions convert numbers and give slices of the lists: specs/ has the definitions, proofs/ the laws and the proofs of the promises.
 #![tactic(auto)]
 
 use limits::{MOST_CONTEXTS, MOST_RULES, MOST_STATES, MOST_SYMBOLS};

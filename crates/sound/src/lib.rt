@@ -109,7 +109,7 @@ fn hand_fits(bank: &Terms<'_>, notes: &mut [u16], hand: Row, missing: bool) -> b
     bank.answer_of(hand) == if accepts { 1 } else { 2 }
 }
 
-// How a run stands: the record in hand, the open question, whether it is accepted.
+// How a run stands: the record in hand, the open question, whether it is accepted, by the numbers of the lists that C lends (0 is none).
 #[derive(Clone, Copy)]
 struct Standing {
     hand: Row,

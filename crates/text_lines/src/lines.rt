@@ -4,7 +4,7 @@ ghost use Rattle.text_lines.specs.Asks.{asked_of};
 
 use text::MOST_INPUT;
 
-// A call that needs no record, an offer with its mark, or none of these.
+// A call that needs no record, an offer with its mark, or none of these. A mark is the number that the calls take (§3.4, §3.5).
 #[derive(Clone, Copy)]
 pub enum Asked {
     Nothing,

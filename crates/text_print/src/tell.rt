@@ -35,7 +35,7 @@ pub fn tell_agreed(judged: Judged, out: &mut [u8]) -> usize
     line.end()
 }
 
-// What was seen of a call: a refusal, an acceptance, a question or a proposal.
+// What was seen of a call: a refusal, an acceptance, a question or a proposal, by the numbers that C reads (`Seen`).
 pub fn tell(
     words: &[u32],
     counts: &[u8],

@@ -111,7 +111,7 @@ fn agreed(words: &[u32], script: Script, symbols: &[u8], out: &mut [u8]) -> Repl
     Replied { size, script }
 }
 
-// Whether an offer is refused for what the proposed automaton says already.
+// Whether an offer is refused for what the proposed automaton says already. A function of its own, as `lacks_rows` in call_room.
 fn agrees(done: &Result<Lists, Refusal>) -> bool
     ensures { result ≡ eqb (refused_by done.now) 32 }
 {
