@@ -60,12 +60,16 @@ fn key(symbol: u32, places: [u32; 4]) -> u64
     places[0] as u64 % BASE + BASE * lower
 }
 
-// Whether a row has that symbol and those places.
+// Whether a row has that symbol and those places. Place by place: `==` of the arrays reads all four of both, whichever differs first.
 pub fn row_is(words: &[u32], row: Row, symbol: u32, places: [u32; 4]) -> bool
     requires { Within words.now row.0 }
     ensures { result ≡ is_node symbol places (node_in words.now row.0) }
 {
-    rows::symbol_of(words, row) == symbol && rows::places_of(words, row) == places
+    rows::symbol_of(words, row) == symbol
+        && rows::kid_of(words, row, 0) == places[0]
+        && rows::kid_of(words, row, 1) == places[1]
+        && rows::kid_of(words, row, 2) == places[2]
+        && rows::kid_of(words, row, 3) == places[3]
 }
 
 // The slot of a symbol and four places: it holds the row that has them, or 0 where none has and one may be entered. The index is numbers
@@ -132,12 +136,18 @@ pub fn row_at(index: &[u16], slot: usize) -> Row
 }
 
 // The row with that symbol and those places among the used ones; row 0 for none, as `find_in` has it: representatives and columns
-// have an entry for it, which table_verdict and table_columns read.
+// have an entry for it, which table_verdict and table_columns read. Not by `seek`: `below` has two callers, so that it is not copied into
+// `seek`, and `seek` and this stay short enough to be copied to where they are called.
 pub fn find(words: &[u32], used: u16, index: &[u16], symbol: u32, places: [u32; 4]) -> Row
     requires { Finding words.now used index.now }
     ensures { result.0 ≡ find_in words.now used symbol places }
 {
-    row_at(index, seek(words, used, index, symbol, places))
+    let size = index.len() / INDEX_WIDTH;
+    let at = index[LINKS * size + bucket(2 * size, symbol, places)];
+    if at == 0 || row_is(words, Row(at), symbol, places) {
+        return Row(at);
+    }
+    row_at(index, below(words, used, index, symbol, places, Row(at)))
 }
 
 // Puts a row into its slot, with the mark of its hole and nothing below it. A mark is a number in that slice: the place plus one, or 0.

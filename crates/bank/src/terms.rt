@@ -102,7 +102,8 @@ impl<'a> Terms<'a> {
         rows::places_of(self.words, row)
     }
 
-    // The row with that symbol and those places among the used ones; row 0 for none.
+    // The row with that symbol and those places among the used ones; row 0 for none. Copied to where it is called, as `index::find` is.
+    #[inline(always)]
     pub fn find(&self, symbol: u32, places: [u32; 4]) -> Row
         ensures { result.0 ≡ find_in self.now.words self.now.used symbol places }
     {

@@ -13,8 +13,9 @@ pub fn save(words: &[u32], used: u16, saved: &mut [u32])
     ensures { Saved words.now used saved.new }
 {
     let first = min(ROW_WIDTH * used as usize, words.len());
-    let behind = &words[first..];
-    saved[..behind.len()].copy_from_slice(behind);
+    for (i, word) in words[first..].iter().enumerate() {
+        saved[i] = *word;
+    }
 }
 
 // Puts them back.
@@ -24,6 +25,7 @@ pub fn restore(words: &mut [u32], used: u16, saved: &[u32])
     ensures { PutBack words.old used saved.now words.new }
 {
     let start = ROW_WIDTH * used as usize;
-    let behind = &mut words[start..];
-    behind.copy_from_slice(&saved[..behind.len()]);
+    for i in start..words.len() {
+        words[i] = saved[i - start];
+    }
 }

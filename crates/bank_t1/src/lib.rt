@@ -31,10 +31,13 @@ fn unused_zero(words: &[u32], row: Row, count: u8) -> bool
     requires { Within words.now row.0 }
     ensures { result ≡ unused_zero words.now row.0 count }
 {
-    rows::places_of(words, row)
-        .iter()
-        .skip(count as usize)
-        .all(|kid| *kid == 0)
+    // Place by place from the count on: through an array all four would be read, of every row.
+    for k in usize::from(count)..4 {
+        if rows::kid_of(words, row, k) != 0 {
+            return false;
+        }
+    }
+    true
 }
 
 // Whether a row has a hole: it is row 0, or a child of it has one.
@@ -113,7 +116,9 @@ fn clear(index: &mut [u16])
     index[2] = 0;
 }
 
-// The rows 1 to used - 1, each held against T1 and then entered into the index.
+// The rows 1 to used - 1, each held against T1 and then entered into the index. Out of line: inside the soundness test, which calls it once,
+// what it reads for every row would not stay in registers.
+#[inline(never)]
 fn rows_pass(words: &[u32], counts: &[u8], used: u16, index: &mut [u16]) -> bool
     requires { Begun words.now counts.now used × Roomy words.now index.old }
     ensures value { result ≡ rows_pass words.now counts.now used }

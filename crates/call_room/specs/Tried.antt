@@ -1,5 +1,5 @@
 -- What a call tried with part of the rows returns and leaves.
-use Rattle.std.specs.Prelude.{◌≡◌, List, ℕ, ◌≤◌, length, Option, Some, None, Result}
+use Rattle.std.specs.Prelude.{◌≡◌, List, ℕ, ◌<◌, ◌≤◌, length, Option, Some, None, Result}
 use Rattle.model.specs.Calls.{Call}
 use Rattle.model.specs.Refusals.{refused_by}
 use Rattle.model.specs.declared.Lists.{Lists}
@@ -16,7 +16,7 @@ pub record FirstAs (ws : List ℕ) (n : ℕ) (l : Lists) (k : Call) (r : Result 
   pub done : (refused_by r ≡ 34 → ⊥) → CallAs ws l k r after
   pub all : length ws ≤ n → CallAs ws l k r after
 
--- nothing, with the words as they were; or the call on all of them
-abbrev pub TriedAs : (ws : List ℕ) → Lists → Call → Option (Result Lists Refusal) → (after : List ℕ) → Type 0
-TriedAs ws l k None after = after ≡ ws
-TriedAs ws l k (Some r) after = CallAs ws l k r after
+-- a call tried on the first n words: nothing, with the words as they were, only where more are lent; or the call on all of them
+abbrev pub TriedAs : (ws : List ℕ) → (n : ℕ) → Lists → Call → Option (Result Lists Refusal) → (after : List ℕ) → Type 0
+TriedAs ws n l k None after = (after ≡ ws) × (n < length ws)
+TriedAs ws n l k (Some r) after = CallAs ws l k r after

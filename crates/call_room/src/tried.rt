@@ -1,6 +1,6 @@
 // A call in as much room as its tables want: arrays of one of four sizes, and few rows past the used ones, which are saved.
 // Where these rows are too few the call is refused with 34 and leaves all as it was; then it is made with more, and at last with all.
-ghost use Rattle.std.specs.Prelude.{◌≡◌, true, ◌<◌, ◌+◌, ◌≤◌, eqb, length};
+ghost use Rattle.std.specs.Prelude.{◌≡◌, true, ◌<◌, ◌+◌, ◌*◌, ◌/◌, ◌≤◌, eqb, length};
 ghost use Rattle.call.specs.Ladder.{small_rows, small_rules};
 ghost use Rattle.model.specs.Limits.{most_words, row_width};
 ghost use Rattle.model.specs.Entry.{size_fits, lent_fits};
@@ -39,7 +39,7 @@ fn lacks_rows(done: &Result<Lists, Refusal>) -> bool
     matches!(done, Err(Refusal::RowsShort))
 }
 
-// Tried with as many rows past the used ones as can be saved; nothing, and the words as they were, where they are not enough and
+// Tried with as many rows past the used ones as can be saved; nothing, and the words as they were, only where they are not enough and
 // more are lent.
 fn first(
     words: &mut [u32],
@@ -52,7 +52,8 @@ fn first(
         × (lent_fits words.old lists ≡ true)
         × (row_width ≤ length saved.old)
         × (length saved.old ≤ most_words) }
-    ensures { TriedAs words.old lists (call_of said symbols.now) result words.new }
+    ensures { let tried = row_width * (lists.used + length saved.old / row_width) in
+        TriedAs words.old tried lists (call_of said symbols.now) result words.new }
 {
     let spare = saved.len() / ROW_WIDTH;
     let n = words.len().min(ROW_WIDTH * (lists.used as usize + spare));

@@ -92,7 +92,7 @@ module _ (ns us : List ℕ) where
   unfolding flat_rules_in rule_blocks
   blocks_none l = let e : length us / rule_width ≡ 0 = omega arith in ap (λ (n : ℕ). rule_blocks (flat_rules_in n ns us)) e
 
-  flat_more : rule_width ≤ length us → flat_rules ns us ≡ flat_rule ns us ∷ flat_rules ns (drop rule_width us)
+  pub flat_more : rule_width ≤ length us → flat_rules ns us ≡ flat_rule ns us ∷ flat_rules ns (drop rule_width us)
   unfolding flat_rules_in
   flat_more l =
       let d = length-drop rule_width us in

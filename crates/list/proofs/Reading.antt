@@ -60,7 +60,7 @@ module _ {ns fs bs at : List ℕ} {n : ℕ} (r : Reading ns fs bs at n) where
         }
 
 -- WHAT IS BEHIND the rules
-behind_some : (ns fs : List ℕ) (rs : List Rule) (bs : List ℕ) → 0 < length bs → behind_rules ns fs rs bs ≡ broken
+pub behind_some : (ns fs : List ℕ) (rs : List Rule) (bs : List ℕ) → 0 < length bs → behind_rules ns fs rs bs ≡ broken
 behind_some ns fs rs bs l = rw (ne_eqb (length bs) 0 (λ e. omega arith))
 
 -- after as many rules as a list may have: nothing, or what was to be read is no list

@@ -27,7 +27,8 @@ fn size_at(bytes: &[u8]) -> usize
 pub(crate) fn is_block(bytes: &[u8], kind: u16) -> bool
     ensures { result ≡ is_block kind bytes.now }
 {
-    6 + size_at(bytes) <= bytes.len()
+    6 <= bytes.len()
+        && 6 + size_at(bytes) <= bytes.len()
         && u16::from_le_bytes([byte_at(bytes, 4), byte_at(bytes, 5)]) == kind
 }
 

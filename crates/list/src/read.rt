@@ -49,21 +49,22 @@ pub fn states_in(body: &[u8]) -> &[u8]
     }
 }
 
-// One number for the left side of the rule in a body: among rules that fit, no two left sides have the same.
-fn key_of(body: &[u8]) -> usize
+// One number for the left side of the rule in a body: among rules that fit, no two left sides have the same. In four bytes: `contains`
+// compares many such numbers at a time, and those of eight one by one.
+fn key_of(body: &[u8]) -> u32
     ensures { result ≡ key_of (rule_in body.now) }
 {
     // Place by place: the key of any body is made of its first four states (`key_of`).
     let states = states_in(body);
-    byte_at(body, 0) as usize
-        + 64 * byte_at(states, 0) as usize
-        + 2048 * byte_at(states, 1) as usize
-        + 65536 * byte_at(states, 2) as usize
-        + 2097152 * byte_at(states, 3) as usize
+    u32::from(byte_at(body, 0))
+        + 64 * u32::from(byte_at(states, 0))
+        + 2048 * u32::from(byte_at(states, 1))
+        + 65536 * u32::from(byte_at(states, 2))
+        + 2097152 * u32::from(byte_at(states, 3))
 }
 
 // Whether the rule at the head fits, with a left side whose number none of those before it has.
-fn is_rule(counts: &[u8], states: usize, keys: &[usize], at: &[u8]) -> bool
+fn is_rule(counts: &[u8], states: usize, keys: &[u32], at: &[u8]) -> bool
     ensures { result ≡ is_new counts.now states keys.now at.now }
 {
     let found = body(at);
@@ -88,7 +89,7 @@ fn read_rules(counts: &[u8], finals: &[u8], bytes: &[u8]) -> Option<u16>
     ensures { counted result ≡ loaded_by (read_rules counts.now finals.now bytes.now) }
 {
     // An array with a count beside it, for there is no heap.
-    let mut keys = [0usize; MOST_RULES];
+    let mut keys = [0u32; MOST_RULES];
     let mut at = bytes;
     for count in 0..MOST_RULES {
         if !is_block(at, 3) {

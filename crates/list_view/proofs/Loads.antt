@@ -52,7 +52,7 @@ module _ (bs : List ℕ) (n : ℕ) (l : counted (Some n) ≡ load_seen bs) where
   list : read_list bs ≡ loaded (sheet_in bs)
   list = (is_list bs n l).0
 
-  size_is : n ≡ length (automaton_in bs).rules
+  pub size_is : n ≡ length (automaton_in bs).rules
   size_is = (is_list bs n l).1
 
   read : List-read bs (automaton_in bs)

@@ -31,10 +31,14 @@ fn first_outside(bank: &Terms<'_>, reps: &[u16], row: Row) -> Option<usize>
 {
     let _ = bank.used(); // the answers read its clause `ready`
     let count = bank.count_of(row) as usize;
-    let places = bank.places_of(row);
-    places[..count]
-        .iter()
-        .position(|kid| !is_rep(reps, Row(*kid as u16)))
+    // Child by child: a slice of the four places would be read whole, and most rows have one child or two.
+    for k in 0..count {
+        let kid = bank.kid_of(row, k) as u16;
+        if !is_rep(reps, Row(kid)) {
+            return Some(k);
+        }
+    }
+    None
 }
 
 // The place down of a row, if it has one; the row at its spot; and the row after the exchange.

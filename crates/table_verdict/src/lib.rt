@@ -50,6 +50,8 @@ pub fn find_reps(
 
 // The representative of a symbol over children by their representatives; 0 where the rule is missing.
 // 0 is none here and in row_rep, as in the notes that are read and written (RepsBy, rep_row): an Option would be made of 0 and turned back.
+// Copied to where it is called, as the lookup in it is.
+#[inline(always)]
 #[tactic(auto, using(bank::proofs::Laws::Children::find_used))]
 fn target_of(bank: &Terms<'_>, reps: &[u16], symbol: u32, places: [u32; 4]) -> Row
     requires { bank.now.used ≤ length reps.now }

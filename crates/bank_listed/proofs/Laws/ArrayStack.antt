@@ -27,21 +27,21 @@ module _ (st : List ℕ) (height count : ℕ) (high : height ≤ length st) (eno
   pub stack_top : top count (stack_of st height) ≡ take count (drop (height - count) st)
   stack_top = ap (top count) parts ∙ top_onto (take count (drop (height - count) st)) (stack_of st (height - count)) count long
 
-  stack_under : drop count (stack_of st height) ≡ stack_of st (height - count)
+  pub stack_under : drop count (stack_of st height) ≡ stack_of st (height - count)
   stack_under = ap (drop count) parts ∙ drop_onto (take count (drop (height - count) st)) (stack_of st (height - count)) count long
 
-  stack_push : (row : ℕ) → height - count < length st → stack_of (set st (height - count) row) (height - count + 1) ≡ row ∷ drop count (stack_of st height)
+  pub stack_push : (row : ℕ) → height - count < length st → stack_of (set st (height - count) row) (height - count + 1) ≡ row ∷ drop count (stack_of st height)
   unfolding backwards
   stack_push i h =
       ap (λ (n : ℕ). stack_of (set st (height - count) i) n) (add-one (height - count)) ∙
       ap (λ (l : List ℕ). backwards l []) (take-suc-set st (height - count) i h) ∙ backwards_append (take (height - count) st) (i ∷ []) [] ∙
       ap (λ (l : List ℕ). i ∷ l) (sym stack_under)
 
-stack_length : (st : List ℕ) (height : ℕ) → height ≤ length st → length (stack_of st height) ≡ height
+pub stack_length : (st : List ℕ) (height : ℕ) → height ≤ length st → length (stack_of st height) ≡ height
 stack_length st height h = let r = length_backwards (take height st) [] in let l = length-take-le height st h in omega arith
 
 -- one row stands there: the first
-stack_one : (st : List ℕ) → 1 ≤ length st → stack_of st 1 ≡ get_or st 0 0 ∷ []
+pub stack_one : (st : List ℕ) → 1 ≤ length st → stack_of st 1 ≡ get_or st 0 0 ∷ []
 unfolding backwards
 stack_one [] h = absurd (omega arith)
 stack_one (i ∷ st) h = refl

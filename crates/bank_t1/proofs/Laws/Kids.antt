@@ -13,6 +13,7 @@ use lib.ListN.{length, get_or, take, drop, drop_of_length-le}
 use lib.Seq.{drop-cons, get_or-take, length-take-le}
 use Rattle.model.specs.Base.{all, same, count_true}
 use Rattle.model.specs.Store.{padded}
+use Rattle.model.proofs.Laws.Members.{all_fails, all_passes, all_ends}
 use Rattle.bank.specs.Rows.{kid_in, places_in}
 use Rattle.bank.specs.Bank.{one_further, place_code}
 use Rattle.bank.proofs.Laws.Children.{place_at}
@@ -22,6 +23,16 @@ use Rattle.std.proofs.Common.{Option, Some, None}
 -- UNUSED PLACES, from k on
 abbrev pub is_zero : ℕ → Bool
 is_zero v = eqb v 0
+
+module _ (ws : List ℕ) (i n k : ℕ) (left : all is_zero (drop k (places_in ws i)) ≡ unused_zero ws i n) where
+  pub zero_fails : k < 4 → (kid_in ws i k ≡ 0 → ⊥) → false ≡ unused_zero ws i n
+  zero_fails l z = all_fails is_zero (places_in ws i) k (unused_zero ws i n) left l (ap is_zero (place_at ws i k l) ∙ ne_eqb (kid_in ws i k) 0 z)
+
+  pub zero_passes : k < 4 → kid_in ws i k ≡ 0 → all is_zero (drop (k + 1) (places_in ws i)) ≡ unused_zero ws i n
+  zero_passes l z = all_passes is_zero (places_in ws i) k (unused_zero ws i n) left l (ap is_zero (place_at ws i k l) ∙ eq-eqb (kid_in ws i k) 0 z)
+
+  pub zero_ends : 4 ≤ k → true ≡ unused_zero ws i n
+  zero_ends l = all_ends is_zero (places_in ws i) k (unused_zero ws i n) left l
 
 -- they are 0 exactly where the four places are the used ones padded
 self : (ws : List ℕ) (i k : ℕ) → eqb (kid_in ws i k) (kid_in ws i k) ≡ true

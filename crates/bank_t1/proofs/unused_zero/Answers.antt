@@ -1,16 +1,21 @@
--- `bank_t1::unused_zero` meets its contract: `all` past the count is model's test.
-use Rattle.std.proofs.Common.{rules, tests, ◌∙◌, ap, ℕ, List, drop}
-use Rattle.std.proofs.lemmas.Iterator.{YieldsList-from_slice}
-use Rattle.std.proofs.lemmas.Iterator.Adapters.{YieldsList-from_skip}
-use Rattle.std.proofs.lemmas.Iterator.Search.{all_from_yields_List}
-use Rattle.model.specs.Base.{all}
-use Rattle.model.proofs.Laws.Methods.{all_all}
-use Rattle.bank_t1.proofs.Laws.Kids.{is_zero}
+-- `bank_t1::unused_zero` meets its contract: a place that is 0 leaves the test to those behind it, another settles it.
+use Rattle.std.proofs.Common.{◌∙◌, sym}
+use Rattle.bank_t1.proofs.Laws.Kids.{zero_fails, zero_passes, zero_ends}
 use Rattle.bank_t1.proofs.unused_zero.Goals as goal
+
+pub returns-then-kid_of-ne0 : goal.returns-then-kid_of-ne0
+returns-then-kid_of-ne0 c =
+    let a = c.args in
+    let l = c.loop-k in
+    zero_fails a.words.now a.row.0 a.count l.k l.invariant c.loop-k-test.true (λ e. c.if-kid_of-ne0.true (c.kid_of.ensures ∙ e))
+
+pub loop-k-preserved : goal.loop-k-preserved
+loop-k-preserved c =
+    let a = c.args in
+    let l = c.loop-k in
+    zero_passes a.words.now a.row.0 a.count l.k l.invariant c.loop-k-test.true (sym c.kid_of.ensures ∙ c.if-kid_of-ne0.false)
 
 pub returns : goal.returns
 returns c =
-    let n = c.args.count in
-    let ps = c.places_of.result in
-    let t = all_from_yields_List is_zero _ _ c.all.result c.all.ensures.ran (YieldsList-from_skip n (YieldsList-from_slice ps cc) cc) (λ x b q k. search (rules, tests)) in
-    t ∙ all_all is_zero (drop n ps) ∙ ap (λ (l : List ℕ). all is_zero (drop n l)) c.places_of.ensures
+    let a = c.args in
+    zero_ends a.words.now a.row.0 a.count c.loop-k.k c.loop-k.invariant c.loop-k-test.false

@@ -1,23 +1,29 @@
--- The place of a list's first member with a property, as `position` of an iterator gives it, and its code. By induction on the list.
-use Rattle.std.proofs.Common.{◌≡◌, refl, ap, ◌∙◌, ℕ, ◌+◌, List, [], ◌∷◌, length, Bool, true, false, cond, suc, Some, None, add-one, arith}
-use Rattle.std.specs.List.{position, position_or_len}
-use lib.Dec.{ltb}
-use borrow.Author.Tests.{lt-ltb, le-ltb, ltb-true, ltb-false}
+-- The place of a list's first member with a property is found one member after the other.
+-- A member without the property leaves it to those behind it, one place further.
+use Rattle.std.proofs.Common.{◌≡◌, refl, sym, ap, ◌∙◌, arith, ℕ, zero, suc, add-one, ◌+◌, ◌≤◌, ◌<◌, List, length, get_or, drop, drop-cons, drop_of_length-le, Bool, true, false, cond}
 use Rattle.bank.specs.Bank.{place_code, one_further}
-use Rattle.step_search.specs.Spots.{code_of}
 
-behind : (m n : ℕ) → code_of (cond (ltb (1 + m) (suc n)) (Some (1 + m)) None) ≡ one_further (code_of (cond (ltb m n) (Some m) None))
-behind m n = go (ltb m n) refl
-  where
-    go : (b : Bool) → ltb m n ≡ b → code_of (cond (ltb (1 + m) (suc n)) (Some (1 + m)) None) ≡ one_further (code_of (cond (ltb m n) (Some m) None))
-    go true e = let l = ltb-true m n e in rw (e, lt-ltb (1 + m) (suc n) (omega arith), add-one m) (omega arith)
-    go false e = let l = ltb-false m n e in rw (e, le-ltb (1 + m) (suc n) (omega arith)) refl
+-- ONE MEMBER AFTER THE OTHER: the place among those from k on, counted from the first
+abbrev pub shifted : (k code : ℕ) → ℕ
+shifted k zero = 0
+shifted k (suc c) = suc (k + c)
 
-pub code_position : (p : ℕ → Bool) (ks : List ℕ) → code_of (position p ks) ≡ place_code p ks
-unfolding place_code
-code_position p [] = refl
-code_position p (k ∷ ks) = go (p k) refl (code_position p ks)
-  where
-    go : (b : Bool) → p k ≡ b → code_of (position p ks) ≡ place_code p ks → code_of (position p (k ∷ ks)) ≡ place_code p (k ∷ ks)
-    go true e h = rw e (ap (λ (b : Bool). code_of (cond b (Some 0) None)) (lt-ltb 0 (suc (length ks)) (omega arith)))
-    go false e h = rw e (behind (position_or_len p ks) (length ks) ∙ ap one_further h)
+shifted_further : (k c : ℕ) → shifted k (one_further c) ≡ shifted (k + 1) c
+shifted_further k zero = refl
+shifted_further k (suc c) = omega arith
+
+module _ (p : ℕ → Bool) (ks : List ℕ) (k c : ℕ) (left : shifted k (place_code p (drop k ks)) ≡ c) where
+  step : k < length ks → place_code p (drop k ks) ≡ cond (p (get_or ks k 0)) 1 (one_further (place_code p (drop (k + 1) ks)))
+  unfolding place_code
+  step l = ap (place_code p) (drop-cons ks k 0 l) ∙ ap (λ (m : ℕ). cond (p (get_or ks k 0)) 1 (one_further (place_code p (drop m ks)))) (sym (add-one k))
+
+  pub place_here : k < length ks → p (get_or ks k 0) ≡ true → k + 1 ≡ c
+  place_here l e = omega arith ∙ ap (shifted k) (sym (step l ∙ ap (λ (b : Bool). cond b 1 (one_further (place_code p (drop (k + 1) ks)))) e)) ∙ left
+
+  pub place_behind : k < length ks → p (get_or ks k 0) ≡ false → shifted (k + 1) (place_code p (drop (k + 1) ks)) ≡ c
+  place_behind l e =
+      sym (shifted_further k (place_code p (drop (k + 1) ks))) ∙ ap (shifted k) (sym (step l ∙ ap (λ (b : Bool). cond b 1 (one_further (place_code p (drop (k + 1) ks)))) e)) ∙ left
+
+  pub place_nowhere : length ks ≤ k → 0 ≡ c
+  unfolding place_code
+  place_nowhere l = sym (ap (λ (l : List ℕ). shifted k (place_code p l)) (drop_of_length-le ks l)) ∙ left

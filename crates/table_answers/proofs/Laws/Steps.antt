@@ -29,7 +29,7 @@ module _ (ws ns : List ℕ) (u : ℕ) {ix c us vs : List ℕ} {n : ℕ} {tops : 
   pub tops_fill : UsedAt u (room_in vs) vs (take (length c) tops)
   tops_fill = tops_used ws ns u column next.tops enough
 
-  row_answers : column_answers ws (room_in vs) vs (take (length c) tops) ≡ answers_of (store_of ws ns u) (answers_in u ws) (take (length c) c) row
+  pub row_answers : column_answers ws (room_in vs) vs (take (length c) tops) ≡ answers_of (store_of ws ns u) (answers_in u ws) (take (length c) c) row
   row_answers = column_answers_law ws ns u column next.tops enough
 
   -- read into the table

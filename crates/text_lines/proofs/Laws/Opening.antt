@@ -18,7 +18,7 @@ use Rattle.std.proofs.lemmas.Bool.Decides.{nat_tests}
 use Rattle.text_lines.specs.Opens.{OpenedAs}
 
 -- a pair that fits has room
-pair_room : (ls : List ℕ) (b s d : ℕ) → pair_fits ls b s d ≡ true → length ls < most_symbols
+pub pair_room : (ls : List ℕ) (b s d : ℕ) → pair_fits ls b s d ≡ true → length ls < most_symbols
 pair_room ls b s d e = grind (arith, nat_tests)
 
 -- ONE PAIR MORE of what is left

@@ -20,7 +20,7 @@ module _ {ws ns : List ℕ} {n : ℕ} (s : Stored ws ns n) (i : ℕ) (l : i < n)
   pub prints_end : (k at : ℕ) (o : List ℕ) → k ≡ get_or ns (symbol_in ws i) 0 → at < length o → Run at (others (drop k (texts ls (store_of ws ns n) i))) o (at + 1) (set o at closing)
   prints_end k at o e h = run_as (sym (list_end s i l ls k e)) (run_one at closing o h)
 
-  prints_more : (k : ℕ) → k < get_or ns (symbol_in ws i) 0 → (kid : ℕ) → kid ≡ kid_in ws i k → {at next end : ℕ} {o o₁ o₂ : List ℕ} → at < length o →
+  pub prints_more : (k : ℕ) → k < get_or ns (symbol_in ws i) 0 → (kid : ℕ) → kid ≡ kid_in ws i k → {at next end : ℕ} {o o₁ o₂ : List ℕ} → at < length o →
       Run (at + 1) (row_text ls (store_of ws ns n) kid) (set o at comma) next o₁ → Run next (others (drop (k + 1) (texts ls (store_of ws ns n) i))) o₁ end o₂ →
       Run at (others (drop k (texts ls (store_of ws ns n) i))) o end o₂
   prints_more k h kid e {at} {next} {end} {o} f x y = run_as (sym (list_more s i l k h kid e ls)) (run_then (run_then (run_one at comma o f) x) y)
@@ -30,7 +30,7 @@ module _ {ws ns : List ℕ} {n : ℕ} (s : Stored ws ns n) (i : ℕ) (l : i < n)
     pub prints_leaf : (at : ℕ) (o : List ℕ) → get_or ns (symbol_in ws i) 0 ≡ 0 → at < length o → Run at (row_text ls (store_of ws ns n) i) o (at + 1) (set o at v)
     prints_leaf at o e h = run_as (ap (λ (b : ℕ). b ∷ []) is ∙ sym (text_leaf s i l ls e)) (run_one at v o h)
 
-    prints_node : 0 < get_or ns (symbol_in ws i) 0 → (kid : ℕ) → kid ≡ kid_in ws i 0 → {at next end : ℕ} {o o₁ o₂ : List ℕ} → at + 1 < length o →
+    pub prints_node : 0 < get_or ns (symbol_in ws i) 0 → (kid : ℕ) → kid ≡ kid_in ws i 0 → {at next end : ℕ} {o o₁ o₂ : List ℕ} → at + 1 < length o →
         Run (at + 2) (row_text ls (store_of ws ns n) kid) (set (set o at v) (at + 1) opening) next o₁ → Run next (others (drop 1 (texts ls (store_of ws ns n) i))) o₁ end o₂ →
         Run at (row_text ls (store_of ws ns n) i) o end o₂
     prints_node h kid e {at} {next} {end} {o} f x y =

@@ -13,8 +13,12 @@ pub returns-then-n-words : goal.returns-then-n-words
 returns-then-n-words c =
     let s = c.args in
     let d = c.in_smallest-done in
-    (first_as s.words.now s.lists (call_of s.said s.symbols.now) d.result d.new.words c.requires.0 c.requires.1 (s.lists.used + length s.saved.now / row_width)
-    (omega arith) (omega arith) c.min-n.result (λ h. omega arith) (λ h. omega arith) d.ensures).short (eqb-true (refused_by d.result) 34 (sym c.lacks_rows.ensures ∙ c.if-lacks_rows.true))
+    let f : FirstAs s.words.now c.min-n.result s.lists (call_of s.said s.symbols.now) d.result (d.new.words ++ drop c.min-n.result s.words.now) =
+    first_as s.words.now s.lists (call_of s.said s.symbols.now) d.result d.new.words c.requires.0 c.requires.1 (s.lists.used + length s.saved.now / row_width)
+    (omega arith) (omega arith) c.min-n.result (λ h. omega arith) (λ h. omega arith) d.ensures in (
+      f.short (eqb-true (refused_by d.result) 34 (sym c.lacks_rows.ensures ∙ c.if-lacks_rows.true)),
+      omega (arith, c.if-n-words.true),
+    )
 
 pub returns : goal.returns
 returns c =
