@@ -10,6 +10,10 @@ use Rattle.call.specs.Calls.{CallAs}
 abbrev pub spare_rows : ℕ
 spare_rows = 64
 
+-- and then
+abbrev pub more_spare_rows : ℕ
+more_spare_rows = 256
+
 -- a call tried on the first n words: short of rows, with the words as they were; or as the call on all of them, and so where no more are lent
 pub record FirstAs (ws : List ℕ) (n : ℕ) (l : Lists) (k : Call) (r : Result Lists Refusal) (after : List ℕ) : Type 0 where
   pub short : refused_by r ≡ 34 → after ≡ ws

@@ -7,7 +7,7 @@ ghost use Rattle.model.specs.Entry.{size_fits, lent_fits};
 ghost use Rattle.model.specs.Refusals.{refused_by};
 ghost use Rattle.call.specs.Calls.{CallAs};
 ghost use Rattle.call.specs.Said.{call_of};
-ghost use Rattle.call_room.specs.Tried.{TriedAs, spare_rows};
+ghost use Rattle.call_room.specs.Tried.{TriedAs, spare_rows, more_spare_rows};
 
 use call::{Said, ladder};
 use model::Lists;
@@ -64,6 +64,36 @@ fn first(
     Some(done)
 }
 
+// Tried with the first number of rows.
+fn first_few(
+    words: &mut [u32],
+    lists: Lists,
+    symbols: &[u8],
+    said: Said,
+) -> Option<Result<Lists, Refusal>>
+    requires { (size_fits words.old ≡ true) × (lent_fits words.old lists ≡ true) }
+    ensures { let tried = row_width * (lists.used + spare_rows) in
+        TriedAs words.old tried lists (call_of said symbols.now) result words.new }
+{
+    let mut saved = [0u32; ROW_WIDTH * SPARE_ROWS];
+    first(words, lists, symbols, said, &mut saved)
+}
+
+// Tried with the second.
+fn first_more(
+    words: &mut [u32],
+    lists: Lists,
+    symbols: &[u8],
+    said: Said,
+) -> Option<Result<Lists, Refusal>>
+    requires { (size_fits words.old ≡ true) × (lent_fits words.old lists ≡ true) }
+    ensures { let tried = row_width * (lists.used + more_spare_rows) in
+        TriedAs words.old tried lists (call_of said symbols.now) result words.new }
+{
+    let mut saved = [0u32; ROW_WIDTH * MORE_SPARE_ROWS];
+    first(words, lists, symbols, said, &mut saved)
+}
+
 // Tried with more rows, and where they are not enough and more are lent, made with all.
 #[inline(never)]
 fn tried_more(words: &mut [u32], lists: Lists, symbols: &[u8], said: Said) -> Result<Lists, Refusal>
@@ -71,8 +101,7 @@ fn tried_more(words: &mut [u32], lists: Lists, symbols: &[u8], said: Said) -> Re
     ensures { CallAs words.old lists (call_of said symbols.now) result words.new }
 {
     if lists.used <= DEEP {
-        let mut saved = [0u32; ROW_WIDTH * MORE_SPARE_ROWS];
-        if let Some(done) = first(words, lists, symbols, said, &mut saved) {
+        if let Some(done) = first_more(words, lists, symbols, said) {
             return done;
         }
     }
@@ -86,8 +115,7 @@ pub fn made(words: &mut [u32], lists: Lists, symbols: &[u8], said: Said) -> Resu
 {
     call::lent_fault(words, lists)?;
     if is_short(lists.used, lists.rules, symbols.len()) {
-        let mut saved = [0u32; ROW_WIDTH * SPARE_ROWS];
-        if let Some(done) = first(words, lists, symbols, said, &mut saved) {
+        if let Some(done) = first_few(words, lists, symbols, said) {
             return done;
         }
     }
