@@ -61,6 +61,7 @@ fn key(symbol: u32, places: [u32; 4]) -> u64
 }
 
 // Whether a row has that symbol and those places. Place by place: `==` of the arrays reads all four of both, whichever differs first.
+#[tactic(auto, using(crate::proofs::Laws::Finding::compared))]
 pub fn row_is(words: &[u32], row: Row, symbol: u32, places: [u32; 4]) -> bool
     requires { Within words.now row.0 }
     ensures { result ≡ is_node symbol places (node_in words.now row.0) }

@@ -10,7 +10,7 @@ use Rattle.call.specs.Calls.{CallAs}
 abbrev pub spare_rows : ℕ
 spare_rows = 64
 
--- and then
+-- and then, where these are too few
 abbrev pub more_spare_rows : ℕ
 more_spare_rows = 256
 

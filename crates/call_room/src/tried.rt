@@ -64,7 +64,7 @@ fn first(
     Some(done)
 }
 
-// Tried with the first number of rows.
+// Tried with 64 rows past the used ones, in an array that a small frame has room for.
 fn first_few(
     words: &mut [u32],
     lists: Lists,
@@ -79,7 +79,7 @@ fn first_few(
     first(words, lists, symbols, said, &mut saved)
 }
 
-// Tried with the second.
+// Tried with 256.
 fn first_more(
     words: &mut [u32],
     lists: Lists,

@@ -24,6 +24,7 @@ fn size_at(bytes: &[u8]) -> usize
 }
 
 // Whether a whole block of a kind stands at the head. A kind is the number that the bytes hold (§6.1), as in model's `is_block`.
+#[tactic(auto, using(model::proofs::Laws::Heads::kind_bytes))]
 pub(crate) fn is_block(bytes: &[u8], kind: u16) -> bool
     ensures { result ≡ is_block kind bytes.now }
 {
